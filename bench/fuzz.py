@@ -24,7 +24,7 @@ HEADS = {"run": b"ulfm", "steps": b"ulfm-steps", "check": b"ulfm-trace"}
 COMMANDS = {"run": ["run"], "steps": ["run", "--steps"], "check": ["check"]}
 FAULT = re.compile(rb"ulfm: line (\d+): (cut|long|lines|header|limits|verb|words|number|flag|step|open)\n")
 VERDICT = re.compile(rb"illegal line (\d+) (text|call|look|event|own|reply)\n")
-NAMES = [b"list", b"settle", b"arrive", b"revoke", b"revocation", b"block", b"mark", b"slot", b"cache", b"comm", b"spawn", b"arrival"]
+NAMES = [b"list", b"settle", b"arrive", b"revoke", b"revocation", b"block", b"mark", b"slot", b"cache", b"wing", b"comm", b"spawn", b"arrival"]
 VERBS = [b"get", b"ack", b"agree", b"shrink", b"barrier", b"poll", b"revoke", b"isrevoked", b"free"]
 
 
@@ -35,7 +35,7 @@ def call(rng, ranks, comms):
     if verb == b"ack":
         words.append(b"%d" % rng.randrange(ranks + 2))
     if verb == b"agree":
-        words.append(b"%08x" % rng.getrandbits(32))
+        words.append(rng.choice([b"%08x" % rng.getrandbits(32), b"%016x" % rng.getrandbits(64), b"%016x" % rng.getrandbits(32)]))
     return b" ".join(words)
 
 

@@ -71,7 +71,7 @@ class Trace:
         """All members shrink the communicator into the next, and give it back, but for the world's."""
         context = 2 if self.context == 1 else 1
         held = 1 | 1 << self.context
-        self.start(f"shrink {self.comm}", f"ctx {0xFFFFFFFF ^ held:08x}")
+        self.start(f"shrink {self.comm}", f"ctx {(1 << 64) - 1 ^ held:016x}")
         made = self.comm + 1
         self.poll(f"shrunk {made} context {context} members {' '.join(map(str, self.members))}", f"spawn {made} {self.comm} {self.round}")
         if self.comm:

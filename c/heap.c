@@ -132,10 +132,11 @@ void ulfm_forget_shared(void *region)
 
 size_t ulfm_shared_size(uint16_t ranks, uint16_t comms, uint16_t rounds)
 {
-    size_t words = ranks + 2 * (size_t)comms + 2 * (size_t)comms * rounds * ranks;
+    size_t all_rounds = (size_t)comms * rounds;
+    size_t words = ranks + 2 * (size_t)comms + 2 * all_rounds * ranks;
     if (ranks == 0 || ranks > ULFM_MAX_RANKS || comms == 0 || comms > ULFM_MAX_COMMS || rounds == 0 || rounds > ULFM_MAX_ROUNDS ||
         words > ULFM_MAX_SIZE)
         return 0;
-    /* the words with what the library keeps beside them, what each rank keeps, and some room */
-    return 16 * words + ranks * (4096 + 16 * (size_t)ranks) + 65536;
+    /* the words, those of wings and of blocks beside them, what each rank keeps, and some room */
+    return 8 * (words + all_rounds * (ranks + 4)) + ranks * (4096 + 16 * (size_t)ranks) + 65536;
 }

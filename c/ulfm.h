@@ -113,15 +113,15 @@ enum ulfm_kind {
     ULFM_DONE = 3     /* all members have arrived in the barrier */
 };
 
-/* What a rank contributes to an agree: bits, under AND. */
-typedef uint32_t ulfm_flag;
+/* What a rank contributes to an agree: 64 bits, under AND. */
+typedef uint64_t ulfm_flag;
 
 typedef struct ulfm_reply {
     ulfm_flag flag;   /* AGREED: all contributed flags under bitwise AND */
     uint32_t kind;    /* one of the four above; a field that it doesn't name is 0 */
     uint16_t failed;  /* AGREED: the size of the failed group */
     uint16_t comm;    /* SHRUNK: the new communicator */
-    uint16_t context; /* SHRUNK: its context id, 1 to 31 */
+    uint16_t context; /* SHRUNK: its context id, 1 to 63 */
     uint16_t size;    /* SHRUNK: how many members it has */
     bool raised;      /* AGREED: some contributor hadn't acknowledged all of the failed group */
 } ulfm_reply;
@@ -131,11 +131,11 @@ typedef struct ulfm_reply {
 ULFM_STATIC_ASSERT(CHAR_BIT == 8 && sizeof(int) == 4 && sizeof(bool) == 1, "int has 32 bits, bool has 8");
 ULFM_STATIC_ASSERT(sizeof(void *) == 8 && sizeof(size_t) == 8, "addresses have 64 bits");
 ULFM_STATIC_ASSERT(sizeof(ulfm_handle) == sizeof(void *), "a handle is one pointer");
-ULFM_STATIC_ASSERT(sizeof(ulfm_flag) == 4 && sizeof(ulfm_reply) == 20, "a flag has 4 bytes, a reply 20");
-ULFM_STATIC_ASSERT(offsetof(ulfm_reply, flag) == 0 && offsetof(ulfm_reply, kind) == 4, "flag, kind");
-ULFM_STATIC_ASSERT(offsetof(ulfm_reply, failed) == 8 && offsetof(ulfm_reply, comm) == 10, "failed, comm");
-ULFM_STATIC_ASSERT(offsetof(ulfm_reply, context) == 12 && offsetof(ulfm_reply, size) == 14, "context, size");
-ULFM_STATIC_ASSERT(offsetof(ulfm_reply, raised) == 16, "raised");
+ULFM_STATIC_ASSERT(sizeof(ulfm_flag) == 8 && sizeof(ulfm_reply) == 24, "a flag has 8 bytes, a reply 24");
+ULFM_STATIC_ASSERT(offsetof(ulfm_reply, flag) == 0 && offsetof(ulfm_reply, kind) == 8, "flag, kind");
+ULFM_STATIC_ASSERT(offsetof(ulfm_reply, failed) == 12 && offsetof(ulfm_reply, comm) == 14, "failed, comm");
+ULFM_STATIC_ASSERT(offsetof(ulfm_reply, context) == 16 && offsetof(ulfm_reply, size) == 18, "context, size");
+ULFM_STATIC_ASSERT(offsetof(ulfm_reply, raised) == 20, "raised");
 
 /* ------------------------------------------------------------------------------------------------ opening and closing
  * PROVED: at code 0 the handles hold a new world's outside and its ranks, in order; at any other they are as they were, and the code is the
@@ -169,8 +169,8 @@ int ulfm_fail(ulfm_handle *handle, uint16_t rank, bool *first) ULFM_NONNULL;
  * refusal's number, and what is written is the answer. The caller owes rules 1 to 6.
  *
  * Each may answer ULFM_ERR_HANDLE, ULFM_ERR_NOT_A_RANK, ULFM_ERR_SELF_FAILED or ULFM_ERR_COMM, in this order, and then what its own
- * comment names. Any thread, one call at a time on one handle. Starts, ulfm_revoke and ulfm_is_revoked make at most N - v + 1
- * steps. */
+ * comment names. Any thread, one call at a time on one handle. Starts of agrees and of shrinks make at most N - v + 2
+ * steps, those of barriers, ulfm_revoke and ulfm_is_revoked N - v + 1. */
 
 /* Starts an agree on a flag: the rank contributes it to the communicator's next round. ulfm_poll asks for the reply.
  * ULFM_ERR_BUSY, ULFM_ERR_ROUNDS_USED_UP. MPI: MPIX_Comm_iagree. */
@@ -195,7 +195,7 @@ int ulfm_is_revoked(ulfm_handle *rank, uint16_t comm, bool *answer) ULFM_NONNULL
  * ULFM_ERR_IDLE; of an agree or a shrink ULFM_ERR_MISMATCH; of a shrink ULFM_ERR_NO_CONTEXT, ULFM_ERR_NO_ROOM and ULFM_ERR_NO_MEM;
  * of a barrier ULFM_ERR_REVOKED and ULFM_ERR_PROC_FAILED. All but ULFM_ERR_IDLE and ULFM_ERR_NO_MEM end the request. After
  * ULFM_ERR_NO_MEM poll again: the reply is the one that the others get.
- * Steps: N - v + 3n + 2 for an agree, N - v + 3n + 2M + 1 for a shrink, N - v + n + 1 for a barrier. MPI: MPI_Test. */
+ * Steps: N - v + 5n + 4 for an agree, N - v + 5n + 2M + 3 for a shrink, N - v + n + 1 for a barrier. MPI: MPI_Test. */
 int ulfm_poll(ulfm_handle *rank, uint16_t comm, ulfm_reply *reply) ULFM_NONNULL;
 
 /* The failed group of a communicator, in the order of the declarations. Writes the first `room` of it, and `count` is how many
@@ -239,7 +239,7 @@ int ulfm_failures(ulfm_handle *rank, uint16_t *ranks, size_t room, size_t *count
  * are. ULFM_ERR_COMM. MPI: MPI_Comm_group, MPI_Comm_size. */
 int ulfm_members(ulfm_handle *rank, uint16_t comm, uint16_t *ranks, size_t room, size_t *count) ULFM_NONNULL;
 
-/* The context id of a communicator, 0 to 31. No two that a rank holds have the same. ULFM_ERR_COMM. MPI: nothing. */
+/* The context id of a communicator, 0 to 63. No two that a rank holds have the same. ULFM_ERR_COMM. MPI: nothing. */
 int ulfm_context(ulfm_handle *rank, uint16_t comm, uint16_t *context) ULFM_NONNULL;
 
 /* How many atomic steps the rank's last call made, 0 before any. ulfm_fail isn't counted. MPI: nothing. */

@@ -34,10 +34,11 @@ class Rounds:
     def words(self, comm, number):
         """What a round decides, in words."""
         offers, left_out, raised = self.decision(comm, number)
-        kinds, bits = {it["kind"] for it in offers}, 0xFFFFFFFF
+        kinds, bits = {it["kind"] for it in offers}, (1 << 64) - 1
         for it in offers:
             bits &= it["bits"]
-        body = "mismatch" if len(kinds) > 1 else f"{'agreed' if 'flag' in kinds else 'ids'} {bits:08x}" if kinds else "nobody"
+        digits = f"{bits:08x}" if bits < 1 << 32 else f"{bits:016x}"
+        body = "mismatch" if len(kinds) > 1 else f"{'agreed' if 'flag' in kinds else 'ids'} {digits}" if kinds else "nobody"
         return f"round {number} of {comm}: {body} failed {len(left_out)} {'raised' if raised else 'clean'}"
 
     def happen(self, words):

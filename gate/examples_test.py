@@ -23,7 +23,7 @@ SOME = {
     "ulfm_run": {"running_run_calls", "running_run_steps"},
     "ulfm_script": {"calls_read_call"},
     "ulfm_trace": {"judged_check"},
-    "ulfm_words": {"plain_pass_nth", "plain_words_open", "summaries_read_slot", "summaries_slot_word"},
+    "ulfm_words": {"plain_pass_nth", "plain_words_open", "summaries_read_slot", "summaries_slot_words"},
 }
 PUBLIC = re.compile(r"^( *)pub fn (\w+)")
 TEST = re.compile(r"^fn (\w+)\(rt: HostRuntime\).*?\{\n(.*?)^\}$", re.M | re.S)

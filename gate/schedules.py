@@ -13,6 +13,11 @@ class TooMany(Exception):
     """There are more states than wanted."""
 
 
+def flag_text(value):
+    """A flag as it is printed: sixteen digits where its upper half isn't 0."""
+    return f"{value:08x}" if value < 1 << 32 else f"{value:016x}"
+
+
 def refused(number):
     return f"refused {number} {REFUSALS[number]}"
 
@@ -129,7 +134,7 @@ def call(world, words, me, verb, comm, value):
 
 
 def contribute(rounds, me, verb, comm, value, failed):
-    """An agree or a shrink settles its rank's place."""
+    """An agree or a shrink sets the wing of its rank's place, and settles the place."""
     held = me.held[comm]
     if held["open"]:
         return refused(3)
@@ -140,11 +145,15 @@ def contribute(rounds, me, verb, comm, value, failed):
     if verb == "agree":
         word = ("flag", len(failed), held["acked"], int(value, 16))
     else:
-        free = 0xFFFFFFFF
+        free = 0xFFFFFFFFFFFFFFFF
         for other in me.held.values():
             free &= ~(1 << other["context"])
         word = ("ctx", len(failed), held["acked"], free)
-    before = yield ("set", ("slot", comm, held["agrees"], me.number), word)
+    place = ("slot", comm, held["agrees"], me.number)
+    stood = yield ("set", ("wing",) + place, word[3])
+    if stood is not None:
+        return refused(15)
+    before = yield ("set", place, word)
     if before:
         return refused(1 if before[0] == "mark" else 15)
     held["open"], held["round"] = verb, held["agrees"]
@@ -176,7 +185,10 @@ def end_round(world, words, me, comm, group, failed):
     round_ = held["round"]
     known = []
     for number in range(len(blocks(group))):
-        known.append((yield ("load", ("block", comm, round_, number))))
+        place = ("block", comm, round_, number)
+        known.append((yield ("load", place)))
+        if known[number]:
+            yield ("load", ("wing",) + place)
     if not all(known):
         for count, rank in enumerate(failed, 1):
             yield ("set", ("slot", comm, round_, rank), ("mark", count, 0, 0))
@@ -187,6 +199,9 @@ def end_round(world, words, me, comm, group, failed):
                 word = yield ("load", ("slot", comm, round_, rank))
                 if word is None:
                     return "pending"
+                if word[0] != "mark":
+                    yield ("load", ("wing", "slot", comm, round_, rank))
+            yield ("set", ("wing", "block", comm, round_, number), True)
             yield ("set", ("block", comm, round_, number), True)
     kind, value, count, acked = decided(words, group, comm, round_)
     shrinks = held["open"] == "shrink"
@@ -195,7 +210,7 @@ def end_round(world, words, me, comm, group, failed):
         return refused(7)
     if not shrinks:
         held["open"] = None
-        return f"agreed {value:08x} failed {count} {'raised' if acked < count else 'clean'}"
+        return f"agreed {flag_text(value)} failed {count} {'raised' if acked < count else 'clean'}"
     if value == 0:
         held["open"] = None
         return refused(8)
@@ -423,7 +438,8 @@ def random_program(rng):
             comm = rng.choice(("0", "0", "0", "cur", "1"))
             verb = rng.choice(("agree", "agree", "barrier", "shrink", "get", "revoke", "isrevoked", "ack", "free", "fail"))
             if verb == "agree":
-                lines += [f"{quiet}agree {comm} {rng.getrandbits(3):08x}", f"{rng.choice(('wait', 'wait', 'poll'))} {comm}"]
+                flag = flag_text(rng.getrandbits(3) << rng.choice((0, 31, 61)))
+                lines += [f"{quiet}agree {comm} {flag}", f"{rng.choice(('wait', 'wait', 'poll'))} {comm}"]
             elif verb in ("barrier", "shrink"):
                 lines += [f"{verb} {comm}", f"wait {comm}"]
             elif verb == "ack":

@@ -93,7 +93,7 @@ static void report(const struct rank *rank)
 {
     printf("rank %u: %s\n", rank->number, ulfm_strerror(rank->code));
     for (size_t at = 0; at < rank->count; at++)
-        printf("  agreed %x: %s\n", rank->flags[at], ulfm_strerror(rank->codes[at]));
+        printf("  agreed %x: %s\n", (unsigned)rank->flags[at], ulfm_strerror(rank->codes[at]));
     if (rank->is_done)
         printf("  goes on with communicator %u\n", rank->comm);
 }

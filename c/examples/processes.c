@@ -18,7 +18,8 @@ enum { RANKS = 4, VICTIM = 2, ROUNDS = 4096, BEFORE_IT_IS_KILLED = 50, THEN_IT_W
 /* What a survivor saw; alike at all of them. */
 struct seen {
     int met, settled, shrunk, last;
-    uint32_t agrees, met_flag, settled_flag, last_flag;
+    uint32_t agrees;
+    ulfm_flag met_flag, settled_flag, last_flag;
     uint16_t failed[RANKS], comm, size;
     size_t failed_count;
 };

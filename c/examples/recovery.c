@@ -15,7 +15,7 @@ enum { RANKS = 4, DIES = 3 };
 /* What a survivor saw, in the order of its calls: of each the code, and what it told. */
 struct seen {
     int first_code, met_code, failed_code, ack_code, settled_code, revoked_code, shrink_code, barrier_code, last_code, free_code;
-    uint32_t first, met, settled, last;
+    ulfm_flag first, met, settled, last;
     size_t failed_count;
     uint16_t failed[RANKS], acknowledged, comm;
     bool is_revoked;
@@ -103,7 +103,7 @@ static void report(const struct rank *rank)
 {
     const struct seen *seen = &rank->seen;
     printf("rank %u\n", rank->number);
-    printf("  agreed %x; %x; %x; %x\n", seen->first, seen->met, seen->settled, seen->last);
+    printf("  agreed %x; %x; %x; %x\n", (unsigned)seen->first, (unsigned)seen->met, (unsigned)seen->settled, (unsigned)seen->last);
     print("the first agree", seen->first_code);
     print("the agree that met the failure", seen->met_code);
     printf("  failed:");

@@ -10,7 +10,7 @@ const DIES: u16 = 3;
 /// communicator with its size, and an agree on it.
 type Seen = (Agreed, Vec<u16>, Agreed, (u16, u16), Agreed);
 
-fn recover(rank: &mut Rank, flag: u32) -> Result<Seen, Code> {
+fn recover(rank: &mut Rank, flag: u64) -> Result<Seen, Code> {
     let met = rank.agree(WORLD, flag)?;
     let failed = rank.failed(WORLD)?;
     rank.acknowledge(WORLD, failed.len() as u16)?;

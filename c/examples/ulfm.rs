@@ -12,7 +12,7 @@ struct Handle(*mut c_void);
 #[repr(C)]
 #[derive(Default)]
 struct Reply {
-    flag: u32,
+    flag: u64,
     kind: u32,
     failed: u16,
     comm: u16,
@@ -26,7 +26,7 @@ extern "C" {
     fn ulfm_open(ranks: u16, comms: u16, rounds: u16, outside: *mut Handle, handles: *mut Handle, count: usize) -> c_int;
     fn ulfm_close(handle: *mut Handle) -> c_int;
     fn ulfm_fail(handle: *mut Handle, rank: u16, first: *mut bool) -> c_int;
-    fn ulfm_iagree(rank: *mut Handle, comm: u16, flag: u32) -> c_int;
+    fn ulfm_iagree(rank: *mut Handle, comm: u16, flag: u64) -> c_int;
     fn ulfm_ishrink(rank: *mut Handle, comm: u16) -> c_int;
     fn ulfm_ibarrier(rank: *mut Handle, comm: u16) -> c_int;
     fn ulfm_poll(rank: *mut Handle, comm: u16, reply: *mut Reply) -> c_int;
@@ -64,7 +64,7 @@ fn checked(code: c_int) -> Result<(), Code> {
 /// What an agree decided, alike for all: the flags under AND, the size of the failed group, whether the error is raised.
 #[derive(PartialEq, Debug)]
 pub struct Agreed {
-    pub flag: u32,
+    pub flag: u64,
     pub failed: u16,
     pub raised: bool,
 }
@@ -104,7 +104,7 @@ impl Rank {
         }
     }
 
-    pub fn agree(&mut self, comm: u16, flag: u32) -> Result<Agreed, Code> {
+    pub fn agree(&mut self, comm: u16, flag: u64) -> Result<Agreed, Code> {
         checked(unsafe { ulfm_iagree(&mut self.0, comm, flag) })?;
         let reply = self.wait(comm)?;
         Ok(Agreed { flag: reply.flag, failed: reply.failed, raised: reply.raised })

@@ -179,12 +179,12 @@ static void requests_are_checked(void)
     EQUAL(ulfm_poll(&ranks[0], 0, &reply), ULFM_ERR_IDLE);
     EQUAL(ulfm_poll(&ranks[1], 0, &reply), ULFM_ERR_MISMATCH);
 
-    EQUAL(ulfm_iagree(&ranks[0], 0, 6), ULFM_SUCCESS);
-    EQUAL(ulfm_iagree(&ranks[1], 0, 3), ULFM_SUCCESS);
+    EQUAL(ulfm_iagree(&ranks[0], 0, (ulfm_flag)5 << 32 | 6), ULFM_SUCCESS);
+    EQUAL(ulfm_iagree(&ranks[1], 0, (ulfm_flag)3 << 32 | 3), ULFM_SUCCESS);
     for (int rank = 0; rank < 2; rank++) {
         EQUAL(ulfm_poll(&ranks[rank], 0, &reply), ULFM_SUCCESS);
         EQUAL(reply.kind, ULFM_AGREED);
-        EQUAL(reply.flag, 2);
+        EQUAL(reply.flag, (ulfm_flag)1 << 32 | 2);
         EQUAL(reply.failed + reply.comm + reply.context + reply.size + reply.raised, 0);
     }
     /* one round is left, for a shrink */

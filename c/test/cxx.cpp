@@ -10,7 +10,7 @@ int main()
     int code = ulfm_open(2, 2, 3, &outside, ranks, 2);
     if (code != ULFM_SUCCESS)
         return std::printf("open: %s\n", ulfm_strerror(code)), 1;
-    std::uint32_t flags[2] = {6, 3};
+    ulfm_flag flags[2] = {6, 3};
     std::uint16_t made[2] = {0, 0};
     int codes[2] = {-1, -1};
     std::thread threads[2];

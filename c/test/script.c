@@ -5,6 +5,7 @@
  * script prints. */
 #include "ulfm.h"
 
+#include <inttypes.h>
 #include <stdio.h>
 #include <stdlib.h>
 #include <string.h>
@@ -88,9 +89,10 @@ static uint16_t number(const char *word, int greatest)
 
 static ulfm_flag flag_of(const char *word)
 {
-    if (strlen(word) != 8 || strspn(word, "0123456789abcdef") != 8)
+    size_t length = strlen(word);
+    if ((length != 8 && length != 16) || strspn(word, "0123456789abcdef") != length)
         fault("flag");
-    return (uint32_t)strtoul(word, NULL, 16);
+    return strtoull(word, NULL, 16);
 }
 
 /* ---- replies ---- */
@@ -123,13 +125,24 @@ static void print_ranks(const uint16_t *ranks, size_t count)
     putchar('\n');
 }
 
+/* Eight digits, or sixteen where the upper half isn't 0. */
+static void print_flag(ulfm_flag flag)
+{
+    if (flag >> 32)
+        printf("%016" PRIx64, flag);
+    else
+        printf("%08" PRIx64, flag);
+}
+
 static void print_reply(ulfm_handle *rank, const ulfm_reply *reply)
 {
     static uint16_t members[ULFM_MAX_RANKS];
     size_t count = 0;
     switch (reply->kind) {
     case ULFM_AGREED:
-        printf("agreed %08x failed %u %s\n", reply->flag, reply->failed, reply->raised ? "raised" : "clean");
+        printf("agreed ");
+        print_flag(reply->flag);
+        printf(" failed %u %s\n", reply->failed, reply->raised ? "raised" : "clean");
         break;
     case ULFM_SHRUNK:
         if (!succeeds(ulfm_members(rank, reply->comm, members, ULFM_MAX_RANKS, &count)))

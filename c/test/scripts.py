@@ -42,7 +42,8 @@ def random_script(it):
             rank = it.choice((ranks, 1023))
         if it.random() < failing:
             lines.append(f"fail {rank}")
-        rest = {"ack": f" {it.choice((0, 1, 2, 9999))}", "agree": f" {it.getrandbits(32):08x}"}.get(verb, "")
+        digits = it.choice((8, 16))
+        rest = {"ack": f" {it.choice((0, 1, 2, 9999))}", "agree": f" {it.getrandbits(4 * digits):0{digits}x}"}.get(verb, "")
         # all of a communicator's ranks start, now and then, so that rounds are decided
         callers = range(ranks) if verb in ("agree", "shrink", "barrier", "poll") and it.random() < 0.3 else [rank]
         lines += [f"{verb} {caller} {comm}{rest}" for caller in callers]

@@ -1,195 +1,113 @@
 -- Each step on a block's word keeps the rule.
-use Rattle.std.proofs.Common.{◌≡◌, ◌≢◌, ℕ, ◌<◌, ◌==◌, ◌||◌, Bool, true, false, List, [], ◌∷◌, ◌++◌, length, slice_set, None, refl, ap, sym, ◌∙◌, subst, arith, inl, inr, get_or-set_other, get_or-set_same}
-use Rattle.std.proofs.lemmas.Bool.{eqb-true, eq-eqb}
-use Rattle.std.proofs.Math.ListN.{length-set}
-use mathlib.Core.List.{IsPrefix}
+use Rattle.std.proofs.Common.{◌≡◌, ◌≢◌, ℕ, ◌<◌, ◌==◌, Bool, true, false, List, [], ◌∷◌, ◌++◌, slice_set, None, refl, ap, sym, ◌∙◌, subst, arith, inl, inr}
 use prog.Atomic.{either}
-use Rattle.logbook.specs.Pages.{Cell, Goes, Moves, cell, keeps, no_nib, step}
-use Rattle.ulfm_model.specs.declared.{block.Block.{Block}, limits.Limits.{Limits}, place.Place.{Place}}
-use Rattle.ulfm_model.specs.{Blocks.{IsBlock, IsBlockWithin, has_block, same_block}, Words.{word_at}}
-use Rattle.ulfm_model.proofs.Blocks.{block_self, block_some, block_stays, has_block_not, has_block_push, one_block, same_block_is}
-use Rattle.ulfm_words.specs.Places.{IsWithin}
-use Rattle.ulfm_words.proofs.Growing.{prefix_push, prefix_self}
-use Rattle.ulfm_book.specs.declared.{line.Line.{Line}, line.Line.TheVariants.{Cached}}
-use Rattle.ulfm_book.specs.{Logs.{IsLog, cached_in, history_in, limits_in}, Rules.{AddsBlock, IsAddedBlock, IsBlockFound, Represents, IsOfBlock, LooksBlock, Extends}, Layout.{block_offset, row_length, place_offset}}
-use Rattle.ulfm_book.proofs.{Growing.{cached_in-append, history_in-cached, limits_stay, log_cached, sees}, Moving.{moved, shown, stays}, Seating.{block_seat_lt, one_block_seat, seats_apart}, Standing.{block_among}}
+use Rattle.logbook.specs.Pages.{Cell, Moves, no_nib, step}
+use Rattle.ulfm_model.specs.declared.{block.Beside.{Beside}, block.Block.{Block}, block.Wing.{Wing}, limits.Limits.{Limits}}
+use Rattle.ulfm_model.specs.Blocks.{IsBlock, IsBlockWithin, has_block, has_wing}
+use Rattle.ulfm_model.proofs.Blocks.{block_stays, has_block_not, has_wing_stays, one_block}
+use Rattle.ulfm_words.specs.{Besides.{written}}
+use Rattle.ulfm_words.proofs.Standing.{now_has}
+use Rattle.ulfm_book.specs.declared.{line.Line.{Line}, line.Line.TheVariants.{Kept}}
+use Rattle.ulfm_book.specs.{Logs.{IsLog, cached_in, history_in, limits_in}, Rules.{AddsBlock, AreWords, Extends, IsAddedBlock, IsBlockAdded, IsBlockFound, IsOfBlock, LooksBlock, Represents, number_at}, Layout.{block_offset, row_length, place_offset, wing_offset}}
+use Rattle.ulfm_book.proofs.{Growing.{cached_in-append, log_kept, written_kept}, Listing.{listed_block}, Seating.{block_seat_lt, one_block_seat, seats_apart, wing_block_apart}, Stepping.{exchange, look, moved, set_home, set_long, set_other, set_same, shown}}
 
--- a block that is another isn't this one
-other_block : (a b : Block) → (a ≡ b → ⊥) → same_block a b ≡ false
-other_block a b apart = go (same_block a b) refl
-  where
-    go : (t : Bool) → same_block a b ≡ t → t ≡ false
-    go true same = absurd (apart (same_block_is a b same))
-    go false same = refl
-
-or_true : (t : Bool) → (t || true) ≡ true
-or_true true = refl
-or_true false = refl
-
-or_false : (t : Bool) → (t || false) ≡ t
-or_false true = refl
-or_false false = refl
+not_true : (t : Bool) → (t ≡ true → ⊥) → t ≡ false
+not_true true never = absurd (never refl)
+not_true false never = refl
 
 module _ {P : Type 0} (meld : P → P → P) (pack : P → ℕ) where
+  -- the number in a cell is the word of the block that has its key
+  block_found : (k : ℕ) (cells : List Cell) (log : List (Line P)) → Represents meld pack cells log → IsBlockFound meld pack k (number_at cells k) log
+  block_found k cells log kept b within is =
+      let listed = kept.words.listed in
+      subst (λ n. IsOfBlock meld pack log b (number_at cells n)) (sym is) (record {
+        stands = listed.beside.word b within;
+        unset = λ none. not_true (has_block (cached_in log) b) (λ has. listed.beside.told b within has none);
+        set = listed.blocks b within;
+      })
+
   -- the words after this block's at the end of the log
   module _ (a : Block) (w : ℕ) (cells : List Cell) (log : List (Line P)) (kept : Represents meld pack cells log) (within : IsBlockWithin (limits_in log) a)
-      (is : IsBlock meld pack (limits_in log).ranks (history_in log) a w) where
+      (is : IsBlock meld pack (limits_in log).ranks (history_in log) a w) (spread : number_at cells (wing_offset (limits_in log) (Wing.Block a)) ≢ 0) where
     abbrev limits : Limits
     limits = limits_in log
 
     abbrev key : ℕ
     key = block_offset limits a
 
-    abbrev written : List Cell
-    written = slice_set cells key (w, true)
+    abbrev after : List Cell
+    after = slice_set cells key (w, true)
 
-    abbrev longer : List (Line P)
-    longer = log ++ Cached a ∷ []
+    others : (k : ℕ) → k ≢ key → number_at after k ≡ number_at cells k
+    others k other = set_other cells (row_length limits) key w kept.words.size (block_seat_lt limits a within) k other
 
-    limits_are : limits_in longer ≡ limits
-    limits_are = limits_stay meld log (Cached a ∷ []) kept.is_log
-
-    history_is : history_in longer ≡ history_in log
-    history_is = history_in-cached log a
-
-    cached_is : (b : Block) → has_block (cached_in longer) b ≡ (has_block (cached_in log) b || same_block a b)
-    cached_is b = ap (λ bs. has_block bs b) (cached_in-append log (Cached a ∷ [])) ∙ has_block_push (cached_in log) a b
-
-    lt : key < length cells
-    lt = omega (arith, kept.size, block_seat_lt limits a within)
-
-    word_after : (p : Place) → IsWithin limits p → cell written (place_offset limits p) ≡ (word_at pack (history_in longer) p, true)
-    word_after p there =
-        get_or-set_other cells key (place_offset limits p) (w, true) (0, false) (λ same. seats_apart limits p a there (sym same))
-        ∙ (kept.words p there ∙ ap (λ h. let c : Cell = (word_at pack h p, true) in c) (sym history_is))
-
-    abbrev IsAfter : Block → Cell → Type 0
-    IsAfter b c = (c.1 ≡ true) × IsOfBlock meld pack longer b c.0
-
-    -- its own word, and each other
-    own : IsAfter a (w, true)
-    own = (
-      refl,
-      record {
-        stands = inr (rw (limits_are, history_is) is);
-        unset = λ none. absurd (omega (arith, none, block_some meld pack limits.ranks (history_in log) a w is));
-        set = λ _. cached_is a ∙ (ap (λ t. has_block (cached_in log) a || t) (block_self a) ∙ or_true (has_block (cached_in log) a));
-      },
-    )
-
-    block_after : (b : Block) → IsBlockWithin limits b → (t : Bool) → (block_offset limits b == key) ≡ t → IsAfter b (cell written (block_offset limits b))
-    block_after b there true same =
-        let at : block_offset limits b ≡ key = eqb-true (block_offset limits b) key same in
-        let one : a ≡ b = one_block_seat limits a b within there (sym at) in
-        subst (IsAfter b) (sym (ap (cell written) at ∙ get_or-set_same cells key (w, true) (0, false) lt)) (subst (λ x. IsAfter x (w, true)) one own)
-    block_after b there false same =
-        let apart : block_offset limits b ≢ key = λ one. let yes = eq-eqb (block_offset limits b) key one in absurd (cc (same, yes)) in
-        let stood = kept.blocks b there in
-        let among : has_block (cached_in longer) b ≡ has_block (cached_in log) b =
-        cached_is b ∙ (ap (λ t. has_block (cached_in log) b || t) (other_block a b (λ one. apart (ap (block_offset limits) (sym one)))) ∙ or_false (has_block (cached_in log) b)) in
-        subst (IsAfter b) (sym (get_or-set_other cells key (block_offset limits b) (w, true) (0, false) apart))
-        (stood.0, block_among meld pack log longer b (cell cells (block_offset limits b)).0 limits_are (subst (IsPrefix (history_in log)) (sym history_is) (prefix_self (history_in log))) among stood.1)
-
-    pub cached_after : Represents meld pack written longer
-    cached_after = record {
-      is_log = log_cached meld log a kept.is_log;
-      size = length-set cells key (w, true) ∙ (kept.size ∙ ap row_length (sym limits_are));
-      words = subst (λ n. (p : Place) → IsWithin n p → cell written (place_offset n p) ≡ (word_at pack (history_in longer) p, true)) (sym limits_are) word_after;
-      blocks = subst (λ n. (b : Block) → IsBlockWithin n b → IsAfter b (cell written (block_offset n b))) (sym limits_are) (λ b there. block_after b there (block_offset limits b == key) refl);
+    words_after : AreWords meld pack (written (history_in log) limits (cached_in log ++ Beside.Block a ∷ [])) after
+    words_after = record {
+      size = set_long cells (row_length limits) key w kept.words.size (block_seat_lt limits a within);
+      home = set_home cells (row_length limits) key w kept.words.size (block_seat_lt limits a within) kept.words.home;
+      places = λ p there. others (place_offset limits p) (λ same. seats_apart limits p a there (sym same)) ∙ kept.words.places p there;
+      listed =
+          listed_block meld pack limits (history_in log) (cached_in log) (λ b. number_at cells (block_offset limits b)) (λ x. number_at cells (wing_offset limits x)) a w
+          (λ b. number_at after (block_offset limits b)) (λ x. number_at after (wing_offset limits x)) within is spread
+          (set_same cells (row_length limits) key w kept.words.size (block_seat_lt limits a within))
+          (λ b there other. others (block_offset limits b) (λ same. other (one_block_seat limits b a there within same))) (λ x there. others (wing_offset limits x) (wing_block_apart limits x a there)) kept.words.listed;
     }
 
-    -- the log has the block
-    pub now_cached : has_block (cached_in longer) a ≡ true
-    now_cached = own.1.set (λ none. absurd (omega (arith, none, block_some meld pack limits.ranks (history_in log) a w is)))
+    after_block : Represents meld pack after (log ++ Kept (Beside.Block a) ∷ [])
+    after_block = record {
+      is_log = log_kept meld log (Beside.Block a) kept.is_log;
+      words = subst (λ of. AreWords meld pack of after) (sym (written_kept meld log (Beside.Block a) kept.is_log)) words_after;
+    }
 
-  -- the word of a block, in a log that goes on from what was seen
-  record IsAtBlock (a : Block) (old : List (Line P)) (k : ℕ) (cells : List Cell) (log : List (Line P)) : Type 0 where
-    pub sees : Extends meld old log
-    pub within : IsBlockWithin (limits_in log) a
-    pub key : k ≡ block_offset (limits_in log) a
-    pub lt : k < length cells
-    pub home : (cell cells k).1 ≡ true
+  module _ (a : Block) (old : List (Line P)) (k : ℕ) (is : IsLog meld old) (within : IsBlockWithin (limits_in old) a) (key : k ≡ block_offset (limits_in old) a) where
+    lt : k < row_length (limits_in old)
+    lt = omega (arith, key, block_seat_lt (limits_in old) a within)
 
-  is_at_block : (a : Block) (old : List (Line P)) (k : ℕ) (cells : List Cell) (log : List (Line P)) → IsLog meld old → IsBlockWithin (limits_in old) a → k ≡ block_offset (limits_in old) a → Represents meld pack cells log → IsPrefix old log
-      → IsAtBlock a old k cells log
-  is_at_block a old k cells log is within key kept begins =
-      let s = sees meld old log is kept.is_log begins in
-      let there : IsBlockWithin (limits_in log) a = subst (λ n. IsBlockWithin n a) (sym s.limits) within in
-      let here : k ≡ block_offset (limits_in log) a = key ∙ ap (λ n. block_offset n a) (sym s.limits) in
-      record {
-        sees = s;
-        within = there;
-        key = here;
-        lt = omega (arith, kept.size, block_seat_lt (limits_in log) a there, here);
-        home = ap (λ n. (cell cells n).1) here ∙ (kept.blocks a there).0;
-      }
-
-  -- the number in a cell is the word of the block that has its key
-  block_found : (cells : List Cell) (log : List (Line P)) (k : ℕ) → Represents meld pack cells log → IsBlockFound meld pack k (cell cells k).0 log
-  block_found cells log k kept b within is = subst (λ n. IsOfBlock meld pack log b (cell cells n).0) (sym is) (kept.blocks b within).1
-
-  -- a load keeps the rule, and finds what stands at the block
-  pub look_block_moves : (a : Block) (old : List (Line P)) (ask : Line P) (k : ℕ) → IsLog meld old → IsBlockWithin (limits_in old) a → k ≡ block_offset (limits_in old) a
-      → Moves (Represents meld pack) shown moved k (old, (no_nib, None)) (λ n. n) (LooksBlock meld pack (step k 0 0 ask) (old, (no_nib, None)))
-  look_block_moves a old ask k is within key cells log kept begins away =
-      let at = is_at_block a old k cells log is within key kept begins in
-      let goes = stays meld pack old (λ n. n) (LooksBlock meld pack (step k 0 0 ask) (old, (no_nib, None))) cells log k kept at.home refl (at.sees, block_found cells log k kept) in
-      (at.lt, at.home, goes)
-
-  module _ (a : Block) (w : ℕ) (old : List (Line P)) (ask : Line P) (k : ℕ) (is : IsBlock meld pack (limits_in old).ranks (history_in old) a w) where
-    abbrev AddGoes : List Cell → List (Line P) → Type 0
-    AddGoes = Goes (Represents meld pack) shown moved k (old, (no_nib, None)) (λ n. either (n == 0) w n) (AddsBlock meld (step k 0 w ask) (old, (no_nib, None)))
+    -- a load keeps the rule, and finds what stands at the block
+    pub look_block_moves : (ask : Line P) → Moves (Represents meld pack) shown moved k (old, (no_nib, None)) (λ n. n) (LooksBlock meld pack (step k 0 0 ask) (old, (no_nib, None)))
+    look_block_moves ask = look meld pack old k is lt (IsBlockFound meld pack k) (block_found k)
 
     -- what is told of the only block with this key
-    told : (log new : List (Line P)) (n : ℕ) → limits_in new ≡ limits_in log → IsBlockWithin (limits_in log) a → k ≡ block_offset (limits_in log) a → IsAddedBlock w n a old new
-        → (b : Block) → IsBlockWithin (limits_in new) b → k ≡ block_offset (limits_in new) b → IsAddedBlock w n b old new
-    told log new n limits within key added b there at =
-        let b_there : IsBlockWithin (limits_in log) b = subst (λ m. IsBlockWithin m b) limits there in
-        let b_at : k ≡ block_offset (limits_in log) b = at ∙ ap (λ m. block_offset m b) limits in
-        subst (λ x. IsAddedBlock w n x old new) (one_block_seat (limits_in log) a b within b_there (sym key ∙ b_at)) added
-
-    adds_or_stays : (cells : List Cell) (log : List (Line P)) → Represents meld pack cells log → IsAtBlock a old k cells log → (t : Bool) → ((cell cells k).0 == 0) ≡ t → AddGoes cells log
-    adds_or_stays cells log kept at t = by t
-      where
-        longer : List (Line P)
-        longer = log ++ Cached a ∷ []
-
-        now : IsBlock meld pack (limits_in log).ranks (history_in log) a w
-        now = subst (λ n. IsBlock meld pack n.ranks (history_in log) a w) (sym at.sees.limits) (block_stays meld pack (limits_in old).ranks (history_in old) (history_in log) a w at.sees.history is)
-
-        stood : IsOfBlock meld pack log a (cell cells k).0
-        stood = block_found cells log k kept a at.within at.key
-
-        by : (t : Bool) → ((cell cells k).0 == 0) ≡ t → AddGoes cells log
-        by true zero =
-            let none : (cell cells k).0 ≡ 0 = eqb-true (cell cells k).0 0 zero in
-            let after : Represents meld pack (slice_set cells k (w, true)) longer = rw at.key (cached_after a w cells log kept at.within now) in
-            let limits : limits_in longer ≡ limits_in log = limits_stay meld log (Cached a ∷ []) kept.is_log in
-            let seen : Extends meld old longer = record {
-              limits = limits ∙ at.sees.limits;
-              history = rw (history_in-cached log a) at.sees.history;
-              cached = rw (cached_in-append log (Cached a ∷ [])) (prefix_push (cached_in old) (cached_in log) a at.sees.cached);
-              is_log = after.is_log;
-            } in
-            let added : IsAddedBlock w (cell cells k).0 a old longer = record {
-              set = now_cached a w cells log kept at.within now;
-              won = λ _. has_block_not (cached_in old) (cached_in log) a at.sees.cached (stood.unset none);
-              lost = λ some. absurd (some none);
-            } in
-            (keeps, Cached a ∷ [], None, tt, rw zero after, inl (refl, refl), (seen, told log longer (cell cells k).0 limits at.within at.key added))
-        by false other =
-            let some : (cell cells k).0 ≢ 0 = λ none. let yes = eq-eqb (cell cells k).0 0 none in absurd (cc (other, yes)) in
-            let same : (cell cells k).0 ≡ w = elim stood.stands [
-              | inl none ↦ absurd (some none)
-              | inr before ↦ one_block meld pack (limits_in log).ranks (history_in log) a (cell cells k).0 w before now
-            ] in
-            let added : IsAddedBlock w (cell cells k).0 a old log = record { set = stood.set some; won = λ none. absurd (some none); lost = λ _. same } in
-            stays meld pack old (λ n. either (n == 0) w n) (AddsBlock meld (step k 0 w ask) (old, (no_nib, None))) cells log k kept at.home (rw other refl)
-            (at.sees, told log log (cell cells k).0 refl at.within at.key added)
+    told : (new : List (Line P)) (w n : ℕ) → limits_in new ≡ limits_in old → IsAddedBlock w n a old new → IsBlockAdded k w n old new
+    told new w n limits added b there at =
+        let b_there : IsBlockWithin (limits_in old) b = subst (λ m. IsBlockWithin m b) limits there in
+        let b_at : k ≡ block_offset (limits_in old) b = at ∙ ap (λ m. block_offset m b) limits in
+        subst (λ x. IsAddedBlock w n x old new) (one_block_seat (limits_in old) a b within b_there (sym key ∙ b_at)) added
 
     -- an exchange keeps the rule: it adds the block where the word was 0, and otherwise finds the same word
-    pub add_block_moves : IsLog meld old → IsBlockWithin (limits_in old) a → k ≡ block_offset (limits_in old) a
+    pub add_block_moves : (w v : ℕ) (ask : Line P) → IsBlock meld pack (limits_in old).ranks (history_in old) a w → has_wing (cached_in old) (Wing.Block a) v ≡ true
         → Moves (Represents meld pack) shown moved k (old, (no_nib, None)) (λ n. either (n == 0) w n) (AddsBlock meld (step k 0 w ask) (old, (no_nib, None)))
-    add_block_moves is_log within key cells log kept begins away =
-        let at = is_at_block a old k cells log is_log within key kept begins in
-        (at.lt, at.home, adds_or_stays cells log kept at ((cell cells k).0 == 0) refl)
+    add_block_moves w v ask block winged = exchange meld pack old k is lt (Kept (Beside.Block a)) w (λ n new. IsBlockAdded k w n old new) won lost
+      where
+        there : (log : List (Line P)) → Extends meld old log → IsBlockWithin (limits_in log) a
+        there log s = subst (λ n. IsBlockWithin n a) (sym s.limits) within
+
+        here : (log : List (Line P)) → Extends meld old log → k ≡ block_offset (limits_in log) a
+        here log s = key ∙ ap (λ n. block_offset n a) (sym s.limits)
+
+        now : (log : List (Line P)) → Extends meld old log → IsBlock meld pack (limits_in log).ranks (history_in log) a w
+        now log s = subst (λ (n : Limits). IsBlock meld pack n.ranks (history_in log) a w) (sym s.limits) (block_stays meld pack (limits_in old).ranks (history_in old) (history_in log) a w s.history block)
+
+        won : (cells : List Cell) (log : List (Line P)) → Represents meld pack cells log → Extends meld old log → number_at cells k ≡ 0
+            → Represents meld pack (slice_set cells k (w, true)) (log ++ Kept (Beside.Block a) ∷ []) × IsBlockAdded k w 0 old (log ++ Kept (Beside.Block a) ∷ [])
+        won cells log kept s zero =
+            let known = kept.words.listed.beside.known (Wing.Block a) (there log s) v (has_wing_stays (cached_in old) (cached_in log) (Wing.Block a) v s.cached winged) in
+            let after : Represents meld pack (slice_set cells k (w, true)) (log ++ Kept (Beside.Block a) ∷ []) =
+            rw (here log s) (after_block a w cells log kept (there log s) (now log s) (λ none. absurd (omega (arith, known.0, known.1, none)))) in
+            let stood = block_found k cells log kept a (there log s) (here log s) in
+            let set : has_block (cached_in (log ++ Kept (Beside.Block a) ∷ [])) a ≡ true = subst (λ xs. has_block xs a ≡ true) (sym (cached_in-append log (Kept (Beside.Block a) ∷ []))) (now_has (cached_in log) a) in
+            let added : IsAddedBlock w 0 a old (log ++ Kept (Beside.Block a) ∷ []) = record {
+              set = set;
+              won = λ _. has_block_not (cached_in old) (cached_in log) a s.cached (stood.unset zero);
+              lost = λ some. absurd (some refl);
+            } in
+            (after, told (log ++ Kept (Beside.Block a) ∷ []) w 0 (ap (λ of. of.limits) (written_kept meld log (Beside.Block a) kept.is_log) ∙ s.limits) added)
+
+        lost : (cells : List Cell) (log : List (Line P)) → Represents meld pack cells log → Extends meld old log → number_at cells k ≢ 0 → IsBlockAdded k w (number_at cells k) old log
+        lost cells log kept s some =
+            let stood = block_found k cells log kept a (there log s) (here log s) in
+            let same : number_at cells k ≡ w = elim stood.stands [
+              | inl none ↦ absurd (some none)
+              | inr before ↦ one_block meld pack (limits_in log).ranks (history_in log) a (number_at cells k) w before (now log s)
+            ] in
+            told log w (number_at cells k) s.limits (record { set = stood.set some; won = λ none. absurd (some none); lost = λ _. same })

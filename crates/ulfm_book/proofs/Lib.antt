@@ -1,7 +1,9 @@
 pub mod Seating
+pub mod Listing
 pub mod Opening
 pub mod Growing
-pub mod Standing
+pub mod Stepping
 pub mod Moving
 pub mod Caching
+pub mod Spreading
 pub mod Telling

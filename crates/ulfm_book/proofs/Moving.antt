@@ -1,26 +1,16 @@
--- Each step keeps the rule.
-use Rattle.std.proofs.Common.{◌≡◌, ◌≢◌, ℕ, ◌<◌, ◌==◌, Bool, true, false, List, [], ◌∷◌, ◌++◌, length, slice_set, None, refl, ap, ap₂, sym, ◌∙◌, subst, arith, inl, get_or-set_other, get_or-set_same, append-nil}
-use Rattle.std.proofs.lemmas.List.{set-get_or}
-use Rattle.std.proofs.lemmas.Bool.{eqb-true, eq-eqb}
-use Rattle.std.proofs.Math.ListN.{length-set}
+-- Each step on a place's word keeps the rule.
+use Rattle.std.proofs.Common.{◌≡◌, ◌≢◌, ◌⊎◌, ℕ, ◌<◌, ◌==◌, true, List, [], ◌∷◌, ◌++◌, slice_set, None, refl, ap, sym, ◌∙◌, subst, arith, inl, inr}
+use Rattle.std.proofs.lemmas.Bool.{ne_eqb}
 use mathlib.Core.List.{IsPrefix}
 use prog.Atomic.{either}
-use Rattle.logbook.specs.Pages.{Cell, Goes, Moves, View, cell, keeps, no_nib, step}
-use Rattle.ulfm_model.specs.declared.{block.Block.{Block}, event.Entry.{Entry}, limits.Limits.{Limits}, place.Place.{Place}}
-use Rattle.ulfm_model.specs.{Blocks.{IsBlockWithin}, History.{History, IsLegal, MayFollow}, Words.{place_of, word_at, word_of}}
+use Rattle.logbook.specs.Pages.{Cell, Moves, no_nib, step}
+use Rattle.ulfm_model.specs.declared.{event.Entry.{Entry}, limits.Limits.{Limits}, place.Place.{Place}}
+use Rattle.ulfm_model.specs.{History.{History, IsLegal, MayFollow}, Words.{place_of, word_at, word_of}}
 use Rattle.ulfm_model.proofs.WordRules.{word_kept, word_set}
-use Rattle.ulfm_words.specs.Places.{IsWithin}
-use Rattle.ulfm_words.proofs.Growing.{prefix_push}
+use Rattle.ulfm_words.specs.{Besides.{written}, Places.{IsWithin}, Steps.{IsWinged}}
 use Rattle.ulfm_book.specs.declared.{line.Line.{Line}, line.Line.TheVariants.{Made}}
-use Rattle.ulfm_book.specs.{Logs.{IsLog, history_in, limits_in}, Rules.{Exchanges, IsFound, Represents, IsLast, IsOfBlock, Looks, Extends}, Layout.{block_offset, row_length, place_offset}}
-use Rattle.ulfm_book.proofs.{Growing.{cached_in-made, history_in-append, limits_stay, log_push, sees}, Seating.{one_seat, seat_in_row, seats_apart}, Standing.{block_later}}
-
--- clients see nothing of the log
-abbrev pub shown : {P : Type 0} → List (Line P) → List (Line P)
-shown log = []
-
-abbrev pub moved : {P : Type 0} → List (Line P) → List (Line P) → ℕ → Type 0
-moved before after answer = Unit {0}
+use Rattle.ulfm_book.specs.{Logs.{IsLog, cached_in, history_in, limits_in}, Rules.{AreWords, Exchanges, Extends, IsExchanged, IsFound, Represents, Looks, number_at}, Layout.{block_offset, row_length, place_offset, wing_offset}}
+use Rattle.ulfm_book.proofs.{Growing.{log_push, written_made}, Listing.{listed_as, listed_event, winged_stays}, Seating.{one_seat, seat_in_row, seats_apart, wing_apart}, Stepping.{exchange, look, moved, same_or_not, set_home, set_long, set_other, set_same, shown}}
 
 module _ {P : Type 0} (meld : P → P → P) (pack : P → ℕ) where
   -- the caller's premise: whatever others did in between, the event may come while the word is 0, and sets this word
@@ -29,134 +19,80 @@ module _ {P : Type 0} (meld : P → P → P) (pack : P → ℕ) where
       → MayFollow meld (limits_in old) more e.event × (place_of more e.event ≡ p)
 
   -- the number in a cell is the word of each place that has its key
-  pub is_found : (cells : List Cell) (log : List (Line P)) (k : ℕ) → Represents meld pack cells log → IsFound pack k (cell cells k).0 log
-  is_found cells log k kept p within is = sym (rw is (ap (λ (c : Cell). c.0) (kept.words p within)))
-
-  -- a step that leaves its word as it is adds nothing
-  pub stays : (old : List (Line P)) (f : ℕ → ℕ) (then : ℕ → View (Line P) ℕ → Type 0) (cells : List Cell) (log : List (Line P)) (k : ℕ) → Represents meld pack cells log → (cell cells k).1 ≡ true
-      → f (cell cells k).0 ≡ (cell cells k).0 → then (cell cells k).0 (log, (no_nib, None)) → Goes (Represents meld pack) shown moved k (old, (no_nib, None)) f then cells log
-  stays old f then cells log k kept home same told =
-      let one : (let c : Cell = (f (cell cells k).0, true) in c) ≡ cell cells k = ap₂ (λ n b. let c : Cell = (n, b) in c) same (sym home) in
-      let as_was : slice_set cells k (f (cell cells k).0, true) ≡ cells = ap (slice_set cells k) one ∙ set-get_or cells k (0, false) in
-      let more : log ≡ log ++ [] = sym (append-nil log) in (
-        keeps,
-        [],
-        None,
-        tt,
-        subst (λ (l : List (Line P)). Represents meld pack (slice_set cells k (f (cell cells k).0, true)) l) more (subst (λ (cs : List Cell). Represents meld pack cs log) (sym as_was) kept),
-        inl (refl, refl),
-        subst (λ (l : List (Line P)). then (cell cells k).0 (l, (no_nib, None))) more told,
-      )
+  is_found : (k : ℕ) (cells : List Cell) (log : List (Line P)) → Represents meld pack cells log → IsFound pack k (number_at cells k) log
+  is_found k cells log kept p within is = sym (kept.words.places p within) ∙ ap (number_at cells) (sym is)
 
   -- the words after an event at the end of the log
-  module _ (p : Place) (e : Entry P) (cells : List Cell) (log : List (Line P)) (kept : Represents meld pack cells log) (within : IsWithin (limits_in log) p)
-      (may : MayFollow meld (limits_in log) (history_in log) e.event) (at : place_of (history_in log) e.event ≡ p) where
+  module _ (p : Place) (e : Entry P) (w : ℕ) (cells : List Cell) (log : List (Line P)) (kept : Represents meld pack cells log) (within : IsWithin (limits_in log) p) (word : word_of pack e.event ≡ w)
+      (winged : IsWinged pack (cached_in log) e.event) (may : MayFollow meld (limits_in log) (history_in log) e.event) (at : place_of (history_in log) e.event ≡ p) where
     abbrev limits : Limits
     limits = limits_in log
 
-    abbrev written : List Cell
-    written = slice_set cells (place_offset limits p) (word_of pack e.event, true)
+    abbrev h : History P
+    h = history_in log
 
-    abbrev longer : List (Line P)
-    longer = log ++ Made e ∷ []
+    abbrev key : ℕ
+    key = place_offset limits p
 
-    history_is : history_in longer ≡ history_in log ++ e ∷ []
-    history_is = history_in-append log (Made e ∷ [])
+    abbrev after : List Cell
+    after = slice_set cells key (w, true)
 
-    limits_are : limits_in longer ≡ limits
-    limits_are = limits_stay meld log (Made e ∷ []) kept.is_log
+    others : (k : ℕ) → k ≢ key → number_at after k ≡ number_at cells k
+    others k other = set_other cells (row_length limits) key w kept.words.size (seat_in_row limits p within) k other
 
-    lt : place_offset limits p < length cells
-    lt = omega (arith, kept.size, seat_in_row limits p within)
+    place_after : (q : Place) → IsWithin limits q → (place_offset limits q ≡ key) ⊎ (place_offset limits q ≢ key) → number_at after (place_offset limits q) ≡ word_at pack (h ++ e ∷ []) q
+    place_after q there (inl same) =
+        let one : place_of h e.event ≡ q = at ∙ one_seat limits p q within there (sym same) in
+        ap (number_at after) same ∙ (set_same cells (row_length limits) key w kept.words.size (seat_in_row limits p within)
+        ∙ (sym word ∙ (sym (word_set pack meld limits h e.by e.event may).1 ∙ ap (word_at pack (h ++ e ∷ [])) one)))
+    place_after q there (inr other) =
+        let apart : place_of h e.event ≢ q = λ same. other (ap (place_offset limits) (sym same ∙ at)) in
+        others (place_offset limits q) other ∙ (kept.words.places q there ∙ sym (word_kept pack meld limits h e.by e.event q may apart))
 
-    -- its own word, and each other
-    own : word_at pack (history_in longer) p ≡ word_of pack e.event
-    own = ap (λ h. word_at pack h p) history_is ∙ (ap (word_at pack (history_in log ++ e ∷ [])) (sym at) ∙ (word_set pack meld limits (history_in log) e.by e.event may).1)
-
-    other : (q : Place) → p ≢ q → word_at pack (history_in longer) q ≡ word_at pack (history_in log) q
-    other q apart = ap (λ h. word_at pack h q) history_is ∙ word_kept pack meld limits (history_in log) e.by e.event q may (λ same. apart (sym at ∙ same))
-
-    word_after : (q : Place) → IsWithin limits q → (b : Bool) → (place_offset limits q == place_offset limits p) ≡ b → cell written (place_offset limits q) ≡ (word_at pack (history_in longer) q, true)
-    word_after q there true is =
-        let key : place_offset limits q ≡ place_offset limits p = eqb-true (place_offset limits q) (place_offset limits p) is in
-        let one : p ≡ q = one_seat limits p q within there (sym key) in
-        ap (cell written) key ∙ (get_or-set_same cells (place_offset limits p) (word_of pack e.event, true) (0, false) lt ∙ ap (λ n. let c : Cell = (n, true) in c) (sym own ∙ ap (word_at pack (history_in longer)) one))
-    word_after q there false is =
-        let keys : place_offset limits q ≢ place_offset limits p = λ same. let yes = eq-eqb (place_offset limits q) (place_offset limits p) same in absurd (cc (is, yes)) in
-        get_or-set_other cells (place_offset limits p) (place_offset limits q) (word_of pack e.event, true) (0, false) keys
-        ∙ (kept.words q there ∙ ap (λ n. let c : Cell = (n, true) in c) (sym (other q (λ same. keys (ap (place_offset limits) (sym same))))))
-
-    -- the blocks stand as they stood
-    block_after : (b : Block) → IsBlockWithin limits b → ((cell written (block_offset limits b)).1 ≡ true) × IsOfBlock meld pack longer b (cell written (block_offset limits b)).0
-    block_after b there =
-        let same : cell written (block_offset limits b) ≡ cell cells (block_offset limits b) = get_or-set_other cells (place_offset limits p) (block_offset limits b) (word_of pack e.event, true) (0, false) (seats_apart limits p b within) in
-        let stood = kept.blocks b there in
-        rw same (stood.0, block_later meld pack log longer b (cell cells (block_offset limits b)).0 limits_are (e ∷ [], sym history_is) (cached_in-made log e) stood.1)
-
-    pub kept_after : Represents meld pack written longer
-    kept_after = record {
-      is_log = log_push meld log e kept.is_log may;
-      size = length-set cells (place_offset limits p) (word_of pack e.event, true) ∙ (kept.size ∙ ap row_length (sym limits_are));
-      words = subst (λ n. (q : Place) → IsWithin n q → cell written (place_offset n q) ≡ (word_at pack (history_in longer) q, true)) (sym limits_are) (λ q there. word_after q there (place_offset limits q == place_offset limits p) refl);
-      blocks = subst (λ n. (b : Block) → IsBlockWithin n b → ((cell written (block_offset n b)).1 ≡ true) × IsOfBlock meld pack longer b (cell written (block_offset n b)).0) (sym limits_are) block_after;
+    words_after : AreWords meld pack (written (h ++ e ∷ []) limits (cached_in log)) after
+    words_after = record {
+      size = set_long cells (row_length limits) key w kept.words.size (seat_in_row limits p within);
+      home = set_home cells (row_length limits) key w kept.words.size (seat_in_row limits p within) kept.words.home;
+      places = λ q there. place_after q there (same_or_not (place_offset limits q) key);
+      listed =
+          listed_as meld pack limits (h ++ e ∷ []) (cached_in log) (λ b. number_at cells (block_offset limits b)) (λ x. number_at cells (wing_offset limits x))
+          (λ b. number_at after (block_offset limits b)) (λ x. number_at after (wing_offset limits x))
+          (λ b there. others (block_offset limits b) (seats_apart limits p b within)) (λ x there. others (wing_offset limits x) (wing_apart limits x p there within))
+          (listed_event meld pack limits h (cached_in log) (λ b. number_at cells (block_offset limits b)) (λ x. number_at cells (wing_offset limits x)) e winged kept.words.listed);
     }
 
-  -- the word of a place, in a log that goes on from what was seen
-  record IsAt (p : Place) (old : List (Line P)) (k : ℕ) (cells : List Cell) (log : List (Line P)) : Type 0 where
-    pub sees : Extends meld old log
-    pub within : IsWithin (limits_in log) p
-    pub key : k ≡ place_offset (limits_in log) p
-    pub lt : k < length cells
-    pub home : (cell cells k).1 ≡ true
+    after_event : Represents meld pack after (log ++ Made e ∷ [])
+    after_event = record {
+      is_log = log_push meld log e kept.is_log may;
+      words = subst (λ of. AreWords meld pack of after) (sym (written_made meld log e kept.is_log)) words_after;
+    }
 
-  is_at : (p : Place) (old : List (Line P)) (k : ℕ) (cells : List Cell) (log : List (Line P)) → IsLog meld old → IsWithin (limits_in old) p → k ≡ place_offset (limits_in old) p → Represents meld pack cells log → IsPrefix old log → IsAt p old k cells log
-  is_at p old k cells log is within key kept begins =
-      let s = sees meld old log is kept.is_log begins in
-      let there : IsWithin (limits_in log) p = subst (λ n. IsWithin n p) (sym s.limits) within in
-      let here : k ≡ place_offset (limits_in log) p = key ∙ ap (λ n. place_offset n p) (sym s.limits) in
-      record {
-        sees = s;
-        within = there;
-        key = here;
-        lt = omega (arith, kept.size, seat_in_row (limits_in log) p there, here);
-        home = ap (λ n. (cell cells n).1) here ∙ ap (λ (c : Cell). c.1) (kept.words p there);
-      }
+  module _ (p : Place) (old : List (Line P)) (k : ℕ) (is : IsLog meld old) (within : IsWithin (limits_in old) p) (key : k ≡ place_offset (limits_in old) p) where
+    lt : k < row_length (limits_in old)
+    lt = omega (arith, key, seat_in_row (limits_in old) p within)
 
-  -- a load keeps the rule, and finds the word
-  pub look_moves : (p : Place) (old : List (Line P)) (ask : Line P) (k : ℕ) → IsLog meld old → IsWithin (limits_in old) p → k ≡ place_offset (limits_in old) p
-      → Moves (Represents meld pack) shown moved k (old, (no_nib, None)) (λ n. n) (Looks meld pack (step k 0 0 ask) (old, (no_nib, None)))
-  look_moves p old ask k is within key cells log kept begins away =
-      let at = is_at p old k cells log is within key kept begins in
-      let goes = stays old (λ n. n) (Looks meld pack (step k 0 0 ask) (old, (no_nib, None))) cells log k kept at.home refl (at.sees, is_found cells log k kept) in
-      (at.lt, at.home, goes)
-
-  module _ (p : Place) (w : ℕ) (e : Entry P) (old : List (Line P)) (k : ℕ) (word : word_of pack e.event ≡ w) (may : MayAdd p old e) where
-    abbrev AddGoes : List Cell → List (Line P) → Type 0
-    AddGoes = Goes (Represents meld pack) shown moved k (old, (no_nib, None)) (λ n. either (n == 0) w n) (Exchanges meld pack (step k 0 w (Made e)) (old, (no_nib, None)))
-
-    adds_or_stays : (cells : List Cell) (log : List (Line P)) → Represents meld pack cells log → IsAt p old k cells log → (b : Bool) → ((cell cells k).0 == 0) ≡ b → AddGoes cells log
-    adds_or_stays cells log kept at true is =
-        let h = history_in log in
-        let longer = log ++ Made e ∷ [] in
-        let zero : word_at pack h p ≡ 0 = is_found cells log k kept p at.within at.key ∙ eqb-true (cell cells k).0 0 is in
-        let ok = may h at.sees.history (subst (λ n. IsLegal meld n h) at.sees.limits kept.is_log.legal) zero in
-        let follows : MayFollow meld (limits_in log) h e.event = subst (λ n. MayFollow meld n h e.event) (sym at.sees.limits) ok.0 in
-        let after : Represents meld pack (slice_set cells k (w, true)) longer = rw (at.key, sym word) (kept_after p e cells log kept at.within follows ok.1) in
-        let now : Extends meld old longer = record {
-          limits = limits_stay meld log (Made e ∷ []) kept.is_log ∙ at.sees.limits;
-          history = rw (history_in-append log (Made e ∷ [])) (prefix_push (history_in old) h e at.sees.history);
-          cached = rw (cached_in-made log e) at.sees.cached;
-          is_log = after.is_log;
-        } in
-        let stands : IsFound pack k w longer = subst (λ (c : Cell). IsFound pack k c.0 longer) (get_or-set_same cells k (w, true) (0, false) at.lt) (is_found (slice_set cells k (w, true)) longer k after) in
-        let last : IsLast meld (Made e) old longer = record { before = log; sees = at.sees; is = refl } in
-        (keeps, Made e ∷ [], None, tt, rw is after, inl (refl, refl), (now, rw is (last, stands)))
-    adds_or_stays cells log kept at false is =
-        stays old (λ n. either (n == 0) w n) (Exchanges meld pack (step k 0 w (Made e)) (old, (no_nib, None))) cells log k kept at.home (rw is refl) (at.sees, rw is (is_found cells log k kept))
+    -- a load keeps the rule, and finds the word
+    pub look_moves : (ask : Line P) → Moves (Represents meld pack) shown moved k (old, (no_nib, None)) (λ n. n) (Looks meld pack (step k 0 0 ask) (old, (no_nib, None)))
+    look_moves ask = look meld pack old k is lt (IsFound pack k) (is_found k)
 
     -- an exchange keeps the rule: it adds the event where the word was 0, and otherwise finds the word that stands
-    pub add_moves : IsLog meld old → IsWithin (limits_in old) p → k ≡ place_offset (limits_in old) p
+    pub add_moves : (w : ℕ) (e : Entry P) → word_of pack e.event ≡ w → MayAdd p old e → IsWinged pack (cached_in old) e.event
         → Moves (Represents meld pack) shown moved k (old, (no_nib, None)) (λ n. either (n == 0) w n) (Exchanges meld pack (step k 0 w (Made e)) (old, (no_nib, None)))
-    add_moves is within key cells log kept begins away =
-        let at = is_at p old k cells log is within key kept begins in
-        (at.lt, at.home, adds_or_stays cells log kept at ((cell cells k).0 == 0) refl)
+    add_moves w e word may winged = exchange meld pack old k is lt (Made e) w (IsExchanged meld pack (step k 0 w (Made e)) old) won lost
+      where
+        won : (cells : List Cell) (log : List (Line P)) → Represents meld pack cells log → Extends meld old log → number_at cells k ≡ 0
+            → Represents meld pack (slice_set cells k (w, true)) (log ++ Made e ∷ []) × IsExchanged meld pack (step k 0 w (Made e)) old 0 (log ++ Made e ∷ [])
+        won cells log kept s zero =
+            let limits = limits_in log in
+            let there : IsWithin limits p = subst (λ n. IsWithin n p) (sym s.limits) within in
+            let here : k ≡ place_offset limits p = key ∙ ap (λ n. place_offset n p) (sym s.limits) in
+            let none : word_at pack (history_in log) p ≡ 0 = is_found k cells log kept p there here ∙ zero in
+            let ok = may (history_in log) s.history (subst (λ n. IsLegal meld n (history_in log)) s.limits kept.is_log.legal) none in
+            let follows : MayFollow meld limits (history_in log) e.event = subst (λ n. MayFollow meld n (history_in log) e.event) (sym s.limits) ok.0 in
+            let known = winged_stays pack (cached_in old) (cached_in log) e.event s.cached winged in
+            let after : Represents meld pack (slice_set cells k (w, true)) (log ++ Made e ∷ []) = rw here (after_event p e w cells log kept there word known follows ok.1) in
+            let now : number_at (slice_set cells k (w, true)) k ≡ w = rw here (set_same cells (row_length limits) (place_offset limits p) w kept.words.size (seat_in_row limits p there)) in
+            (after, (record { before = log; sees = s; is = refl }, subst (λ n. IsFound pack k n (log ++ Made e ∷ [])) now (is_found k (slice_set cells k (w, true)) (log ++ Made e ∷ []) after)))
+
+        lost : (cells : List Cell) (log : List (Line P)) → Represents meld pack cells log → Extends meld old log → number_at cells k ≢ 0 → IsExchanged meld pack (step k 0 w (Made e)) old (number_at cells k) log
+        lost cells log kept s some = rw (ne_eqb (number_at cells k) 0 some) (is_found k cells log kept)

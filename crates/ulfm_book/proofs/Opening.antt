@@ -1,25 +1,30 @@
 -- The words as they are opened.
-use Rattle.std.proofs.Common.{◌≡◌, ℕ, zero, suc, ◌<◌, true, false, List, [], ◌∷◌, get_or, replicate, slice_get, Some, refl, ap, sym, ◌∙◌, arith, inl}
+use Rattle.std.proofs.Common.{◌≡◌, ℕ, zero, suc, ◌<◌, true, false, List, [], ◌∷◌, get_or, replicate, slice_get, Some, ap, sym, ◌∙◌, arith}
 use Rattle.std.proofs.lemmas.List.{get_or-replicate, length-replicate}
-use Rattle.logbook.specs.Pages.{Book, Cell, Named}
-use Rattle.ulfm_model.specs.declared.{block.Block.{Block}, limits.Limits.{Limits}}
-use Rattle.ulfm_model.specs.Blocks.{IsBlockWithin}
+use Rattle.logbook.specs.Pages.{Book, Cell, Named, cell}
+use Rattle.ulfm_model.specs.declared.limits.Limits.{Limits}
 use Rattle.ulfm_words.proofs.Tied.{zero_at}
-use Rattle.ulfm_book.specs.{Logs.{log_of}, Rules.{Represents, word_named}, Layout.{block_offset, row_length, place_offset}}
-use Rattle.ulfm_book.proofs.Seating.{block_seat_lt, seat_in_row}
+use Rattle.ulfm_book.specs.{Logs.{log_of}, Rules.{Represents, number_at, word_named}, Layout.{block_offset, row_length, place_offset, wing_offset}}
+use Rattle.ulfm_book.proofs.{Listing.{listed_new}, Seating.{block_seat_lt, seat_in_row, wing_seat_lt}}
 
 -- zeros are the words of the log that has no event
 pub opened_kept : {P : Type 0} (meld : P → P → P) (pack : P → ℕ) (limits : Limits) (size : ℕ) → size ≡ row_length limits → Represents meld pack (replicate size (0, true)) (log_of limits)
 opened_kept {P} meld pack limits size is = record {
   is_log = record { limits_first = tt; legal = tt };
-  size = length-replicate size (0, true) ∙ is;
-  words = λ p within.
-      get_or-replicate size (place_offset limits p) (0, true) (0, false) (omega (arith, is, seat_in_row limits p within)) ∙ ap (λ n. let c : Cell = (n, true) in c) (sym (zero_at pack p));
-  blocks = λ b within. rw (zero b within) (refl, record { stands = inl refl; unset = λ _. refl; set = λ some. absurd (some refl) });
+  words = record {
+    size = length-replicate size (0, true) ∙ is;
+    home = λ key lt. ap (λ (c : Cell). c.1) (at key lt);
+    places = λ p within. zero (place_offset limits p) (seat_in_row limits p within) ∙ sym (zero_at pack p);
+    listed = listed_new meld pack limits (λ b. number_at (replicate size (0, true)) (block_offset limits b)) (λ x. number_at (replicate size (0, true)) (wing_offset limits x))
+        (λ b within. zero (block_offset limits b) (block_seat_lt limits b within)) (λ x within. zero (wing_offset limits x) (wing_seat_lt limits x within));
+  };
 }
   where
-    zero : (b : Block) → IsBlockWithin limits b → (let c : Cell = (0, true) in get_or (replicate size c) (block_offset limits b) (0, false) ≡ c)
-    zero b within = get_or-replicate size (block_offset limits b) (0, true) (0, false) (omega (arith, is, block_seat_lt limits b within))
+    at : (key : ℕ) → key < row_length limits → cell (replicate size (0, true)) key ≡ (0, true)
+    at key lt = get_or-replicate size key (0, true) (0, false) (omega (arith, is, lt))
+
+    zero : (key : ℕ) → key < row_length limits → number_at (replicate size (0, true)) key ≡ 0
+    zero key lt = ap (λ (c : Cell). c.0) (at key lt)
 
 -- the word under a key of the row is the book's
 pub word_in : (words : List Named) (book : Book) (size key : ℕ) (word : Named) → ((k : ℕ) → k < size → slice_get words k ≡ Some (word_named book k)) → key < size → get_or words key word ≡ word_named book key

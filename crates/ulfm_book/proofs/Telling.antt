@@ -3,14 +3,15 @@ use Rattle.std.proofs.Common.{◌≡◌, ◌≢◌, ℕ, ◌+◌, ◌==◌, Matc
 use Rattle.std.proofs.lemmas.Bool.{eq-eqb, ne_eqb}
 use mathlib.Core.List.{IsPrefix}
 use Rattle.logbook.specs.Pages.{Book}
-use Rattle.ulfm_model.specs.declared.{block.Block.{Block}, event.Entry.{Entry}, place.Place.{Place}}
-use Rattle.ulfm_model.specs.{Blocks.{IsBlockWithin, IsCached}, History.{History, IsLegal}, Runs.{Did}, Words.{MayOpen, word_at}}
+use Rattle.ulfm_model.specs.declared.{block.Block.{Block}, block.Wing.{Wing}, contribution.Slot.{Slot}, event.Entry.{Entry}, place.Place.{Place}}
+use Rattle.ulfm_model.specs.{Blocks.{IsBlockWithin, IsCached, IsWing}, History.{History, IsLegal}, Runs.{Did}, Words.{MayOpen, word_at}}
+use Rattle.ulfm_model.proofs.{Blocks.{has_block_stays}, Histories.{slot_stays}}
 use Rattle.ulfm_words.specs.declared.{step.Last.{Last}, step.Site.{Site}, step.Step.{Step}}
-use Rattle.ulfm_words.specs.{Blocks.{Caches, LoadsBlock}, Entries.{entry_of}, Pass.{caches_in, last_of}, Places.{IsWithin}, Steps.{Heard, IsView, Learns, Loads, Sets, Sight}}
-use Rattle.ulfm_words.proofs.{Standing.{caches_loaded, caches_place, caches_set}, Telling.{last_of-push}}
+use Rattle.ulfm_words.specs.{Blocks.{Caches, IsSpread, LoadsBlock, LoadsWing, SetsWing}, Entries.{entry_of}, Pass.{caches_in, last_of}, Places.{IsWingWithin, IsWithin}, Steps.{Heard, IsView, Learns, Loads, Sets, Sight}}
+use Rattle.ulfm_words.proofs.{Standing.{caches_loaded, caches_place, caches_set, caches_wing_load, caches_wing_set}, Telling.{last_of-push}}
 use Rattle.ulfm_words.specs.Steps.{coding, view_of}
 use Rattle.ulfm_book.specs.declared.{line.Line.{Line}, line.Line.TheVariants.{Made}}
-use Rattle.ulfm_book.specs.{Logs.{IsLog, cached_in, history_in, limits_in}, Rules.{IsAddedBlock, IsBlockFound, IsFound, IsLast, IsOfBlock, Extends, heard_of, name_of, sight_of}, Layout.{block_offset, place_offset}}
+use Rattle.ulfm_book.specs.{Logs.{IsLog, cached_in, history_in, limits_in}, Rules.{IsAddedBlock, IsAddedWing, IsBlockAdded, IsBlockFound, IsFound, IsLast, IsOfBlock, IsSpreadIn, IsWingAdded, IsWingFound, Extends, heard_of, name_of, sight_of}, Layout.{block_offset, place_offset, wing_offset}}
 use Rattle.ulfm_book.proofs.Growing.{cached_in-append, history_in-append, sees}
 
 -- others' events may have come
@@ -28,7 +29,7 @@ module _ {P : Type 0} (meld : P → P → P) (pack : P → ℕ) where
 
   module _ (b b' : Book) (old new : List (Line P)) (trail trail' : List (Last × Bool)) where
     -- the pass is still of these words
-    still : b' ≡ b → MayOpen (limits_in old) → Extends meld old new → IsView meld (view_of (name_of b (limits_in old)) (sight_of b' new trail'))
+    still : b' ≡ b → MayOpen (limits_in old) → Extends meld old new → IsView meld (view_of pack (name_of b (limits_in old)) (sight_of b' new trail'))
     still same may s = record {
       name_is = ap₂ (λ book n. name_of book n) same s.limits;
       may_open = may;
@@ -43,8 +44,8 @@ module _ {P : Type 0} (meld : P → P → P) (pack : P → ℕ) where
 
     abbrev LoadTells : Place → ℕ → ℕ → Sight P → Type 0
     LoadTells p k found pass =
-        IsView meld (view_of pass.name pass) → IsWithin pass.name.limits p → k ≡ place_offset pass.name.limits p → b' ≡ b → Extends meld old new × IsFound pack k found new → trail' ≡ trail ++ made (Site.Place p) found true ∷ []
-        → Loads meld pack false p (view_of pass.name pass) (view_of pass.name (sight_of b' new trail'))
+        IsView meld (view_of pack pass.name pass) → IsWithin pass.name.limits p → k ≡ place_offset pass.name.limits p → b' ≡ b → Extends meld old new × IsFound pack k found new → trail' ≡ trail ++ made (Site.Place p) found true ∷ []
+        → Loads meld pack false p (view_of pack pass.name pass) (view_of pack pass.name (sight_of b' new trail'))
 
     -- a load
     pub load_tells : (p : Place) (k found : ℕ) (pass : Sight P) → sight_of b old trail ≡ pass → LoadTells p k found pass
@@ -67,8 +68,8 @@ module _ {P : Type 0} (meld : P → P → P) (pack : P → ℕ) where
 
     abbrev WonTells : (ℕ → Option P) → Step → ℕ → ℕ → Line P → Entry P → Sight P → Type 0
     WonTells unpack s k found ask entry pass =
-        IsView meld (view_of pass.name pass) → IsWithin pass.name.limits s.place → k ≡ place_offset pass.name.limits s.place → b' ≡ b → Finds s k found ask → trail' ≡ trail ++ made (Site.Place s.place) found false ∷ []
-        → entry_of unpack s ≡ Some entry → ask ≡ Made entry → found ≡ 0 → Sets meld (coding pack unpack) false s (view_of pass.name pass) (Ok tt) (view_of pass.name (sight_of b' new trail'))
+        IsView meld (view_of pack pass.name pass) → IsWithin pass.name.limits s.place → k ≡ place_offset pass.name.limits s.place → b' ≡ b → Finds s k found ask → trail' ≡ trail ++ made (Site.Place s.place) found false ∷ []
+        → entry_of unpack s ≡ Some entry → ask ≡ Made entry → found ≡ 0 → Sets meld (coding pack unpack) false s (view_of pack pass.name pass) (Ok tt) (view_of pack pass.name (sight_of b' new trail'))
 
     -- an exchange that was won
     pub won_tells : (unpack : ℕ → Option P) (s : Step) (k found : ℕ) (ask : Line P) (entry : Entry P) (pass : Sight P) → sight_of b old trail ≡ pass → WonTells unpack s k found ask entry pass
@@ -96,8 +97,8 @@ module _ {P : Type 0} (meld : P → P → P) (pack : P → ℕ) where
 
     abbrev LostTells : (ℕ → Option P) → Step → ℕ → ℕ → Line P → Sight P → Type 0
     LostTells unpack s k found ask pass =
-        IsView meld (view_of pass.name pass) → IsWithin pass.name.limits s.place → k ≡ place_offset pass.name.limits s.place → b' ≡ b → Finds s k found ask → trail' ≡ trail ++ made (Site.Place s.place) found false ∷ []
-        → found ≢ 0 → Sets meld (coding pack unpack) false s (view_of pass.name pass) (Err found) (view_of pass.name (sight_of b' new trail'))
+        IsView meld (view_of pack pass.name pass) → IsWithin pass.name.limits s.place → k ≡ place_offset pass.name.limits s.place → b' ≡ b → Finds s k found ask → trail' ≡ trail ++ made (Site.Place s.place) found false ∷ []
+        → found ≢ 0 → Sets meld (coding pack unpack) false s (view_of pack pass.name pass) (Err found) (view_of pack pass.name (sight_of b' new trail'))
 
     -- an exchange that was lost
     pub lost_tells : (unpack : ℕ → Option P) (s : Step) (k found : ℕ) (ask : Line P) (pass : Sight P) → sight_of b old trail ≡ pass → LostTells unpack s k found ask pass
@@ -120,14 +121,14 @@ module _ {P : Type 0} (meld : P → P → P) (pack : P → ℕ) where
     -- where a block was looked at under this key
     abbrev BlockTells : Block → ℕ → ℕ → Bool → Type 0 → Sight P → Type 0 → Type 0
     BlockTells block k found load Saw pass Told =
-        IsView meld (view_of pass.name pass) → IsBlockWithin pass.name.limits block → k ≡ block_offset pass.name.limits block → b' ≡ b → Extends meld old new × Saw → trail' ≡ trail ++ made (Site.Block block) found load ∷ [] → Told
+        IsView meld (view_of pack pass.name pass) → IsBlockWithin pass.name.limits block → k ≡ block_offset pass.name.limits block → b' ≡ b → Extends meld old new × Saw → trail' ≡ trail ++ made (Site.Block block) found load ∷ [] → Told
 
     -- what was seen of all blocks with this key was seen of this one
     of_block : (block : Block) (k : ℕ) (Saw : Block → Type 0) → Extends meld old new → IsBlockWithin (limits_in old) block → k ≡ block_offset (limits_in old) block → ((x : Block) → IsBlockWithin (limits_in new) x → k ≡ block_offset (limits_in new) x → Saw x) → Saw block
     of_block block k Saw s within key all = all block (subst (λ n. IsBlockWithin n block) (sym s.limits) within) (key ∙ ap (λ n. block_offset n block) (sym s.limits))
 
     abbrev LoadBlockTells : Block → ℕ → ℕ → Sight P → Type 0
-    LoadBlockTells block k found pass = BlockTells block k found true (IsBlockFound meld pack k found new) pass (LoadsBlock meld pack false block found (view_of pass.name pass) (view_of pass.name (sight_of b' new trail')))
+    LoadBlockTells block k found pass = BlockTells block k found true (IsBlockFound meld pack k found new) pass (LoadsBlock meld pack false block found (view_of pack pass.name pass) (view_of pack pass.name (sight_of b' new trail')))
 
     -- a load of a block's word
     pub load_block_tells : (block : Block) (k found : ℕ) (pass : Sight P) → sight_of b old trail ≡ pass → LoadBlockTells block k found pass
@@ -147,11 +148,8 @@ module _ {P : Type 0} (meld : P → P → P) (pack : P → ℕ) where
           set = stands.set;
         })
 
-    abbrev SawAdded : ℕ → ℕ → ℕ → Type 0
-    SawAdded k word found = (x : Block) → IsBlockWithin (limits_in new) x → k ≡ block_offset (limits_in new) x → IsAddedBlock word found x old new
-
     abbrev CacheTells : Block → ℕ → ℕ → ℕ → Result (Unit {0}) ℕ → Sight P → Type 0
-    CacheTells block k word found result pass = BlockTells block k found false (SawAdded k word found) pass (Caches meld false block word (view_of pass.name pass) result (view_of pass.name (sight_of b' new trail')))
+    CacheTells block k word found result pass = BlockTells block k found false (IsBlockAdded k word found old new) pass (Caches meld false block word (view_of pack pass.name pass) result (view_of pack pass.name (sight_of b' new trail')))
 
     -- an exchange of a block's word that was won
     pub cache_won_tells : (block : Block) (k word found : ℕ) (pass : Sight P) → sight_of b old trail ≡ pass → found ≡ 0 → CacheTells block k word found (Ok tt) pass
@@ -187,9 +185,85 @@ module _ {P : Type 0} (meld : P → P → P) (pack : P → ℕ) where
           stood = added.lost some;
         })
 
+    -- where a wing was looked at under this key
+    abbrev WingTells : Wing → ℕ → ℕ → Bool → Type 0 → Sight P → Type 0 → Type 0
+    WingTells x k word load Saw pass Told =
+        IsView meld (view_of pack pass.name pass) → IsWingWithin pass.name.limits x → k ≡ wing_offset pass.name.limits x → b' ≡ b → Extends meld old new × Saw → trail' ≡ trail ++ made (Site.Wing x) word load ∷ [] → Told
+
+    -- what was seen of all wings with this key was seen of this one
+    of_wing : (x : Wing) (k : ℕ) (Saw : Wing → Type 0) → Extends meld old new → IsWingWithin (limits_in old) x → k ≡ wing_offset (limits_in old) x → ((y : Wing) → IsWingWithin (limits_in new) y → k ≡ wing_offset (limits_in new) y → Saw y) → Saw x
+    of_wing x k Saw s within key all = all x (subst (λ n. IsWingWithin n x) (sym s.limits) within) (key ∙ ap (λ n. wing_offset n x) (sym s.limits))
+
+    -- what it stands beside still stands
+    still_spread : (x : Wing) → Extends meld old new → IsSpread (view_of pack (name_of b (limits_in old)) (sight_of b old trail)) x → IsSpreadIn new x
+    still_spread (Wing.Slot c k r) s given = (given.0, slot_stays (history_in old) (history_in new) c k r (Slot.Given given.0) s.history given.1)
+    still_spread (Wing.Block a) s has = has_block_stays (cached_in old) (cached_in new) a s.cached has
+
+    abbrev LoadWingTells : Wing → ℕ → ℕ → Sight P → Type 0
+    LoadWingTells x k found pass =
+        WingTells x k found true (IsWingFound meld pack k found new) pass (IsSpread (view_of pack pass.name pass) x → LoadsWing meld pack false x found (view_of pack pass.name pass) (view_of pack pass.name (sight_of b' new trail')))
+
+    -- a load of a wing
+    pub load_wing_tells : (x : Wing) (k found : ℕ) (pass : Sight P) → sight_of b old trail ≡ pass → LoadWingTells x k found pass
+    load_wing_tells x k found pass e =
+        subst (LoadWingTells x k found) e (λ of within key same looks is spread.
+        let s = looks.0 in
+        let stands = of_wing x k (λ y. IsSpreadIn new y → IsWing meld pack (limits_in new).ranks (history_in new) y found) s within key looks.1 in
+        record {
+          of = still same of.may_open s;
+          did = others (history_in old) (history_in new) s.history;
+          cached = s.cached;
+          caches = ap caches_in is ∙ caches_wing_load trail x found;
+          steps = one_more (made (Site.Wing x) found true) is;
+          last = last_is (made (Site.Wing x) found true) is;
+          stands = subst (λ n. IsWing meld pack n.ranks (history_in new) x found) s.limits (stands (still_spread x s spread));
+        })
+
+    abbrev SetWingTells : Wing → ℕ → ℕ → ℕ → ℕ → Result (Unit {0}) ℕ → Sight P → Type 0
+    SetWingTells x k word found stands result pass =
+        WingTells x k stands false (IsWingAdded k word found new) pass (SetsWing meld false x word (view_of pack pass.name pass) result (view_of pack pass.name (sight_of b' new trail')))
+
+    -- an exchange of a wing that was won
+    pub wing_won_tells : (x : Wing) (k word found : ℕ) (pass : Sight P) → sight_of b old trail ≡ pass → found ≡ 0 → SetWingTells x k word found word (Ok tt) pass
+    wing_won_tells x k word found pass e zero =
+        subst (SetWingTells x k word found word (Ok tt)) e (λ of within key same looks is.
+        let s = looks.0 in
+        let added = (of_wing x k (λ y. IsAddedWing word found y new) s within key looks.1).won zero in
+        record {
+          of = still same of.may_open s;
+          did = others (history_in old) (history_in new) s.history;
+          cached = s.cached;
+          caches = ap caches_in is ∙ caches_wing_set trail x word;
+          steps = one_more (made (Site.Wing x) word false) is;
+          last = last_is (made (Site.Wing x) word false) is;
+          set = added.0;
+          some = added.1;
+          was = tt;
+          before = λ here. tt;
+        })
+
+    -- .. and that was lost
+    pub wing_lost_tells : (x : Wing) (k word found : ℕ) (pass : Sight P) → sight_of b old trail ≡ pass → found ≢ 0 → SetWingTells x k word found found (Err found) pass
+    wing_lost_tells x k word found pass e some =
+        subst (SetWingTells x k word found found (Err found)) e (λ of within key same looks is.
+        let s = looks.0 in
+        let added = (of_wing x k (λ y. IsAddedWing word found y new) s within key looks.1).lost some in
+        record {
+          of = still same of.may_open s;
+          did = others (history_in old) (history_in new) s.history;
+          cached = s.cached;
+          caches = ap caches_in is ∙ caches_wing_set trail x found;
+          steps = one_more (made (Site.Wing x) found false) is;
+          last = last_is (made (Site.Wing x) found false) is;
+          set = added.0;
+          some = omega (arith, some);
+          was = added.1;
+          before = λ here. absurd (cc here);
+        })
+
   module _ (b b' t : Book) (old told new : List (Line P)) (trail : List (Last × Bool)) where
     abbrev LearnTells : Heard P → Sight P → Type 0
-    LearnTells heard pass = IsView meld (view_of pass.name pass) → b' ≡ b → IsLog meld old → IsPrefix old new → IsPrefix told new → IsLog meld new → Learns meld false heard (view_of pass.name pass) (view_of pass.name (sight_of b' new trail))
+    LearnTells heard pass = IsView meld (view_of pack pass.name pass) → b' ≡ b → IsLog meld old → IsPrefix old new → IsPrefix told new → IsLog meld new → Learns meld false heard (view_of pack pass.name pass) (view_of pack pass.name (sight_of b' new trail))
 
     -- what was told is seen
     pub learn_tells : (heard : Heard P) (pass : Sight P) → heard_of t told ≡ heard → sight_of b old trail ≡ pass → LearnTells heard pass

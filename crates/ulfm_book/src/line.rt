@@ -1,5 +1,5 @@
-//! The lines of the log that stands beside shared words in the proofs: the limits, the events and the blocks.
-use ulfm_model::block::Block;
+//! The lines of the log that stands beside shared words in the proofs: the limits, the events, and the blocks and wings.
+use ulfm_model::block::Beside;
 use ulfm_model::event::Entry;
 use ulfm_model::limits::Limits;
 
@@ -9,6 +9,6 @@ pub(crate) enum Line<P> {
     Opened { limits: Limits },
     /// An event, with its caller's name.
     Made { entry: Entry<P> },
-    /// A block's word was set. No event comes of it.
-    Cached { block: Block },
+    /// The word of a block, or a wing, was set. No event comes of it.
+    Kept { beside: Beside },
 }

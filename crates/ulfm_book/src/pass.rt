@@ -3,19 +3,19 @@ ghost use Rattle.std.specs.Prelude.{◌≡◌, ◌%◌, ◌^◌, [], false};
 ghost use Rattle.ulfm_model.specs.Blocks.{IsBlock, IsBlockWithin};
 ghost use Rattle.ulfm_model.specs.History.{IsLegal};
 ghost use Rattle.ulfm_model.specs.Words.{word_at};
-ghost use Rattle.ulfm_words.specs.Blocks.{Caches, LoadsBlock};
-ghost use Rattle.ulfm_words.specs.Places.{IsWithin};
-ghost use Rattle.ulfm_words.specs.Steps.{coding, view_of, IsView, Loads, MaySet, Sets, Learns};
+ghost use Rattle.ulfm_words.specs.Blocks.{Caches, IsSpread, IsSpreadBlock, LoadsBlock, LoadsWing, MaySetWing, SetsWing};
+ghost use Rattle.ulfm_words.specs.Places.{IsWingWithin, IsWithin};
+ghost use Rattle.ulfm_words.specs.Steps.{coding, view_of, IsView, IsWingedIn, Loads, MaySet, Sets, Learns};
 ghost use Rattle.ulfm_book.specs.Logs.{IsLog};
 ghost use Rattle.ulfm_book.specs.Rules.{book_of, sight_of, word_named};
-ghost use Rattle.ulfm_book.specs.Layout.{block_offset, place_offset};
+ghost use Rattle.ulfm_book.specs.Layout.{block_offset, place_offset, wing_offset};
 
 use crate::line::Line;
-use crate::rule::{Add, AddBlock, Law, Look, LookBlock, Nothing};
+use crate::rule::{Add, AddBlock, AddWing, Law, Look, LookBlock, LookWing, Nothing};
 use logbook::{Offer, Seen, Word};
 use std::marker::Model;
 use ulfm_laws::meld::Packed;
-use ulfm_model::block::Block;
+use ulfm_model::block::{Beside, Block, Wing};
 use ulfm_model::event::Caller;
 use ulfm_model::place::Place;
 use ulfm_words::{Last, Site, Step, Trail};
@@ -72,15 +72,16 @@ impl<P: Packed> BookPass<P> {
 
     // The word of this place is loaded.
     pub(crate) fn load(&mut self, word: &Word<Line<P>, u64, Law<P>>, place: Place) -> u64
-        requires of { IsView P.meld (view_of self.old.name self.old) }
+        requires of { IsView P.meld (view_of P.pack self.old.name self.old) }
         requires within { IsWithin self.old.name.limits place }
         requires word { word.now ≡ word_named (book_of self.old.name) (place_offset self.old.name.limits place) }
-        ensures loads { Loads P.meld P.pack false place (view_of self.old.name self.old) (view_of self.old.name self.new) }
+        ensures loads { Loads P.meld P.pack false place (view_of P.pack self.old.name self.old) (view_of P.pack self.old.name self.new) }
         ensures found { result ≡ word_at P.pack self.new.seen place }
     {
         let nothing = Step {
             place,
             word: 0,
+            half: 0,
             by: Caller::Outside,
         };
         let mut offer: Offer<Line<P>, u64, Law<P>, Nothing> = self
@@ -103,11 +104,12 @@ impl<P: Packed> BookPass<P> {
         word: &Word<Line<P>, u64, Law<P>>,
         step: Step,
     ) -> Result<(), u64>
-        requires of { IsView P.meld (view_of self.old.name self.old) }
+        requires of { IsView P.meld (view_of P.pack self.old.name self.old) }
         requires within { IsWithin self.old.name.limits step.place }
         requires word { word.now ≡ word_named (book_of self.old.name) (place_offset self.old.name.limits step.place) }
         requires may { MaySet P.meld P.pack P.unpack self.old.name.limits self.old.seen step }
-        ensures { Sets P.meld (coding P.pack P.unpack) false step (view_of self.old.name self.old) result (view_of self.old.name self.new) }
+        requires winged { IsWingedIn (coding P.pack P.unpack) (view_of P.pack self.old.name self.old) step }
+        ensures { Sets P.meld (coding P.pack P.unpack) false step (view_of P.pack self.old.name self.old) result (view_of P.pack self.old.name self.new) }
     {
         let mut offer: Offer<Line<P>, u64, Law<P>, Nothing> = self
             .seen
@@ -132,10 +134,10 @@ impl<P: Packed> BookPass<P> {
 
     // The word of this block is loaded.
     pub(crate) fn load_block(&mut self, word: &Word<Line<P>, u64, Law<P>>, block: Block) -> u64
-        requires of { IsView P.meld (view_of self.old.name self.old) }
+        requires of { IsView P.meld (view_of P.pack self.old.name self.old) }
         requires within { IsBlockWithin self.old.name.limits block }
         requires word { word.now ≡ word_named (book_of self.old.name) (block_offset self.old.name.limits block) }
-        ensures { LoadsBlock P.meld P.pack false block result (view_of self.old.name self.old) (view_of self.old.name self.new) }
+        ensures { LoadsBlock P.meld P.pack false block result (view_of P.pack self.old.name self.old) (view_of P.pack self.old.name self.new) }
     {
         let mut offer: Offer<Line<P>, u64, Law<P>, Nothing> = self
             .seen
@@ -158,11 +160,12 @@ impl<P: Packed> BookPass<P> {
         block: Block,
         said: u64,
     ) -> Result<(), u64>
-        requires of { IsView P.meld (view_of self.old.name self.old) }
+        requires of { IsView P.meld (view_of P.pack self.old.name self.old) }
         requires within { IsBlockWithin self.old.name.limits block }
         requires word { word.now ≡ word_named (book_of self.old.name) (block_offset self.old.name.limits block) }
         requires may { IsBlock P.meld P.pack self.old.name.limits.ranks self.old.seen block said }
-        ensures { Caches P.meld false block said (view_of self.old.name self.old) result (view_of self.old.name self.new) }
+        requires winged { IsSpreadBlock (view_of P.pack self.old.name self.old) block }
+        ensures { Caches P.meld false block said (view_of P.pack self.old.name self.old) result (view_of P.pack self.old.name self.new) }
     {
         let mut offer: Offer<Line<P>, u64, Law<P>, Nothing> = self
             .seen
@@ -185,6 +188,64 @@ impl<P: Packed> BookPass<P> {
         if stood == 0 { Ok(()) } else { Err(stood) }
     }
 
+    // This wing is loaded.
+    pub(crate) fn load_wing(&mut self, word: &Word<Line<P>, u64, Law<P>>, wing: Wing) -> u64
+        requires of { IsView P.meld (view_of P.pack self.old.name self.old) }
+        requires within { IsWingWithin self.old.name.limits wing }
+        requires word { word.now ≡ word_named (book_of self.old.name) (wing_offset self.old.name.limits wing) }
+        requires stands { IsSpread (view_of P.pack self.old.name self.old) wing }
+        ensures { LoadsWing P.meld P.pack false wing result (view_of P.pack self.old.name self.old) (view_of P.pack self.old.name self.new) }
+    {
+        let mut offer: Offer<Line<P>, u64, Law<P>, Nothing> = self
+            .seen
+            .plain::<Nothing, Wing, LookWing<P>>(&wing);
+        let found = word.load::<LookWing<P>, Nothing>(&mut self.seen, &mut offer);
+        let loads = true;
+        let last = Last {
+            at: Site::Wing(wing),
+            word: found,
+            load: loads,
+        };
+        self.trail = self.trail.and(&last, &loads);
+        found
+    }
+
+    // This wing is set, if it is 0.
+    pub(crate) fn set_wing(
+        &mut self,
+        word: &Word<Line<P>, u64, Law<P>>,
+        wing: Wing,
+        upper: u64,
+    ) -> Result<(), u64>
+        requires of { IsView P.meld (view_of P.pack self.old.name self.old) }
+        requires within { IsWingWithin self.old.name.limits wing }
+        requires word { word.now ≡ word_named (book_of self.old.name) (wing_offset self.old.name.limits wing) }
+        requires may { MaySetWing P.meld P.pack (view_of P.pack self.old.name self.old) wing upper }
+        ensures { SetsWing P.meld false wing upper (view_of P.pack self.old.name self.old) result (view_of P.pack self.old.name self.new) }
+    {
+        let beside = Beside::Wing { wing, word: upper };
+        let mut offer: Offer<Line<P>, u64, Law<P>, Nothing> = self
+            .seen
+            .plain::<Nothing, Beside, AddWing<P>>(&beside);
+        let mut pen = self.seen.no_pen();
+        let before = word.compare_exchange::<AddWing<P>, Nothing>(
+            0,
+            upper,
+            &mut self.seen,
+            &mut offer,
+            &mut pen,
+        );
+        let stands = if before == 0 { upper } else { before };
+        let loads = false;
+        let last = Last {
+            at: Site::Wing(wing),
+            word: stands,
+            load: loads,
+        };
+        self.trail = self.trail.and(&last, &loads);
+        if before == 0 { Ok(()) } else { Err(before) }
+    }
+
     // All that was seen.
     pub(crate) fn told(&self) -> BookTold<P>
         ensures name { result.name ≡ self.now.name }
@@ -198,9 +259,9 @@ impl<P: Packed> BookPass<P> {
 
     // What was told is seen, too.
     pub(crate) fn learn(&mut self, told: &BookTold<P>)
-        requires of { IsView P.meld (view_of self.old.name self.old) }
+        requires of { IsView P.meld (view_of P.pack self.old.name self.old) }
         requires told { told.now.name ≡ self.old.name }
-        ensures { Learns P.meld false told.now (view_of self.old.name self.old) (view_of self.old.name self.new) }
+        ensures { Learns P.meld false told.now (view_of P.pack self.old.name self.old) (view_of P.pack self.old.name self.new) }
     {
         self.seen.learn(&told.seen);
     }

@@ -4,7 +4,7 @@ use crate::line::Line;
 use logbook::{Gain, Opening, Plain, Play, Rule};
 use std::marker::PhantomData;
 use ulfm_laws::meld::Packed;
-use ulfm_model::block::Block;
+use ulfm_model::block::{Beside, Block, Wing};
 use ulfm_model::limits::Limits;
 use ulfm_words::Step;
 
@@ -107,9 +107,52 @@ impl<P: Packed> Play<Line<P>, u64> for AddBlock<P> {
 /// What it asks for: the line of the block.
 impl<P: Packed> Plain<Block, Line<P>, u64> for AddBlock<P> {
     ghost use Rattle.std.specs.Prelude.{None};
-    ghost use Rattle.ulfm_book.specs.declared.line.Line.TheVariants.{Cached};
+    ghost use Rattle.ulfm_model.specs.declared.block.Beside.{Beside as BesideOf};
+    ghost use Rattle.ulfm_book.specs.declared.line.Line.TheVariants.{Kept};
 
-    ghost ask = { λ b. Cached b };
+    ghost ask = { λ b. Kept (BesideOf.Block b) };
 
     ghost state = { λ b. None };
+}
+
+/// A load of a wing.
+pub(crate) struct LookWing<P: Packed> {
+    of: PhantomData<P>,
+}
+
+impl<P: Packed> Play<Line<P>, u64> for LookWing<P> {
+    ghost use Rattle.ulfm_book.specs.Rules.{LooksWing};
+
+    ghost then = { LooksWing P.meld P.pack };
+}
+
+/// A load asks for no line.
+impl<P: Packed> Plain<Wing, Line<P>, u64> for LookWing<P> {
+    ghost use Rattle.std.specs.Prelude.{None};
+    ghost use Rattle.ulfm_book.specs.Logs.{line_of};
+
+    ghost ask = { λ x. line_of None };
+
+    ghost state = { λ x. None };
+}
+
+/// An exchange of a wing, which adds the wing where it wins.
+pub(crate) struct AddWing<P: Packed> {
+    of: PhantomData<P>,
+}
+
+impl<P: Packed> Play<Line<P>, u64> for AddWing<P> {
+    ghost use Rattle.ulfm_book.specs.Rules.{AddsWing};
+
+    ghost then = { AddsWing P.meld };
+}
+
+/// What it asks for: the line of the wing.
+impl<P: Packed> Plain<Beside, Line<P>, u64> for AddWing<P> {
+    ghost use Rattle.std.specs.Prelude.{None};
+    ghost use Rattle.ulfm_book.specs.declared.line.Line.TheVariants.{Kept};
+
+    ghost ask = { λ x. Kept x };
+
+    ghost state = { λ x. None };
 }

@@ -1,29 +1,30 @@
 //! The words of a world as threads share them: a row in memory, with the steps that `ulfm_words` asks of words.
 ghost use Rattle.std.specs.Prelude.{◌≡◌, true, false, IfOk, IfErr};
 ghost use Rattle.ulfm_model.specs.Blocks.{IsBlockWithin};
-ghost use Rattle.ulfm_model.specs.Words.{MayOpen, size_of};
-ghost use Rattle.ulfm_words.specs.Places.{IsWithin};
+ghost use Rattle.ulfm_model.specs.Words.{MayOpen};
+ghost use Rattle.ulfm_words.specs.Places.{IsWingWithin, IsWithin};
 ghost use Rattle.ulfm_book.specs.Rules.{IsFault, book_of, word_named};
-ghost use Rattle.ulfm_book.specs.Layout.{block_offset, row_length, place_offset};
+ghost use Rattle.ulfm_book.specs.Layout.{block_offset, row_length, place_offset, wing_offset};
 
 use crate::line::Line;
 use crate::pass::{BookPass, BookTold};
 use crate::rule::{Law, Opens};
-use crate::seats::{Starts, block_in_row, place_in_row, starts_in};
+use crate::seats::{Starts, block_in_row, place_in_row, starts_in, wing_in_row};
 use logbook::{Seen, Start, Word};
 use std::alloc::{AllocError, Allocator, Global};
 use std::marker::Model;
 use ulfm_laws::meld::Packed;
-use ulfm_model::block::Block;
+use ulfm_model::block::{Block, Wing};
 use ulfm_model::limits::{Limits, OpenFault};
 use ulfm_model::place::Place;
 use ulfm_words::{OpenWords, Step, Words};
 
-/// The words of a world, shared by threads: eight bytes each. All passes have seen beginnings of one history. Contracts see
-/// the words as their name.
+/// The words of a world, shared by threads: eight bytes each. A slot and a block have a second word, the wing, with the upper
+/// half of the payload. All passes have seen beginnings of one history. Contracts see the words as their name.
 #[derive(Drop)]
 pub struct BookWords<P: Packed, A: Allocator = Global> {
-    // One for each place, in the order of `place_in_row`, and then one for each block, in that of `block_in_row`.
+    // One for each place, in the order of `place_in_row`, and then one for each block, in that of `block_in_row`. The wing of a
+    // slot or of a block stands right behind its word.
     words: Vec<Word<Line<P>, u64, Law<P>>, A>,
     limits: Limits,
     starts: Starts,
@@ -33,11 +34,11 @@ pub struct BookWords<P: Packed, A: Allocator = Global> {
 
 impl<P: Packed, A: Allocator> Model for BookWords<P, A> {
     ghost use Rattle.std.specs.Prelude.{◌≡◌, ◌*◌, ◌<◌, ℕ, [], slice_get, vec_len, Some};
-    ghost use Rattle.ulfm_model.specs.Words.{MayOpen, size_of};
+    ghost use Rattle.ulfm_model.specs.Words.{MayOpen};
     ghost use Rattle.ulfm_words.specs.Steps.{Name};
     ghost use Rattle.ulfm_book.specs.Logs.{log_of};
     ghost use Rattle.ulfm_book.specs.Rules.{name_of, word_named};
-    ghost use Rattle.ulfm_book.specs.Layout.{arrivals_from, row_length, slots_from};
+    ghost use Rattle.ulfm_book.specs.Layout.{arrivals_from, blocks_from, row_length, slots_from};
 
     ghost Value = { Name };
 
@@ -46,7 +47,7 @@ impl<P: Packed, A: Allocator> Model for BookWords<P, A> {
     ghost invariant = { λ w. MayOpen w.limits × (w.start.log ≡ log_of w.limits) × (vec_len w.words ≡ row_length w.limits)
         × ((key : ℕ) → key < row_length w.limits → slice_get w.words.items key ≡ Some (word_named w.start.book key))
         × (w.starts.slots ≡ slots_from w.limits) × (w.starts.arrivals ≡ arrivals_from w.limits)
-        × (w.starts.blocks ≡ size_of w.limits) };
+        × (w.starts.blocks ≡ blocks_from w.limits) };
 }
 
 impl<P: Packed, A: Allocator> BookWords<P, A> {
@@ -74,7 +75,8 @@ impl<P: Packed, A: Allocator> BookWords<P, A> {
         requires { MayOpen limits }
         ensures { IfOk result (λ w. w.limits ≡ limits) }
     {
-        let size = limits.size() as usize + 2 * limits.rounds as usize * limits.comms as usize;
+        let starts = starts_in(limits);
+        let size = starts.blocks + 4 * (limits.rounds as usize * limits.comms as usize);
         let (start, mut pens) = Seen::open_row::<Limits, Opens>(&limits, Start::alone(), size);
         let mut words = Vec::with_capacity(alloc, size)?;
         for _i in 0..size {
@@ -84,7 +86,7 @@ impl<P: Packed, A: Allocator> BookWords<P, A> {
         Ok(BookWords {
             words,
             limits,
-            starts: starts_in(limits),
+            starts,
             start,
         })
     }
@@ -103,6 +105,14 @@ impl<P: Packed, A: Allocator> BookWords<P, A> {
         ensures { result.now ≡ word_named (book_of self.now) (block_offset self.now.limits block) }
     {
         &self.words[block_in_row(block, self.limits, self.starts)]
+    }
+
+    // The word of a wing.
+    fn wing_word(&self, wing: Wing) -> &Word<Line<P>, u64, Law<P>>
+        requires { IsWingWithin self.now.limits wing }
+        ensures { result.now ≡ word_named (book_of self.now) (wing_offset self.now.limits wing) }
+    {
+        &self.words[wing_in_row(wing, self.limits, self.starts)]
     }
 }
 
@@ -133,6 +143,14 @@ impl<P: Packed, A: Allocator + Copy + Drop> Words<P, A> for BookWords<P, A> {
 
     fn cache(&self, pass: &mut BookPass<P>, block: Block, word: u64) -> Result<(), u64> {
         pass.cache(self.block_word(block), block, word)
+    }
+
+    fn load_wing(&self, pass: &mut BookPass<P>, wing: Wing) -> u64 {
+        pass.load_wing(self.wing_word(wing), wing)
+    }
+
+    fn set_wing(&self, pass: &mut BookPass<P>, wing: Wing, word: u64) -> Result<(), u64> {
+        pass.set_wing(self.wing_word(wing), wing, word)
     }
 
     fn steps_made(&self, pass: &BookPass<P>) -> u64 {

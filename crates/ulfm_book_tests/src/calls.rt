@@ -16,7 +16,7 @@ type Reply = Result<Polled<FlagAnd>, Refusal>;
 /// A flag with all bits but this one.
 fn all_but(bit: u16) -> FlagAnd {
     FlagAnd {
-        bits: !(1 << (u32::from(bit) % 32)),
+        bits: !(1 << (u32::from(bit) % 64)),
     }
 }
 
@@ -127,7 +127,9 @@ fn agree_on_threads(rt: HostRuntime) -> Result<(), Fail> {
     let (_, all) = open(rt.alloc(), 4)?;
     let started = start_all(&rt, all)?;
     let agreed = Polled::Agreed {
-        value: FlagAnd { bits: 0xffff_fff0 },
+        value: FlagAnd {
+            bits: 0xffff_ffff_ffff_fff0,
+        },
         failed: 0,
         raised: false,
     };
@@ -177,7 +179,9 @@ fn read_back(rt: HostRuntime) -> Result<(), Fail> {
     let (started, reply) = start_then_poll(&rt, starter, reader);
     assert_eq!(rt; started, Ok(()));
     let agreed = Polled::Agreed {
-        value: FlagAnd { bits: 0xffff_fffc },
+        value: FlagAnd {
+            bits: 0xffff_ffff_ffff_fffc,
+        },
         failed: 0,
         raised: false,
     };

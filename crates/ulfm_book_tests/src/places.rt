@@ -24,12 +24,12 @@ impl<'a, P: Packed> Model for Setter<'a, P> {
 
     ghost view = { λ s. s.words.now };
 
-    ghost invariant = { λ s. IsView P.meld (view_of s.words.now s.pass) };
+    ghost invariant = { λ s. IsView P.meld (view_of P.pack s.words.now s.pass) };
 }
 
 impl<'a, P: Packed> Setter<'a, P> {
     fn new(words: &'a BookWords<P>, pass: BookPass<P>) -> Setter<'a, P>
-        requires { IsView P.meld (view_of words.now pass) }
+        requires { IsView P.meld (view_of P.pack words.now pass) }
     {
         Setter { words, pass }
     }

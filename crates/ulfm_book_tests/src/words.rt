@@ -18,9 +18,9 @@ const FIRST: Place = Place::List { index: 0 };
 
 const WORLD: Place = Place::Revoked { comm: 0 };
 
-/// How many words the largest world of 1,024 ranks has: its failures, two of its communicator, two of each rank's rounds, and two blocks
-/// of each round.
-const LARGEST: usize = 4_197_376;
+/// How many words the largest world of 1,024 ranks has: its failures, two of its communicator, three of each rank's rounds, and two for
+/// each of the two blocks of each round.
+const LARGEST: usize = 6_297_598;
 
 /// Limits of one communicator.
 pub(crate) fn limits(ranks: u16, rounds: u16) -> Limits
@@ -35,14 +35,15 @@ pub(crate) fn limits(ranks: u16, rounds: u16) -> Limits
 
 /// Declares a rank in the first entry of the list of failures.
 fn declare<P: Packed>(words: &BookWords<P>, pass: &mut BookPass<P>, rank: u16) -> Result<(), u64>
-    requires of { IsView P.meld (view_of words.now pass.old) }
+    requires of { IsView P.meld (view_of P.pack words.now pass.old) }
     requires rank { rank < words.now.limits.ranks }
-    ensures of { IsView P.meld (view_of words.now pass.new) }
+    ensures of { IsView P.meld (view_of P.pack words.now pass.new) }
     ensures set { 0 < word_at P.pack pass.new.seen (ListAt 0) }
 {
     let step = Step {
         place: FIRST,
         word: u64::from(rank) + 1,
+        half: 0,
         by: Caller::Outside,
     };
     words.set_once(pass, step)
@@ -54,13 +55,14 @@ pub(crate) fn revoke<P: Packed>(
     pass: &mut BookPass<P>,
     rank: u16,
 ) -> Result<(), u64>
-    requires of { IsView P.meld (view_of words.now pass.old) }
-    ensures of { IsView P.meld (view_of words.now pass.new) }
+    requires of { IsView P.meld (view_of P.pack words.now pass.old) }
+    ensures of { IsView P.meld (view_of P.pack words.now pass.new) }
     ensures set { 0 < word_at P.pack pass.new.seen (RevokedAt 0) }
 {
     let step = Step {
         place: WORLD,
         word: 1,
+        half: 0,
         by: Caller::Rank(rank),
     };
     words.set_once(pass, step)
@@ -74,14 +76,14 @@ fn declare_then_load<P: Packed + Send, R: Threads>(
     reader: BookPass<P>,
     rank: u16,
 ) -> u64
-    requires writer { IsView P.meld (view_of words.now writer) }
-    requires reader { IsView P.meld (view_of words.now reader) }
+    requires writer { IsView P.meld (view_of P.pack words.now writer) }
+    requires reader { IsView P.meld (view_of P.pack words.now reader) }
     requires rank { rank < words.now.limits.ranks }
 {
     let (_, _) = join(
         rt,
         move || -> bool
-            requires { IsView P.meld (view_of words.now writer) × (rank < words.now.limits.ranks) }
+            requires { IsView P.meld (view_of P.pack words.now writer) × (rank < words.now.limits.ranks) }
         {
             let mut pass = writer;
             declare(words, &mut pass, rank).is_ok()
@@ -91,7 +93,7 @@ fn declare_then_load<P: Packed + Send, R: Threads>(
     let (word, _) = join(
         rt,
         move || -> u64
-            requires { IsView P.meld (view_of words.now reader) × (0 < words.now.limits.ranks) }
+            requires { IsView P.meld (view_of P.pack words.now reader) × (0 < words.now.limits.ranks) }
         {
             let mut pass = reader;
             words.load(&mut pass, FIRST)
@@ -110,16 +112,16 @@ fn learn_of_both<P: Packed + Send, R: Threads>(
     mut learner: BookPass<P>,
     rank: u16,
 ) -> (u64, u64)
-    requires one { IsView P.meld (view_of words.now one) }
-    requires two { IsView P.meld (view_of words.now two) }
-    requires learner { IsView P.meld (view_of words.now learner) }
+    requires one { IsView P.meld (view_of P.pack words.now one) }
+    requires two { IsView P.meld (view_of P.pack words.now two) }
+    requires learner { IsView P.meld (view_of P.pack words.now learner) }
     requires rank { rank < words.now.limits.ranks }
     ensures { (0 < result.0) × (0 < result.1) }
 {
     let (first, second) = join(
         rt,
         move || -> BookTold<P>
-            requires { IsView P.meld (view_of words.now one) × (rank < words.now.limits.ranks) }
+            requires { IsView P.meld (view_of P.pack words.now one) × (rank < words.now.limits.ranks) }
             ensures { (result.name ≡ words.entry.now) × (0 < word_at P.pack result.seen (ListAt 0)) }
         {
             let mut pass = one;
@@ -127,7 +129,7 @@ fn learn_of_both<P: Packed + Send, R: Threads>(
             words.told(&pass)
         },
         move || -> BookTold<P>
-            requires { IsView P.meld (view_of words.now two) }
+            requires { IsView P.meld (view_of P.pack words.now two) }
             ensures { (result.name ≡ words.entry.now) × (0 < word_at P.pack result.seen (RevokedAt 0)) }
         {
             let mut pass = two;

@@ -6,17 +6,20 @@ use Rattle.ulfm_laws.specs.declared.flag_and.FlagAnd.{FlagAnd}
 use Rattle.ulfm_model.specs.History.{failed}
 use Rattle.ulfm_model.specs.declared.{call.Call.{Call}, call.Call.TheVariants.{Agree, GetFailed, Shrink}, refusal.Refusal.{Refusal}, reply.Reply.{Reply}}
 use Rattle.ulfm_model.specs.declared.reply.Reply.TheVariants.{Started}
-use Rattle.ulfm_words.specs.Steps.{View}
 use Rattle.ulfm_comm.specs.Calls.{reply_of}
 use Rattle.ulfm_comm.specs.Excludes.{Excludes}
 use Rattle.ulfm_comm.specs.Fails.{Fails, declared}
 use Rattle.ulfm_comm.specs.declared.calls.polled.Polled.{Polled}
-use Rattle.ulfm_member.specs.Members.{Membership, MemberCalls, MemberFails, MemberGets, MemberMisses, MemberPolls}
+use Rattle.ulfm_member.specs.Members.{Membership, MemberCalls, MemberFails, MemberGets, MemberMisses, MemberPolls, Viewing, view_in}
 use Rattle.ulfm_c.specs.Codes.{code}
 use Rattle.ulfm_c.specs.Written.{Lent, Lists, WritesPolled}
 use Rattle.ulfm_c.specs.declared.polled.PolledReply.{PolledReply}
 use Rattle.ulfm_c.specs.declared.party.Party.{Party}
 use Rattle.ulfm_c.specs.declared.party.Party.TheVariants.{Rank, Outside}
+
+-- a flag is packed into words as its bits
+abbrev pub flag_pack : FlagAnd → ℕ
+flag_pack flag = flag.bits
 
 -- a call by what the handle holds: where that is nothing, the code is 18, and it holds nothing still
 abbrev pub HandleCalls : (Party → Party → ℤ → Type 0) → Option Party → Option Party → ℤ → Type 0
@@ -33,7 +36,7 @@ PartyCalls calls (Outside old) new answered = (new ≡ Outside old) × (answered
 -- a call whose reply has no content but that it was made
 pub record RankDoes (asked : ℕ → Call FlagAnd) (told : Reply FlagAnd) (old new : Membership FlagAnd) (answered : ℤ) : Type 0 where
   pub reply : Result (Unit {0}) Refusal
-  pub calls : MemberCalls flag_meld false (asked old.own.number) old (reply_of (λ _. told) reply) new
+  pub calls : MemberCalls flag_meld flag_pack false (asked old.own.number) old (reply_of (λ _. told) reply) new
   pub code_is : answered ≡ code reply
 
 -- an agree, on the flag with these bits
@@ -45,21 +48,21 @@ pub record RankAgrees (comm bits : ℕ) (old new : Membership FlagAnd) (answered
 -- A shrink. Where it starts, its outcome excludes the failures that the rank knew.
 pub record RankShrinks (comm : ℕ) (old new : Membership FlagAnd) (answered : ℤ) : Type 0 where
   pub reply : Result (Unit {0}) Refusal
-  pub calls : MemberCalls flag_meld false (Shrink old.own.number comm) old (reply_of (λ _. Started) reply) new
+  pub calls : MemberCalls flag_meld flag_pack false (Shrink old.own.number comm) old (reply_of (λ _. Started) reply) new
   pub code_is : answered ≡ code reply
   pub excludes : IfOk reply (λ _. Excludes flag_meld old.view.words.limits old.view.pass.seen new.view.pass.seen old.own comm)
 
 -- a call whose answer is a number or a truth value, which is written out where the code is 0
 pub record RankTells {X : Type 0} (asked : ℕ → Call FlagAnd) (told : X → Reply FlagAnd) (out : X) (old new : Membership FlagAnd) (answered : ℤ) : Type 0 where
   pub reply : Result X Refusal
-  pub calls : MemberCalls flag_meld false (asked old.own.number) old (reply_of told reply) new
+  pub calls : MemberCalls flag_meld flag_pack false (asked old.own.number) old (reply_of told reply) new
   pub code_is : answered ≡ code reply
   pub written : IfOk reply (λ x. out ≡ x)
 
 -- a poll, whose answer is written out where the code is 0
 pub record RankPolls (comm : ℕ) (out : PolledReply) (old new : Membership FlagAnd) (answered : ℤ) : Type 0 where
   pub reply : Result (Polled FlagAnd) Refusal
-  pub polls : MemberPolls flag_meld false comm old reply new
+  pub polls : MemberPolls flag_meld flag_pack false comm old reply new
   pub code_is : answered ≡ code reply
   pub written : IfOk reply (λ polled. WritesPolled polled out)
 
@@ -67,7 +70,7 @@ pub record RankPolls (comm : ℕ) (out : PolledReply) (old new : Membership Flag
 pub record RankGets (comm : ℕ) (out : Lent) (old new : Membership FlagAnd) (answered : ℤ) : Type 0 where
   pub reply : Result (Unit {0}) Refusal
   pub found : List ℕ
-  pub gets : MemberGets flag_meld false (GetFailed old.own.number comm) old (length found) reply new
+  pub gets : MemberGets flag_meld flag_pack false (GetFailed old.own.number comm) old (length found) reply new
   pub group : IfOk reply (λ _. found ≡ failed old.view.words.limits.ranks new.view.pass.seen comm)
   pub code_is : answered ≡ code reply
   pub written : IfOk reply (λ _. Lists found out)
@@ -76,21 +79,21 @@ pub record RankGets (comm : ℕ) (out : Lent) (old new : Membership FlagAnd) (an
 pub record RankMisses (comm : ℕ) (out : Lent) (old new : Membership FlagAnd) (answered : ℤ) : Type 0 where
   pub reply : Result (Unit {0}) Refusal
   pub missing : List ℕ
-  pub misses : MemberMisses flag_meld false comm old reply missing new
+  pub misses : MemberMisses flag_meld flag_pack false comm old reply missing new
   pub code_is : answered ≡ code reply
   pub written : IfOk reply (λ _. Lists missing out)
 
 -- a declaration through a rank's handle
 pub record RankFails (rank : ℕ) (first : Bool) (old new : Membership FlagAnd) (answered : ℤ) : Type 0 where
   pub reply : Result Bool Refusal
-  pub fails : MemberFails flag_meld false rank old (reply_of declared reply) new
+  pub fails : MemberFails flag_meld flag_pack false rank old (reply_of declared reply) new
   pub code_is : answered ≡ code reply
   pub written : IfOk reply (λ b. first ≡ b)
 
 -- a declaration through the outside's handle
-pub record OutsideFails (rank : ℕ) (first : Bool) (old new : View FlagAnd) (answered : ℤ) : Type 0 where
+pub record OutsideFails (rank : ℕ) (first : Bool) (old new : Viewing FlagAnd) (answered : ℤ) : Type 0 where
   pub reply : Result Bool Refusal
-  pub fails : Fails flag_meld false rank old (reply_of declared reply) new
+  pub fails : Fails flag_meld false rank (view_in flag_pack old) (reply_of declared reply) (view_in flag_pack new)
   pub code_is : answered ≡ code reply
   pub written : IfOk reply (λ b. first ≡ b)
 

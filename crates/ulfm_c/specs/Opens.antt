@@ -5,9 +5,10 @@ use Rattle.ulfm_laws.specs.Flags.{flag_meld}
 use Rattle.ulfm_laws.specs.declared.flag_and.FlagAnd.{FlagAnd}
 use Rattle.ulfm_model.specs.{History.{first_ranks}, Records.{new_record}}
 use Rattle.ulfm_model.specs.declared.{limits.Limits.{Limits}, limits.OpenFault.{OpenFault}, limits.OpenFault.TheVariants.{OutOfRange, TooLarge, OutOfMemory}}
-use Rattle.ulfm_words.specs.Steps.{Name, View}
+use Rattle.ulfm_words.specs.Steps.{Name}
 use Rattle.ulfm_book.specs.Rules.{IsFault}
-use Rattle.ulfm_member.specs.{Members.{IsNewMember, Membership}, Outsides.{IsNewOutside}}
+use Rattle.ulfm_member.specs.{Members.{IsNewMember, Membership, Viewing}, Outsides.{IsNewOutside}}
+use Rattle.ulfm_c.specs.Calls.{flag_pack}
 use Rattle.ulfm_c.specs.declared.handle.Handle.{Handle}
 use Rattle.ulfm_c.specs.declared.party.Party.{Party}
 use Rattle.ulfm_c.specs.declared.party.Party.TheVariants.{Rank, Outside}
@@ -24,12 +25,12 @@ parties_of members = map (λ m. Some (Rank m)) members
 pub record Opens (limits : Limits) (outside : Option Party) (parties : List (Option Party)) : Type 0 where
   pub words : Name
   pub limits_are : words.limits ≡ limits
-  pub view : View FlagAnd
+  pub view : Viewing FlagAnd
   pub outside_is : outside ≡ Some (Outside view)
-  pub outside_new : IsNewOutside flag_meld words view
+  pub outside_new : IsNewOutside flag_meld flag_pack words view
   pub members : List (Membership FlagAnd)
   pub parties_are : parties ≡ parties_of members
-  pub members_new : AllByRecursion (IsNewMember flag_meld words) members
+  pub members_new : AllByRecursion (IsNewMember flag_meld flag_pack words) members
   pub in_order : map (λ m. m.own) members ≡ map (new_record limits) (first_ranks limits.ranks)
 
 -- the code of a fault

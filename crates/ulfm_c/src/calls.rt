@@ -76,8 +76,8 @@ pub extern "C" fn ulfm_ibarrier(handle: &mut Handle, comm: u16) -> i32
 /// made. For a barrier: 10 where the communicator is revoked; 11 where it isn't, and a member that is known to have failed is missing. 7
 /// to 11 end the request. After 14 it is open as before, and may be polled again.
 ///
-/// With N ranks, of which the rank has seen v declared, n members and M communicators, the poll of an agree makes N - v + 3n + 2 steps at
-/// most, that of a shrink N - v + 3n + 2M + 1, and that of a barrier N - v + n + 1, whatever the others do.
+/// With N ranks, of which the rank has seen v declared, n members and M communicators, the poll of an agree makes N - v + 5n + 4 steps at
+/// most, that of a shrink N - v + 5n + 2M + 3, and that of a barrier N - v + n + 1, whatever the others do.
 #[unsafe(no_mangle)]
 pub extern "C" fn ulfm_poll(handle: &mut Handle, comm: u16, reply: &mut PolledReply) -> i32
     ensures calls { HandleCalls (PartyCalls (RankPolls comm reply.new)) handle.old.party handle.new.party result }

@@ -4,8 +4,8 @@ ghost use Rattle.ulfm_c.specs.Written.{WritesPolled};
 use ulfm_comm::Polled;
 use ulfm_laws::FlagAnd;
 
-/// A flag, as C has it: the bits of a contribution.
-pub type Flag = u32;
+/// A flag, as C has it: the 64 bits of a contribution.
+pub type Flag = u64;
 
 /// The request stays open.
 pub const PENDING: u32 = 0;
@@ -31,7 +31,7 @@ pub struct PolledReply {
     pub failed: u16,
     /// Of `SHRUNK`: the new communicator.
     pub comm: u16,
-    /// Of `SHRUNK`: its context id, 0 to 31.
+    /// Of `SHRUNK`: its context id, 0 to 63.
     pub context: u16,
     /// Of `SHRUNK`: how many members it has.
     pub size: u16,

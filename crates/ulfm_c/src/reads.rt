@@ -53,7 +53,7 @@ pub extern "C" fn ulfm_members(
     }
 }
 
-/// The context id of a communicator, 0 to 31. No two communicators that a rank holds have the same id. 2 where this rank doesn't hold the
+/// The context id of a communicator, 0 to 63. No two communicators that a rank holds have the same id. 2 where this rank doesn't hold the
 /// communicator.
 #[unsafe(no_mangle)]
 pub extern "C" fn ulfm_context(handle: &mut Handle, comm: u16, context: &mut u16) -> i32

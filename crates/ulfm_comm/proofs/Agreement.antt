@@ -1,5 +1,9 @@
 -- The poll of an agreement, step by step.
 use Rattle.std.proofs.Common.{◌≡◌, ℕ, ◌<◌, ◌≤◌, ◌++◌, Bool, true, false, List, [], ◌∷◌, length, filter, Some, nat_lt, refl, ap, ap₂, sym, ◌∙◌, subst, arith}
+use Rattle.std.proofs.Common.{is_some}
+use Rattle.ulfm_model.specs.declared.block.Wing.{Wing}
+use Rattle.ulfm_steps.specs.Blocks.{HoldsHalf}
+use Rattle.ulfm_words.specs.Steps.{View}
 use Rattle.std.proofs.Common.{inr, IsTrue, if◌then◌else◌}
 use Rattle.ulfm_laws.specs.declared.{summary.Body.{Body}, summary.Body.TheVariants.{Unit as NoBody, Flag as OfFlags, Ctx as OfIds, Clash}}
 use Rattle.ulfm_laws.specs.declared.summary.Summary.{Summary}
@@ -9,11 +13,11 @@ use Rattle.ulfm_model.specs.declared.{reply.Reply.{Reply}, reply.Reply.TheVarian
 use Rattle.ulfm_model.specs.{Answers.{closed, traits_of}, History.{History, IsLegal, entries_by, failures, has, slot}, Records.{Fits, Held, Record, held_at}}
 use Rattle.ulfm_model.specs.{Runs.{Did}, Terms.{comm_of}}
 use Rattle.ulfm_model.proofs.Stable.{fits_stays}
-use Rattle.ulfm_words.specs.{Steps.{IsView, Name, Sight}, declared.step.Site.{Site}}
+use Rattle.ulfm_words.specs.{Steps.{IsView, Over, Sight}, declared.step.Site.{Site}}
 use Rattle.ulfm_model.specs.declared.place.Place.TheVariants.{Slot as SlotAt}
 use Rattle.ulfm_model.specs.declared.step_name.StepName.TheVariants as step
 use Rattle.ulfm_words.proofs.Trails.{did_none, did_prefix, did_wait}
-use Rattle.ulfm_words.specs.Steps.{view_of}
+use Rattle.ulfm_words.specs.Steps.{view_at}
 use Rattle.ulfm_steps.specs.declared.{mark_all.MarkAll.{MarkAll}, blocks.ReadBlocks.{ReadBlocks}, blocks.RoundBlocks.{RoundBlocks}}
 use Rattle.ulfm_steps.specs.Blocks.{BothTell, AtBlock, MayReadBlocks, block_at, is_whole, next_in_block, site_of, starts_at}
 use Rattle.ulfm_steps.specs.{Marks.{HasMarked as MarkedOn, IsAt, Marks, MayMarkAll, members_in}, Rounds.{IsMissing, IsRoundOf}, Turns.{IsStepAt}}
@@ -83,6 +87,10 @@ reading_begins {P} meld limits alone c shrinks k x old before mid now p blocks c
       at = starts meld now comm round x.group blocks some are unknown;
     } in
     subst (λ (r : ReadBlocks P). IsReading (frame meld limits alone) c shrinks r (moment old before) (moment mid now)) (sym (is ∙ ap (starts_at comm round blocks) size)) begun
+
+-- a reading that begins holds nothing of two words
+pub starts_half : {P : Type 0} (view : View P) (group : List ℕ) (reading : ReadBlocks P) (c k : ℕ) (blocks : RoundBlocks P) (n : ℕ) → reading ≡ starts_at c k blocks n → HoldsHalf view group reading
+starts_half view group reading c k blocks n is = rw is (record { first = tt; more = λ some. absurd (cc some); winged = λ set. absurd (cc set) })
 
 -- between two marks
 module _ {P : Type 0} (meld : P → P → P) (limits : Limits) (alone : Bool) (c : ℕ) (shrinks : Bool) (marks : MarkAll) (blocks : RoundBlocks P) (old : Record)
@@ -175,10 +183,10 @@ module _ {P : Type 0} (meld : P → P → P) (limits : Limits) (alone : Bool) (c
         }
 
 -- a call that stands between two marks, by what the code knows of the communicator
-module _ {P : Type 0} (meld : P → P → P) (name : Name) (asked : Call P) (marks : MarkAll) (blocks : RoundBlocks P) (shrinks : Bool) (group : List ℕ)
-    (own : Record) (now : Sight P) (of : IsView meld (view_of name now)) (y : Held) (w : ℕ) (found : held_at own w ≡ Some y) (w_is : w ≡ comm_of asked)
+module _ {P : Type 0} (meld : P → P → P) (name : Over P) (asked : Call P) (marks : MarkAll) (blocks : RoundBlocks P) (shrinks : Bool) (group : List ℕ)
+    (own : Record) (now : Sight P) (of : IsView meld (view_at name now)) (y : Held) (w : ℕ) (found : held_at own w ≡ Some y) (w_is : w ≡ comm_of asked)
     (members declared : List ℕ) (members_are : members ≡ y.group) (declared_are : declared ≡ own.seen) (alone : Bool) (old : Record) (before : Sight P)
-    (st : Stands meld alone (local old (view_of name before)) (record { asked = asked; phase = Marking marks blocks shrinks; group = group }) (local own (view_of name now))) where
+    (st : Stands meld alone (local old (view_at name before)) (record { asked = asked; phase = Marking marks blocks shrinks; group = group }) (local own (view_at name now))) where
   abbrev marking : IsMarking (frame meld name.limits alone) (comm_of asked) shrinks marks blocks (moment old before.seen) (moment own now.seen)
   marking = st.at.1
 
@@ -206,7 +214,7 @@ module _ {P : Type 0} (meld : P → P → P) (name : Name) (asked : Call P) (mar
 
   module _ (quiet : Bool) (only : IsTrue alone → IsTrue quiet) (after : Sight P) (next : MarkAll) (rank : next.rank ≡ marks.rank)
       (comm : next.comm ≡ marks.comm) (round : next.round ≡ marks.round) (at : IsAt members declared next.next next.known)
-      (marked : MarkedOn meld quiet marks (among members declared) next.next (view_of name now) (view_of name after)) where
+      (marked : MarkedOn meld quiet marks (among members declared) next.next (view_at name now) (view_at name after)) where
     at_next : IsAt marking.x.group own.seen next.next next.known
     at_next = subst (λ ms. IsAt ms own.seen next.next next.known) group_same (subst (λ s. IsAt members s next.next next.known) declared_are at)
 
@@ -216,11 +224,11 @@ module _ {P : Type 0} (meld : P → P → P) (name : Name) (asked : Call P) (mar
         (subst (λ s. members_in members s next.next ≡ members_in members s marks.next ++ marked.between) declared_are marked.members_are)
 
     -- more are left
-    pub marking_goes : next.next < length declared → Stands meld alone (local old (view_of name before)) (record {
+    pub marking_goes : next.next < length declared → Stands meld alone (local old (view_at name before)) (record {
       asked = asked;
       phase = Marking next blocks shrinks;
       group = group;
-    }) (local own (view_of name after))
+    }) (local own (view_at name after))
     unfolding marking_on
     marking_goes more =
         let on = marking_on meld name.limits alone (comm_of asked) shrinks marks blocks old before.seen own now.seen of.legal marking quiet only after.seen
@@ -240,7 +248,7 @@ module _ {P : Type 0} (meld : P → P → P) (name : Name) (asked : Call P) (mar
     -- none is left
     pub marking_reads : (reading : ReadBlocks P) (size : ℕ) → reading ≡ starts_at next.comm next.round blocks size → size ≡ length members
         → length declared ≤ next.next
-        → Stands meld alone (local old (view_of name before)) (record { asked = asked; phase = Reading reading shrinks; group = group }) (local own (view_of name after))
+        → Stands meld alone (local old (view_at name before)) (record { asked = asked; phase = Reading reading shrinks; group = group }) (local own (view_at name after))
     marking_reads reading size is size_is past =
         let ended = marking_ends meld name.limits alone (comm_of asked) shrinks marks blocks old before.seen own now.seen of.legal marking quiet only after.seen
         next.next marked.between members_next marked.marks.marks next.known at_next
@@ -256,6 +264,7 @@ module _ {P : Type 0} (meld : P → P → P) (name : Name) (asked : Call P) (mar
             reading_begins meld name.limits alone (comm_of asked) shrinks marks.round marking.x old before.seen own after.seen ended blocks next.comm next.round
                 size are marking.unknown reading is (comm ∙ marking.there) round
                 (size_is ∙ ap length group_same),
+            starts_half (view_at name after) _ reading next.comm next.round blocks size is,
           );
         }
 
@@ -291,20 +300,20 @@ module _ {P : Type 0} (meld : P → P → P) (limits : Limits) (alone : Bool) (c
         }
 
 -- the poll of an agreement that was read
-module _ {P : Type 0} (meld : P → P → P) (alone : Bool) (name : Name) (c k : ℕ) (old : Record) (before : Sight P) (mid : Record) (after : Sight P)
-    (fits : Fits meld name.limits before.seen old) (of : IsView meld (view_of name after)) (onward : before.steps ≤ after.steps) where
+module _ {P : Type 0} (meld : P → P → P) (alone : Bool) (name : Over P) (c k : ℕ) (old : Record) (before : Sight P) (mid : Record) (after : Sight P)
+    (fits : Fits meld name.limits before.seen old) (of : IsView meld (view_at name after)) (onward : before.steps ≤ after.steps) where
   abbrev polling : Call P
   polling = call.Poll old.number c
 
   -- one of its members is missing
   answers_pending : (shrinks : Bool) (x : Held) → PollHasMarked (frame meld name.limits alone) c (polled_round shrinks k) x (moment old before.seen) (moment mid after.seen) → before.steps < after.steps
-      → IsMissing after.last after.seen c k x.group → Answered meld alone polling (local old (view_of name before)) Pending (local mid (view_of name after))
+      → IsMissing after.last after.seen c k x.group → Answered meld alone polling (local old (view_at name before)) Pending (local mid (view_at name after))
   answers_pending shrinks x m in_call one =
       let limits = name.limits in
       let ended = poll_pending meld limits alone before.seen old mid c shrinks k x after.seen m one.rank mid one.member one.empty refl in
       let alive = not_marked meld limits alone before.seen old mid c shrinks k x after.seen m one.rank one.member one.empty in
       record {
-        ends = inr (calls_is meld alone name before after onward polling old Pending mid of fits ended);
+        ends = inr (calls_is meld alone name before after onward polling old Pending mid of fits (λ is no. absurd (cc (is, no))) ended);
         pending = λ is agrees. record {
           run = ended.run;
           at_end = ended.at_end;
@@ -325,25 +334,25 @@ module _ {P : Type 0} (meld : P → P → P) (alone : Bool) (name : Name) (c k :
   -- an agree is decided
   answers_agreed : (x : Held) → PollHasMarked (frame meld name.limits alone) c (polled_round false k) x (moment old before.seen) (moment mid after.seen) → (all : Summary P)
       → IsSummed meld after.seen c k x.group all → (new : Record) → new ≡ closed mid c → (reply : Reply P) → reply ≡ agreed_reply all all.body
-      → Answered meld alone polling (local old (view_of name before)) reply (local new (view_of name after))
+      → Answered meld alone polling (local old (view_at name before)) reply (local new (view_at name after))
   answers_agreed x m all read new left reply reply_is =
-      subst (λ (r : Reply P). Answered meld alone polling (local old (view_of name before)) r (local new (view_of name after))) (sym reply_is) (by_body all.body refl)
+      subst (λ (r : Reply P). Answered meld alone polling (local old (view_at name before)) r (local new (view_at name after))) (sym reply_is) (by_body all.body refl)
     where
-      mismatch : ((flag : P) → all.body ≡ OfFlags flag → ⊥) → Answered meld alone polling (local old (view_of name before)) (Refused Mismatch) (local new (view_of name after))
+      mismatch : ((flag : P) → all.body ≡ OfFlags flag → ⊥) → Answered meld alone polling (local old (view_at name before)) (Refused Mismatch) (local new (view_at name after))
       mismatch other =
           record {
-            ends = inr (calls_is meld alone name before after onward polling old (Refused Mismatch) new of fits
+            ends = inr (calls_is meld alone name before after onward polling old (Refused Mismatch) new of fits (λ is no. absurd (cc (is, no)))
                 (poll_mismatch meld name.limits alone before.seen old mid c k x after.seen m all new read other left));
             pending = λ is agrees. absurd (cc is);
           }
 
-      by_body : (body : Body P) → all.body ≡ body → Answered meld alone polling (local old (view_of name before)) (agreed_reply all body) (local new (view_of name after))
+      by_body : (body : Body P) → all.body ≡ body → Answered meld alone polling (local old (view_at name before)) (agreed_reply all body) (local new (view_at name after))
       by_body NoBody is = mismatch (λ flag same. absurd (cc (is, same)))
       by_body (OfFlags value) is =
           let count = all.known.count in
           let raised = nat_lt all.acked.count count in
           record {
-            ends = inr (calls_is meld alone name before after onward polling old (Agreed value count raised) new of fits
+            ends = inr (calls_is meld alone name before after onward polling old (Agreed value count raised) new of fits (λ is no. absurd (cc (is, no)))
                 (poll_agreed meld name.limits alone before.seen old mid c k x after.seen m all new read value is left));
             pending = λ same agrees. absurd (cc same);
           }
@@ -351,13 +360,13 @@ module _ {P : Type 0} (meld : P → P → P) (alone : Bool) (name : Name) (c k :
       by_body Clash is = mismatch (λ flag same. absurd (cc (is, same)))
 
 -- a call that reads its round's blocks, by what the code knows of the communicator
-module _ {P : Type 0} (meld : P → P → P) (name : Name) (asked : Call P) (reading : ReadBlocks P) (shrinks : Bool) (group : List ℕ) (own : Record)
+module _ {P : Type 0} (meld : P → P → P) (name : Over P) (asked : Call P) (reading : ReadBlocks P) (shrinks : Bool) (group : List ℕ) (own : Record)
     (now : Sight P) (y : Held) (w : ℕ) (found : held_at own w ≡ Some y) (w_is : w ≡ comm_of asked)
-    (members : List ℕ) (members_are : members ≡ y.group) (alone : Bool) (old : Record) (before : Sight P) (st : Stands meld alone (local old (view_of name before)) (record {
+    (members : List ℕ) (members_are : members ≡ y.group) (alone : Bool) (old : Record) (before : Sight P) (st : Stands meld alone (local old (view_at name before)) (record {
       asked = asked;
       phase = Reading reading shrinks;
       group = group;
-    }) (local own (view_of name now))) where
+    }) (local own (view_at name now))) where
   abbrev reads : IsReading (frame meld name.limits alone) (comm_of asked) shrinks reading (moment old before.seen) (moment own now.seen)
   reads = st.at.1
 
@@ -365,16 +374,17 @@ module _ {P : Type 0} (meld : P → P → P) (name : Name) (asked : Call P) (rea
   read_same = members_are ∙ ap (λ (z : Held). z.group) (same_held own (comm_of asked) w reads.x y w_is found reads.marked.held)
 
   -- the next one may be made
-  pub reading_may : IsView meld (view_of name now) → MayReadBlocks meld members (running reading (view_of name now))
+  pub reading_may : IsView meld (view_at name now) → MayReadBlocks meld members (running reading (view_at name now))
   reading_may of =
       record {
         of = of;
         round = subst (λ ms. IsRoundOf name.limits now.seen reading.comm reading.round ms) (sym read_same)
             (reading_round meld name.limits alone (comm_of asked) shrinks reading old before.seen own now.seen reads);
         at = subst (λ ms. AtBlock meld now.seen ms reading) (sym read_same) reads.at;
+        half = subst (λ ms. HoldsHalf (view_at name now) ms reading) (sym read_same) st.at.2;
       }
 
-  module _ (quiet : Bool) (only : IsTrue alone → IsTrue quiet) (after : Sight P) (of : IsView meld (view_of name after)) (did : Did quiet [] now.seen after.seen)
+  module _ (quiet : Bool) (only : IsTrue alone → IsTrue quiet) (after : Sight P) (of : IsView meld (view_at name after)) (did : Did quiet [] now.seen after.seen)
       (steps : now.steps ≤ after.steps) where
     marked_on : PollHasMarked (frame meld name.limits alone) (comm_of asked) (polled_round shrinks reading.round) reads.x (moment old before.seen) (moment own after.seen)
     marked_on = reading_marked meld name.limits alone (comm_of asked) shrinks reading old before.seen own now.seen reads quiet only after.seen did of.legal
@@ -382,26 +392,27 @@ module _ {P : Type 0} (meld : P → P → P) (name : Name) (asked : Call P) (rea
     module _ (next : ReadBlocks P) (comm : next.comm ≡ reading.comm) (round : next.round ≡ reading.round) where
       -- a member is missing
       pub reading_pends : now.steps < after.steps → IsMissing after.last after.seen next.comm next.round members
-          → Answered meld alone asked (local old (view_of name before)) Pending (local own (view_of name after))
+          → Answered meld alone asked (local old (view_at name before)) Pending (local own (view_at name after))
       reading_pends further missing =
           let there : IsMissing after.last after.seen (comm_of asked) reading.round reads.x.group =
           subst (λ ms. IsMissing after.last after.seen (comm_of asked) reading.round ms) read_same
           (subst (λ c. IsMissing after.last after.seen c reading.round members) (comm ∙ reads.there)
           (subst (λ k. IsMissing after.last after.seen next.comm k members) round missing)) in
-          subst (λ (a : Call P). Answered meld alone a (local old (view_of name before)) Pending (local own (view_of name after))) (sym st.at.0)
+          subst (λ (a : Call P). Answered meld alone a (local old (view_at name before)) Pending (local own (view_at name after))) (sym st.at.0)
           (answers_pending meld alone name (comm_of asked) reading.round old before own after st.fits of (omega (arith, st.onward, steps)) shrinks reads.x
           marked_on (omega (arith, st.onward, further)) there)
 
       -- more is left
-      pub reading_goes : AtBlock meld after.seen members next → Stands meld alone (local old (view_of name before)) (record { asked = asked; phase = Reading next shrinks; group = group }) (local own (view_of name after))
-      reading_goes at =
+      pub reading_goes : AtBlock meld after.seen members next → HoldsHalf (view_at name after) members next → Stands meld alone (local old (view_at name before)) (record { asked = asked; phase = Reading next shrinks; group = group }) (local own (view_at name after))
+      unfolding reading_on
+      reading_goes at half =
           let on = reading_on meld name.limits alone (comm_of asked) shrinks reading old before.seen own now.seen reads quiet only after.seen did of.legal next
           comm round (subst (λ ms. AtBlock meld after.seen ms next) read_same at) in
-          record { fits = st.fits; mine = st.mine; onward = omega (arith, st.onward, steps); at = (st.at.0, on) }
+          record { fits = st.fits; mine = st.mine; onward = omega (arith, st.onward, steps); at = (st.at.0, on, subst (λ ms. HoldsHalf (view_at name after) ms next) read_same half) }
 
       -- nothing is left: this is what all say
       pub reading_ends : (all : Summary P) → IsSummed meld after.seen next.comm next.round members all
-          → HasReadAll meld alone asked (polled_round shrinks next.round) all (local old (view_of name before)) (local own (view_of name after))
+          → HasReadAll meld alone asked (polled_round shrinks next.round) all (local old (view_at name before)) (local own (view_at name after))
       reading_ends all read =
           record {
             fits = st.fits;
@@ -418,26 +429,37 @@ pub reads_named : {P : Type 0} (members : List ℕ) (r : ReadBlocks P) (shrinks 
     → IsStepAt (site_of members r) (nat_lt r.read r.width) old new → MakesStep (next_step (Reading r shrinks)) rank c old new
 reads_named {P} members r shrinks rank c old new there one = go (nat_lt r.read r.width) one
   where
-    go : (b : Bool) → IsStepAt (if b then Site.Place (SlotAt r.comm r.round (next_in_block members r)) else Site.Block (block_at r.comm r.round r.side)) b old new
-        → MakesStep (Some (if b then step.Slot else step.Cache)) rank c old new
-    go true at = (r.round, next_in_block members r, subst (λ w. IsStepAt (Site.Place (SlotAt w r.round (next_in_block members r))) true old new) there at)
-    go false at = (r.round, r.side, subst (λ w. IsStepAt (Site.Block (block_at w r.round r.side)) false old new) there at)
+    member : (f : Bool) → IsStepAt (if f then Site.Wing (Wing.Slot r.comm r.round (next_in_block members r)) else Site.Place (SlotAt r.comm r.round (next_in_block members r))) true old new
+        → MakesStep (Some (if f then step.Wing else step.Slot)) rank c old new
+    member true at = (Wing.Slot r.comm r.round (next_in_block members r), true, (there, λ no. absurd (cc no)), at)
+    member false at = (r.round, next_in_block members r, subst (λ w. IsStepAt (Site.Place (SlotAt w r.round (next_in_block members r))) true old new) there at)
+
+    block : (w : Bool) → IsStepAt (if w then Site.Block (block_at r.comm r.round r.side) else Site.Wing (Wing.Block (block_at r.comm r.round r.side))) false old new
+        → MakesStep (Some (if w then step.Cache else step.Wing)) rank c old new
+    block true at = (r.round, r.side, subst (λ w. IsStepAt (Site.Block (block_at w r.round r.side)) false old new) there at)
+    block false at = (Wing.Block (block_at r.comm r.round r.side), false, there, at)
+
+    go : (b : Bool) → IsStepAt (if b then (if is_some r.first then Site.Wing (Wing.Slot r.comm r.round (next_in_block members r)) else Site.Place (SlotAt r.comm r.round (next_in_block members r)))
+        else (if r.winged then Site.Block (block_at r.comm r.round r.side) else Site.Wing (Wing.Block (block_at r.comm r.round r.side)))) b old new
+        → MakesStep (Some (if b then (if is_some r.first then step.Wing else step.Slot) else (if r.winged then step.Cache else step.Wing))) rank c old new
+    go true at = member (is_some r.first) at
+    go false at = block r.winged at
 
 -- an agree is answered once all that its round's members say is known
-pub round_agrees : {P : Type 0} (meld : P → P → P) (alone : Bool) (name : Name) (asked : Call P) (shrinks : Bool) (k : ℕ) (all : Summary P) (old : Record)
-    (before : Sight P) (mid : Record) (now : Sight P) → IsView meld (view_of name now)
-    → HasReadAll meld alone asked (polled_round shrinks k) all (local old (view_of name before)) (local mid (view_of name now)) → shrinks ≡ false → (w : ℕ) → w ≡ comm_of asked → (new : Record) → new ≡ closed mid w
+pub round_agrees : {P : Type 0} (meld : P → P → P) (alone : Bool) (name : Over P) (asked : Call P) (shrinks : Bool) (k : ℕ) (all : Summary P) (old : Record)
+    (before : Sight P) (mid : Record) (now : Sight P) → IsView meld (view_at name now)
+    → HasReadAll meld alone asked (polled_round shrinks k) all (local old (view_at name before)) (local mid (view_at name now)) → shrinks ≡ false → (w : ℕ) → w ≡ comm_of asked → (new : Record) → new ≡ closed mid w
     → (reply : Reply P) → reply ≡ agreed_reply all all.body
-    → Answered meld alone asked (local old (view_of name before)) reply (local new (view_of name now))
+    → Answered meld alone asked (local old (view_at name before)) reply (local new (view_at name now))
 round_agrees {P} meld alone name asked shrinks k all old before mid now of r is w w_is new left reply reply_is =
-    subst (λ (a : Call P). Answered meld alone a (local old (view_of name before)) reply (local new (view_of name now))) (sym r.polls)
+    subst (λ (a : Call P). Answered meld alone a (local old (view_at name before)) reply (local new (view_at name now))) (sym r.polls)
     (answers_agreed meld alone name (comm_of asked) k old before mid now r.fits of r.onward r.x
     (subst (λ b. PollHasMarked (frame meld name.limits alone) (comm_of asked) (polled_round b k) r.x (moment old before.seen) (moment mid now.seen)) is r.marked) all r.read new
     (left ∙ ap (closed mid) w_is) reply
     reply_is)
 
 -- a shrink's goes on
-pub round_shrinks : {P : Type 0} (meld : P → P → P) (alone : Bool) (name : Name) (asked : Call P) (shrinks : Bool) (k : ℕ) (all : Summary P) (old : Record)
+pub round_shrinks : {P : Type 0} (meld : P → P → P) (alone : Bool) (name : Over P) (asked : Call P) (shrinks : Bool) (k : ℕ) (all : Summary P) (old : Record)
     (before : Sight P) (mid : Record) (now : Sight P)
-    → HasReadAll meld alone asked (polled_round shrinks k) all (local old (view_of name before)) (local mid (view_of name now)) → shrinks ≡ true → HasReadAll meld alone asked (polled_round true k) all (local old (view_of name before)) (local mid (view_of name now))
-round_shrinks meld alone name asked shrinks k all old before mid now r is = subst (λ b. HasReadAll meld alone asked (polled_round b k) all (local old (view_of name before)) (local mid (view_of name now))) is r
+    → HasReadAll meld alone asked (polled_round shrinks k) all (local old (view_at name before)) (local mid (view_at name now)) → shrinks ≡ true → HasReadAll meld alone asked (polled_round true k) all (local old (view_at name before)) (local mid (view_at name now))
+round_shrinks meld alone name asked shrinks k all old before mid now r is = subst (λ b. HasReadAll meld alone asked (polled_round b k) all (local old (view_at name before)) (local mid (view_at name now))) is r

@@ -4,9 +4,9 @@ use Rattle.std.proofs.Common.{if◌then◌else◌, refl, ap, sym, ◌∙◌, sub
 use Rattle.std.proofs.lemmas.{Bool.{lt-ltb, ltb-true}, List.{length-take}}
 use mathlib.Core.List.{IsPrefix}
 use Rattle.ulfm_model.specs.declared.call.Call.TheVariants as call
-use Rattle.ulfm_model.specs.declared.{block.Block.{Block}, block.Side.{Side}, block.Side.TheVariants.{Front, Back}}
+use Rattle.ulfm_model.specs.declared.{block.Beside.{Beside}, block.Side.{Side}, block.Side.TheVariants.{Front, Back}}
 use Rattle.ulfm_model.specs.declared.{call.Call.{Call}, call.Request.{Request}, call.Request.TheVariants.{Agree, Shrink, Barrier}, limits.Limits.{Limits}}
-use Rattle.ulfm_model.specs.declared.{refusal.Refusal.{Refusal}, reply.Reply.{Reply}}
+use Rattle.ulfm_model.specs.declared.{contribution.Offer.{Offer}, refusal.Refusal.{Refusal}, reply.Reply.{Reply}}
 use Rattle.ulfm_model.specs.{Answers.{refusal_of}, Blocks.{has_block, width}, History.{History, IsLegal, failures, has}, Records.{Held, Record, held_at}}
 use Rattle.ulfm_model.specs.Terms.{comm_of, request_of}
 use Rattle.ulfm_model.proofs.Blocks.{has_block_stays}
@@ -14,13 +14,13 @@ use Rattle.ulfm_words.specs.Steps.{Sight}
 use Rattle.ulfm_steps.specs.{Appends.{turns_left}, Arriving.{arrivals_left, in_order}, Blocks.{FindsSet, block_at, has_back, is_whole, peeks_left}}
 use Rattle.ulfm_steps.specs.declared.{append.Append.{Append}, arrivals.Arrivals.{Arrivals}, arrivals.Missing.{Missing}, blocks.Peek.{Peek}}
 use Rattle.ulfm_steps.specs.declared.read_on.ReadOn.{ReadOn}
-use Rattle.ulfm_steps.proofs.{Arriving.{in_order_few}, InBlocks.{apart_lt, peek_some}}
+use Rattle.ulfm_steps.proofs.{Arriving.{in_order_few}, InBlocks.{apart_lt, peeks_most}}
 use Rattle.ulfm_comm.specs.AlsoLeft.{AlsoFollows, AlsoLooks, AlsoSpends, AlsoTurns, FindsSetIn, FindsSetNext, also_after_look, also_after_round}
 use Rattle.ulfm_comm.specs.AlsoLeft.{also_behind_look, also_in, also_left, also_polling}
 use Rattle.ulfm_comm.specs.{Begins.{reads_again}, Requests.{BlocksStand}, Bound.{also_bound, also_call_bound, also_poll_bound}, Look.{Passes}}
 use Rattle.ulfm_comm.specs.{Phase.{NextBelow, is_looking}, Step.{LooksOn}, Requests.{agreement}, StepsLeft.{FewerLeft, Spends, group_of, steps_left}}
 use Rattle.ulfm_comm.specs.declared.{phases.phase.Made.{Made}, phases.phase.Next.{Next}, phases.phase.Next.TheVariants.{Goes, Ends}, phases.phase.Phase.{Phase}}
-use Rattle.ulfm_comm.specs.declared.phases.phase.Phase.TheVariants.{Over, Begun, Looking, Settling, Arriving, Revoking, Asking, Peeking, Marking, Reading}
+use Rattle.ulfm_comm.specs.declared.phases.phase.Phase.TheVariants.{Over, Begun, Looking, Spreading, Settling, Arriving, Revoking, Asking, Peeking, Marking, Reading}
 use Rattle.ulfm_comm.specs.declared.phases.phase.Phase.TheVariants.{ReadingOn, Spawning, Waiting, Checking}
 use Rattle.ulfm_comm.proofs.StepsLeft.{passes_none, refusal_same}
 use Rattle.ulfm_comm.specs.Local.{stance}
@@ -33,7 +33,7 @@ module _ {P : Type 0} (limits : Limits) (own new : Record) (seen : List ℕ) (as
       ∙ ap (λ (r : Option Refusal). if is_some r then 0 else also_behind_look limits own asked) (refusal_same own seen asked)
 
   -- nor to where the blocks of an open request are, of which more may be known
-  pub blocks_stay : (cached longer : List Block) → IsPrefix cached longer → BlocksStand own asked cached → BlocksStand new asked longer
+  pub blocks_stay : (cached longer : List Beside) → IsPrefix cached longer → BlocksStand own asked cached → BlocksStand new asked longer
   blocks_stay cached longer begins = go asked
     where
       same : (c : ℕ) → held_at new c ≡ held_at own c
@@ -122,11 +122,11 @@ module _ {P : Type 0} (limits : Limits) (own : Record) (asked : Call P) where
   also_passed : refusal_of own asked ≡ None → also_after_look limits own asked ≡ also_behind_look limits own asked
   also_passed passed = ap (λ (r : Option Refusal). if is_some r then 0 else also_behind_look limits own asked) passed
 
-  -- a call that makes one step after its look
-  pub follows_one : (phase : Phase P) → also_left limits own asked phase ≡ 1 → ((cached : List Block) → FindsSetIn own asked cached phase) → Passes own asked
-      → also_behind_look limits own asked ≡ 1 → AlsoFollows limits asked own (Goes phase) own
-  follows_one phase one sets p is = record {
-    few = omega (arith, also_passed (passes_none own asked p), one, is);
+  -- a call that makes so many steps after its look
+  pub follows_behind : (phase : Phase P) (left : ℕ) → also_left limits own asked phase ≡ left → ((cached : List Beside) → FindsSetIn own asked cached phase)
+      → Passes own asked → also_behind_look limits own asked ≡ left → AlsoFollows limits asked own (Goes phase) own
+  follows_behind phase left here sets p is = record {
+    few = omega (arith, also_passed (passes_none own asked p), here, is);
     sees = refl;
     sets = λ cached stand. sets cached;
   }
@@ -157,8 +157,7 @@ module _ (P : Type 0) (limits : Limits) (own : Record) (rank c : ℕ) (passed : 
       → 0 < length x.group → AlsoFollows limits polls own (Goes (Peeking peek shrinks)) own
   poll_peeks k shrinks peek is_open comm round side any =
       record {
-        few = subst (λ s. peeks_left (length (group_of (held_at own c))) s + also_after_round limits shrinks ≤ also_after_look limits own polls) (sym side)
-            (by_kind shrinks is_open);
+        few = by_kind shrinks is_open;
         sees = refl;
         sets = λ cached stand.
             record {
@@ -173,17 +172,13 @@ module _ (P : Type 0) (limits : Limits) (own : Record) (rank c : ℕ) (passed : 
             };
       }
     where
-      two : (n : ℕ) → peeks_left n Front ≤ 2
-      two n = go (has_back n)
-        where
-          go : (t : Bool) → (if t then 2 else 1) ≤ 2
-          go true = omega arith
-          go false = omega arith
+      four : peeks_left (length (group_of (held_at own c))) peek ≤ 4
+      four = peeks_most (length (group_of (held_at own c))) peek
 
-      by_kind : (b : Bool) → x.request ≡ Some (agreement b k) → peeks_left (length (group_of (held_at own c))) Front + also_after_round limits b ≤
+      by_kind : (b : Bool) → x.request ≡ Some (agreement b k) → peeks_left (length (group_of (held_at own c))) peek + also_after_round limits b ≤
           also_after_look limits own polls
-      by_kind false is_open = let all = poll_after (Some (Agree k)) is_open in omega (arith, all, two (length (group_of (held_at own c))))
-      by_kind true is_open = let all = poll_after (Some (Shrink k)) is_open in omega (arith, all, two (length (group_of (held_at own c))))
+      by_kind false is_open = let all = poll_after (Some (Agree k)) is_open in omega (arith, all, four)
+      by_kind true is_open = let all = poll_after (Some (Shrink k)) is_open in omega (arith, all, four)
 
 -- .. by what the code knows of the call
 module _ {P : Type 0} (limits : Limits) (own : Record) (asked : Call P) (rank c : ℕ) (is : asked ≡ call.Poll rank c) (passed : refusal_of own asked ≡ None)
@@ -202,11 +197,12 @@ module _ {P : Type 0} (limits : Limits) (own : Record) (asked : Call P) (rank c 
       (λ passed held comm. poll_peeks P limits own rank c passed x held k shrinks peek is_open comm round side any) passed held comm
 
 -- a poll that knows its round's decision doesn't load its blocks any more
-pub sets_next : {P : Type 0} (own : Record) (asked : Call P) (cached : List Block) (next : Next P) → NextBelow 5 next → FindsSetNext own asked cached next
+pub sets_next : {P : Type 0} (own : Record) (asked : Call P) (cached : List Beside) (next : Next P) → NextBelow 5 next → FindsSetNext own asked cached next
 sets_next own asked cached (Ends reply) below = tt
 sets_next own asked cached (Goes Over) below = tt
 sets_next own asked cached (Goes Begun) below = absurd (omega (arith, below))
 sets_next own asked cached (Goes Looking) below = absurd (omega (arith, below))
+sets_next own asked cached (Goes (Spreading request offer)) below = tt
 sets_next own asked cached (Goes (Settling request offer)) below = tt
 sets_next own asked cached (Goes (Arriving round)) below = tt
 sets_next own asked cached (Goes Revoking) below = tt
@@ -226,6 +222,7 @@ also_reached limits own asked (Ends reply) below fewer = omega arith
 also_reached limits own asked (Goes Over) below fewer = omega arith
 also_reached limits own asked (Goes Begun) below fewer = absurd (omega (arith, below))
 also_reached limits own asked (Goes Looking) below fewer = absurd (omega (arith, below))
+also_reached limits own asked (Goes (Spreading request offer)) below fewer = omega (arith, fewer)
 also_reached limits own asked (Goes (Settling request offer)) below fewer = omega (arith, fewer)
 also_reached limits own asked (Goes (Arriving round)) below fewer = omega (arith, fewer)
 also_reached limits own asked (Goes Revoking) below fewer = omega (arith, fewer)
@@ -241,49 +238,54 @@ also_reached limits own asked (Goes (Checking missing)) below fewer = omega (ari
 -- the loads of a round's blocks
 module _ {P : Type 0} (limits : Limits) (own : Record) (asked : Call P) (x : Held) (held : held_at own (comm_of asked) ≡ Some x) (shrinks : Bool)
     (members : List ℕ) (members_are : members ≡ x.group)
-    (peek next : Peek P) (now after : Sight P) (comm : next.comm ≡ peek.comm) (round : next.round ≡ peek.round) (front : peek.side ≡ Front
-    → FindsSet now.cached next Front) (kept : peek.side ≡ Back → next.blocks.front ≡ peek.blocks.front)
+    (peek next : Peek P) (now after : Sight P) (comm : next.comm ≡ peek.comm) (round : next.round ≡ peek.round)
+    (front : peek.side ≡ Front → next.side ≡ Back → FindsSet now.cached next Front) (onward : peek.side ≡ Back → next.side ≡ Back)
+    (kept : peek.side ≡ Back → next.blocks.front ≡ peek.blocks.front)
     (all : FindsSetIn own asked now.cached (Peeking peek shrinks)) where
   size : length members ≡ length (group_of (held_at own (comm_of asked)))
   size = ap length (members_are ∙ sym (ap group_of held))
 
-  -- the front block is known after its load
-  front_known : (s : Side) → peek.side ≡ s → is_some next.blocks.front ≡ true
-  front_known Front at = front at (subst (λ j. has_block now.cached (block_at j next.round Front) ≡ true) (sym comm)
-      (subst (λ j. has_block now.cached (block_at peek.comm j Front) ≡ true) (sym round) (all.front at)))
-  front_known Back at = ap is_some (kept at) ∙ all.known at
+  -- the front block is known once the peek is past it
+  front_known : next.side ≡ Back → is_some next.blocks.front ≡ true
+  front_known past = go peek.side refl
+    where
+      go : (s : Side) → peek.side ≡ s → is_some next.blocks.front ≡ true
+      go Front at = front at past (subst (λ j. has_block now.cached (block_at j next.round Front) ≡ true) (sym comm)
+          (subst (λ j. has_block now.cached (block_at peek.comm j Front) ≡ true) (sym round) (all.front at)))
+      go Back at = ap is_some (kept at) ∙ all.known at
+
+  -- one that isn't past it wasn't before
+  still_front : next.side ≡ Front → peek.side ≡ Front
+  still_front at = go peek.side refl
+    where
+      go : (s : Side) → peek.side ≡ s → peek.side ≡ Front
+      go Front is = is
+      go Back is = let past = onward is in absurd (cc (at, past))
 
   -- a peek that goes on
-  pub also_peeks_on : IsPrefix now.cached after.cached → now.steps < after.steps
-      → after.steps + peeks_left (length members) next.side ≤ now.steps + peeks_left (length members) peek.side
+  pub also_peeks_on : IsPrefix now.cached after.cached
+      → after.steps + peeks_left (length members) next ≤ now.steps + peeks_left (length members) peek
       → AlsoSpends (also_left limits own asked (Peeking peek shrinks)) limits asked (stance own now) (Goes (Peeking next shrinks)) (stance own after)
-  also_peeks_on begins some turns =
-      let few = subst (λ n. after.steps + peeks_left n next.side ≤ now.steps + peeks_left n peek.side) size turns in
+  also_peeks_on begins turns =
+      let few = subst (λ n. after.steps + peeks_left n next ≤ now.steps + peeks_left n peek) size turns in
       record {
         few = omega (arith, few);
         sets = record {
-          front = λ at. absurd (not_front at);
-          known = λ at. front_known peek.side refl;
-          back = λ apart.
-              has_block_stays now.cached after.cached (block_at next.comm next.round Back) begins
-              (subst (λ j. has_block now.cached (block_at j next.round Back) ≡ true) (sym comm)
-              (subst (λ j. has_block now.cached (block_at peek.comm j Back) ≡ true) (sym round) (all.back apart)));
+          front = λ at. stays Front (all.front (still_front at));
+          known = front_known;
+          back = λ apart. stays Back (all.back apart);
         };
       }
     where
-      no_more : (n : ℕ) (s : Side) → peeks_left n s ≤ peeks_left n Front
-      no_more n Front = omega arith
-      no_more n Back = let one = peek_some n Front in omega (arith, one)
-
-      not_front : next.side ≡ Front → ⊥
-      not_front at =
-          let left : after.steps + peeks_left (length members) Front ≤ now.steps + peeks_left (length members) peek.side =
-          subst (λ s. after.steps + peeks_left (length members) s ≤ now.steps + peeks_left (length members) peek.side) at turns in
-          omega (arith, some, left, no_more (length members) peek.side)
+      stays : (s : Side) → has_block now.cached (block_at peek.comm peek.round s) ≡ true → has_block after.cached (block_at next.comm next.round s) ≡ true
+      stays s is =
+          has_block_stays now.cached after.cached (block_at next.comm next.round s) begins
+          (subst (λ j. has_block now.cached (block_at j next.round s) ≡ true) (sym comm)
+          (subst (λ j. has_block now.cached (block_at peek.comm j s) ≡ true) (sym round) is))
 
   -- one that has ended knows all blocks
-  pub also_whole : (has_back (length members) ≡ true → FindsSet now.cached next Back) → is_whole next.blocks (length members) ≡ true
-  also_whole back = go (has_back (length members)) refl
+  pub also_whole : next.side ≡ Back → (has_back (length members) ≡ true → FindsSet now.cached next Back) → is_whole next.blocks (length members) ≡ true
+  also_whole past back = go (has_back (length members)) refl
     where
       go : (b : Bool) → has_back (length members) ≡ b → (if b then (if is_some next.blocks.front then is_some next.blocks.back else false) else is_some
           next.blocks.front) ≡ true
@@ -291,15 +293,15 @@ module _ {P : Type 0} (limits : Limits) (own : Record) (asked : Call P) (x : Hel
           let behind : is_some next.blocks.back ≡ true =
           back apart (subst (λ j. has_block now.cached (block_at j next.round Back) ≡ true) (sym comm)
           (subst (λ j. has_block now.cached (block_at peek.comm j Back) ≡ true) (sym round) (all.back (subst (λ n. has_back n ≡ true) size apart)))) in
-          ap (λ t. if t then is_some next.blocks.back else false) (front_known peek.side refl) ∙ behind
-      go false whole = front_known peek.side refl
+          ap (λ t. if t then is_some next.blocks.back else false) (front_known past) ∙ behind
+      go false whole = front_known past
 
   -- with what comes next
-  pub also_peeks_over : after.steps ≤ now.steps + peeks_left (length members) peek.side → (new : Record) (following : Next P) → new.seen ≡ own.seen
+  pub also_peeks_over : after.steps ≤ now.steps + peeks_left (length members) peek → (new : Record) (following : Next P) → new.seen ≡ own.seen
       → NextBelow 5 following → also_in limits new asked following ≤ also_after_round limits shrinks
       → AlsoSpends (also_left limits own asked (Peeking peek shrinks)) limits asked (stance own now) following (stance new after)
   also_peeks_over turns new following sees below rest =
-      let few = subst (λ n. after.steps ≤ now.steps + peeks_left n peek.side) size turns in
+      let few = subst (λ n. after.steps ≤ now.steps + peeks_left n peek) size turns in
       record { few = omega (arith, few, rest, ap length sees); sets = sets_next new asked after.cached following below }
 
 -- a call goes on from where it stood
@@ -380,6 +382,12 @@ also_ended limits asked own new now after in_use more some few =
 pub also_ends : {P : Type 0} (most : ℕ) (limits : Limits) (asked : Call P) (own new : Record) (now after : Sight P) (reply : Reply P)
     → after.steps ≤ now.steps + most → new.seen ≡ own.seen → AlsoSpends most limits asked (stance own now) (Ends reply) (stance new after)
 also_ends most limits asked own new now after reply few sees = record { few = omega (arith, few, ap length sees); sets = tt }
+
+-- the exchange of a contribution's wing, behind which the contribution's own comes
+pub also_spreads : {P : Type 0} (limits : Limits) (asked : Call P) (own : Record) (now after : Sight P) (request : Request) (offer : Offer P)
+    → after.steps ≡ now.steps + 1
+    → AlsoSpends (also_left limits own asked (Spreading request offer)) limits asked (stance own now) (Goes (Settling request offer)) (stance own after)
+also_spreads limits asked own now after request offer one = record { few = omega (arith, one); sets = tt }
 
 -- a reading of arrivals that goes on, or has ended
 pub also_waits : {P : Type 0} (limits : Limits) (asked : Call P) (own : Record) (now after : Sight P) (arrivals next : Arrivals)

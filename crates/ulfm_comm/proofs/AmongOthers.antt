@@ -40,4 +40,4 @@ did_among x y begins = record { since = begins.0; goes_on = begins.1; stands = t
 
 -- nothing has come since
 pub waits_none : {P : Type 0} (now : Sight P) → Waits false now now
-waits_none now = record { did = did_among now.seen now.seen ([], append-nil now.seen); onward = omega arith }
+waits_none now = record { cached = ([], append-nil now.cached); did = did_among now.seen now.seen ([], append-nil now.seen); onward = omega arith }

@@ -7,7 +7,7 @@ use Rattle.ulfm_model.specs.{Answers.{closed, polled_by}, History.{History, IsLe
 use Rattle.ulfm_model.specs.Terms.{comm_of}
 use Rattle.ulfm_model.proofs.Stable.{fits_stays}
 use Rattle.ulfm_model.specs.Records.{moment}
-use Rattle.ulfm_words.specs.Steps.{view_of, IsView, Name, Sight}
+use Rattle.ulfm_words.specs.Steps.{IsView, Over, Sight, view_at}
 use Rattle.ulfm_words.proofs.Trails.{did_none, did_prefix, did_wait}
 use Rattle.ulfm_steps.specs.declared.{arrivals.Arrivals.{Arrivals}, arrivals.Missing.{Missing}, arrivals.Missing.TheVariants.{Nobody, Others, Declared}}
 use Rattle.ulfm_steps.specs.{Arriving.{AtArrival, MissingAre}, Rounds.{IsRoundOf}}
@@ -48,10 +48,10 @@ module _ {P : Type 0} (meld : P → P → P) (limits : Limits) (alone : Bool) (c
       }
 
 -- a call that stands between two loads of arrivals, by what the code knows of the communicator
-module _ {P : Type 0} (meld : P → P → P) (name : Name) (asked : Call P) (arrivals : Arrivals) (group : List ℕ) (own : Record) (now : Sight P)
-    (of : IsView meld (view_of name now)) (y : Held) (w : ℕ) (found : held_at own w ≡ Some y) (w_is : w ≡ comm_of asked)
+module _ {P : Type 0} (meld : P → P → P) (name : Over P) (asked : Call P) (arrivals : Arrivals) (group : List ℕ) (own : Record) (now : Sight P)
+    (of : IsView meld (view_at name now)) (y : Held) (w : ℕ) (found : held_at own w ≡ Some y) (w_is : w ≡ comm_of asked)
     (members declared : List ℕ) (members_are : members ≡ y.group) (declared_are : declared ≡ own.seen) (alone : Bool) (old : Record) (before : Sight P)
-    (st : Stands meld alone (local old (view_of name before)) (record { asked = asked; phase = Waiting arrivals; group = group }) (local own (view_of name now))) where
+    (st : Stands meld alone (local old (view_at name before)) (record { asked = asked; phase = Waiting arrivals; group = group }) (local own (view_at name now))) where
   abbrev waits : IsWaiting (frame meld name.limits alone) (comm_of asked) arrivals.round st.at.2 (moment old before.seen) (moment own now.seen)
   waits = st.at.3
 
@@ -72,7 +72,7 @@ module _ {P : Type 0} (meld : P → P → P) (name : Name) (asked : Call P) (arr
 
     -- more are left
     pub waiting_goes : (next : Arrivals) → next.comm ≡ arrivals.comm → next.round ≡ arrivals.round → AtArrival members declared next after.seen
-        → Stands meld alone (local old (view_of name before)) (record { asked = asked; phase = Waiting next; group = group }) (local own (view_of name after))
+        → Stands meld alone (local old (view_at name before)) (record { asked = asked; phase = Waiting next; group = group }) (local own (view_at name after))
     waiting_goes next comm round at =
         record {
           fits = st.fits;
@@ -105,7 +105,7 @@ module _ {P : Type 0} (meld : P → P → P) (name : Name) (asked : Call P) (arr
 
     -- it is known who is missing
     pub waiting_ends : (missing : Missing) → MissingAre after.seen arrivals.comm arrivals.round members declared missing → IsLegal meld name.limits after.seen
-        → Stands meld alone (local old (view_of name before)) (record { asked = asked; phase = Checking missing; group = group }) (local own (view_of name after))
+        → Stands meld alone (local old (view_at name before)) (record { asked = asked; phase = Checking missing; group = group }) (local own (view_at name after))
     waiting_ends missing are legal =
         record {
           fits = st.fits;
@@ -115,9 +115,9 @@ module _ {P : Type 0} (meld : P → P → P) (name : Name) (asked : Call P) (arr
         }
 
 -- its answer, by the revocation
-module _ {P : Type 0} (meld : P → P → P) (alone : Bool) (name : Name) (c k : ℕ) (x : Held) (old : Record) (before : Sight P) (own : Record)
+module _ {P : Type 0} (meld : P → P → P) (alone : Bool) (name : Over P) (c k : ℕ) (x : Held) (old : Record) (before : Sight P) (own : Record)
     (earlier : History P) (after : Sight P) (fits : Fits meld name.limits before.seen old)
-    (p : IsWaiting (frame meld name.limits alone) c k x (moment old before.seen) (moment own earlier)) (of : IsView meld (view_of name after)) (onward : before.steps ≤ after.steps)
+    (p : IsWaiting (frame meld name.limits alone) c k x (moment old before.seen) (moment own earlier)) (of : IsView meld (view_at name after)) (onward : before.steps ≤ after.steps)
     (wait : Did alone [] earlier after.seen) where
   abbrev asked : Call P
   asked = call.Poll old.number c
@@ -129,11 +129,11 @@ module _ {P : Type 0} (meld : P → P → P) (alone : Bool) (name : Name) (c k :
   awaits = record { fits = p.fits; x = x; held = p.held; open_is = p.open_is }
 
   -- no agreement is open
-  no_agreement : (reply : Reply P) (new : Record) → reply ≡ Pending → IsAgreement (polled_by old asked) → EndsInMissing meld alone c (local old (view_of name before)) (local new (view_of name after))
+  no_agreement : (reply : Reply P) (new : Record) → reply ≡ Pending → IsAgreement (polled_by old asked) → EndsInMissing meld alone c (local old (view_at name before)) (local new (view_at name after))
   no_agreement reply new is agrees = absurd (subst IsAgreement (barrier_polled meld name.limits alone before.seen p.look old own p.looked c k awaits) agrees)
 
   answers_revoked : is_revoked after.seen c ≡ true → (new : Record) → new ≡ closed own c
-      → Answered meld alone asked (local old (view_of name before)) (Refused IsRevoked) (local new (view_of name after))
+      → Answered meld alone asked (local old (view_at name before)) (Refused IsRevoked) (local new (view_at name after))
   answers_revoked is new left =
       record {
         ends = inr (polls_revoked meld alone name before look after old own fits p.looked c k awaits of onward new
@@ -143,7 +143,7 @@ module _ {P : Type 0} (meld : P → P → P) (alone : Bool) (name : Name) (c k :
 
   answers_missing : is_revoked after.seen c ≡ false → (missing : Missing) → MissingAre earlier c k x.group own.seen missing → IsLegal meld name.limits earlier
       → (new : Record) → new ≡ missing_leaves own c missing
-      → Answered meld alone asked (local old (view_of name before)) (missing_reply missing) (local new (view_of name after))
+      → Answered meld alone asked (local old (view_at name before)) (missing_reply missing) (local new (view_at name after))
   answers_missing standing missing are legal new left =
       record {
         ends = inr (by_missing missing (calls_missing_at meld alone name before look after old own fits p.looked c k awaits of onward earlier x.group own.seen
@@ -151,16 +151,16 @@ module _ {P : Type 0} (meld : P → P → P) (alone : Bool) (name : Name) (c k :
         pending = no_agreement (missing_reply missing) new;
       }
     where
-      by_missing : (missing : Missing) → Linearizes meld alone asked (local old (view_of name before)) (missing_reply missing) (local new (view_of name after))
-          → HasReplied meld alone asked (local old (view_of name before)) (missing_reply missing) (local new (view_of name after))
+      by_missing : (missing : Missing) → Linearizes meld alone asked (local old (view_at name before)) (missing_reply missing) (local new (view_at name after))
+          → HasReplied meld alone asked (local old (view_at name before)) (missing_reply missing) (local new (view_at name after))
       by_missing Nobody called = called
       by_missing Others called = called
       by_missing Declared called = called
 
 -- a call that stands before the load of the revocation
-module _ {P : Type 0} (meld : P → P → P) (alone : Bool) (name : Name) (asked : Call P) (missing : Missing) (group : List ℕ) (own : Record) (now : Sight P)
-    (of : IsView meld (view_of name now)) (old : Record) (before : Sight P)
-    (st : Stands meld alone (local old (view_of name before)) (record { asked = asked; phase = Checking missing; group = group }) (local own (view_of name now))) where
+module _ {P : Type 0} (meld : P → P → P) (alone : Bool) (name : Over P) (asked : Call P) (missing : Missing) (group : List ℕ) (own : Record) (now : Sight P)
+    (of : IsView meld (view_at name now)) (old : Record) (before : Sight P)
+    (st : Stands meld alone (local old (view_at name before)) (record { asked = asked; phase = Checking missing; group = group }) (local own (view_at name now))) where
   -- the communicator has a place of its own
   pub checking_within : (w : ℕ) → w ≡ comm_of asked → w < name.limits.comms
   checking_within w is =
@@ -171,7 +171,7 @@ module _ {P : Type 0} (meld : P → P → P) (alone : Bool) (name : Name) (asked
       let within = held_below meld name.limits now.seen own (comm_of asked) i.x fits p.held of.legal of.may_open in
       omega (arith, is, within)
 
-  module _ (quiet : Bool) (only : IsTrue alone → IsTrue quiet) (after : Sight P) (of_after : IsView meld (view_of name after)) (did : Did quiet [] now.seen after.seen)
+  module _ (quiet : Bool) (only : IsTrue alone → IsTrue quiet) (after : Sight P) (of_after : IsView meld (view_at name after)) (did : Did quiet [] now.seen after.seen)
       (went : now.steps ≤ after.steps) (w : ℕ) (w_is : w ≡ comm_of asked) (new : Record) where
     abbrev i : IsChecking (frame meld name.limits alone) (comm_of asked) missing st.at.1 (moment old before.seen) (moment own now.seen)
     i = st.at.2
@@ -182,18 +182,18 @@ module _ {P : Type 0} (meld : P → P → P) (alone : Bool) (name : Name) (asked
     wait : Did alone [] st.at.1 after.seen
     wait = did_wait alone [] st.at.1 now.seen after.seen i.waited (did_loosely alone quiet only [] now.seen after.seen did)
 
-    named : (reply : Reply P) → Answered meld alone (call.Poll old.number (comm_of asked)) (local old (view_of name before)) reply (local new (view_of name after))
-        → Answered meld alone asked (local old (view_of name before)) reply (local new (view_of name after))
-    named reply answered = subst (λ (a : Call P). Answered meld alone a (local old (view_of name before)) reply (local new (view_of name after))) (sym st.at.0) answered
+    named : (reply : Reply P) → Answered meld alone (call.Poll old.number (comm_of asked)) (local old (view_at name before)) reply (local new (view_at name after))
+        → Answered meld alone asked (local old (view_at name before)) reply (local new (view_at name after))
+    named reply answered = subst (λ (a : Call P). Answered meld alone a (local old (view_at name before)) reply (local new (view_at name after))) (sym st.at.0) answered
 
-    pub checking_revoked : is_revoked after.seen w ≡ true → new ≡ closed own w → Answered meld alone asked (local old (view_of name before)) (Refused IsRevoked) (local new (view_of name after))
+    pub checking_revoked : is_revoked after.seen w ≡ true → new ≡ closed own w → Answered meld alone asked (local old (view_at name before)) (Refused IsRevoked) (local new (view_at name after))
     checking_revoked is left =
         named (Refused IsRevoked)
         (answers_revoked meld alone name (comm_of asked) i.k i.x old before own st.at.1 after st.fits i.waits of_after onward wait
         (sym (ap (is_revoked after.seen) w_is) ∙ is) new (left ∙ ap (closed own) w_is))
 
     pub checking_missing : is_revoked after.seen w ≡ false → (which : Missing) → missing ≡ which → new ≡ missing_leaves own w which
-        → Answered meld alone asked (local old (view_of name before)) (missing_reply which) (local new (view_of name after))
+        → Answered meld alone asked (local old (view_at name before)) (missing_reply which) (local new (view_at name after))
     checking_missing standing which is left =
         named (missing_reply which)
         (answers_missing meld alone name (comm_of asked) i.k i.x old before own st.at.1 after st.fits i.waits of_after onward wait

@@ -13,7 +13,7 @@ use Rattle.ulfm_model.specs.Runs.{Did, unsettled_of}
 use Rattle.ulfm_model.specs.Terms.{IsOwn, contexts_of, request_of}
 use Rattle.ulfm_model.proofs.{Histories.{by_events}}
 use Rattle.ulfm_model.specs.Records.{moment}
-use Rattle.ulfm_words.specs.Steps.{view_of, IsView, Name, Sight}
+use Rattle.ulfm_words.specs.Steps.{IsView, Over, Sight, view_at}
 use Rattle.ulfm_words.proofs.Trails.{did_prefix, did_wait}
 use Rattle.ulfm_steps.proofs.Arriving.{arrivals_stay}
 use Rattle.ulfm_steps.specs.Rounds.{IsRoundOf}
@@ -64,7 +64,7 @@ module _ {P : Type 0} (meld : P → P → P) (limits : Limits) (alone : Bool) (b
 
   module _ (point : History P) (did : Did alone [] look point) (legal : IsLegal meld limits point) where
     abbrev view : AtPoint P
-    view = record { look = failures look; history = point; own = [] }
+    view = record { look = failures look; history = point; own = []; spread = false }
 
     -- a poll that has its point here
     barrier_run : (reply : Reply P) (new : Record) → reply ≡ barrier_reply view a.x k → new ≡ left_by limits.ranks point mid asked reply
@@ -101,14 +101,14 @@ module _ {P : Type 0} (meld : P → P → P) (limits : Limits) (alone : Bool) (b
     barrier_waits Declared new standing are left = barrier_run (Refused ProcFailed) new (by_tests false false false standing are.0 are.1) left
 
 -- what the poll of a barrier promises
-module _ {P : Type 0} (meld : P → P → P) (alone : Bool) (name : Name) (before look after : Sight P) (old mid : Record)
+module _ {P : Type 0} (meld : P → P → P) (alone : Bool) (name : Over P) (before look after : Sight P) (old mid : Record)
     (fits : Fits meld name.limits before.seen old) (looked : Looked alone before.seen look.seen old mid)
-    (c k : ℕ) (a : Awaits meld name.limits look.seen c k mid) (of : IsView meld (view_of name after)) (onward : before.steps ≤ after.steps) where
+    (c k : ℕ) (a : Awaits meld name.limits look.seen c k mid) (of : IsView meld (view_at name after)) (onward : before.steps ≤ after.steps) where
   -- where the communicator is revoked at its end
   pub polls_revoked : (new : Record) → Did alone [] look.seen after.seen → is_revoked after.seen c ≡ true → new ≡ closed mid c
-      → Linearizes meld alone (call.Poll old.number c) (local old (view_of name before)) (Refused IsRevoked) (local new (view_of name after))
+      → Linearizes meld alone (call.Poll old.number c) (local old (view_at name before)) (Refused IsRevoked) (local new (view_at name after))
   polls_revoked new did is left =
-      calls_is meld alone name before after onward (call.Poll old.number c) old (Refused IsRevoked) new of fits
+      calls_is meld alone name before after onward (call.Poll old.number c) old (Refused IsRevoked) new of fits (λ is no. absurd (cc (is, no)))
       (barrier_revoked meld name.limits alone before.seen look.seen old mid looked c k a after.seen did of.legal new is left)
 
   -- where it isn't, and somebody was missing before the last load
@@ -116,10 +116,10 @@ module _ {P : Type 0} (meld : P → P → P) (alone : Bool) (name : Name) (befor
       → Did alone [] point after.seen → is_revoked after.seen c ≡ false
       → group ≡ a.x.group → fs ≡ mid.seen → MissingAre point c k group fs missing → new ≡ missing_leaves mid c missing
       → (missing_reply {P = P} missing ≡ Pending) ⊎ (missing_reply {P = P} missing ≡ Refused ProcFailed)
-      → Linearizes meld alone (call.Poll old.number c) (local old (view_of name before)) (missing_reply missing) (local new (view_of name after))
+      → Linearizes meld alone (call.Poll old.number c) (local old (view_at name before)) (missing_reply missing) (local new (view_at name after))
   calls_waiting_at point group fs missing new did legal wait standing same seen are left early =
       let found = seen ∙ ap (λ (r : Record). r.seen) looked.record_is in
-      calls_early meld alone name before after onward (call.Poll old.number c) old (missing_reply missing) new of fits (record {
+      calls_early meld alone name before after onward (call.Poll old.number c) old (missing_reply missing) new of fits (λ is no. absurd (cc (is, no))) (record {
         found = point;
         run =
             barrier_waits meld name.limits alone before.seen look.seen old mid looked c k a point did legal missing new
@@ -135,9 +135,9 @@ module _ {P : Type 0} (meld : P → P → P) (alone : Bool) (name : Name) (befor
   pub calls_missing_at : (point : History P) (group fs : List ℕ) (missing : Missing) (new : Record) → Did alone [] look.seen point
       → IsLegal meld name.limits point → Did alone [] point after.seen → is_revoked after.seen c ≡ false
       → group ≡ a.x.group → fs ≡ mid.seen → MissingAre point c k group fs missing → new ≡ missing_leaves mid c missing
-      → Linearizes meld alone (call.Poll old.number c) (local old (view_of name before)) (missing_reply missing) (local new (view_of name after))
+      → Linearizes meld alone (call.Poll old.number c) (local old (view_at name before)) (missing_reply missing) (local new (view_at name after))
   calls_missing_at point group fs Nobody new did legal wait standing same seen are left =
-      calls_is meld alone name before after onward (call.Poll old.number c) old Done new of fits
+      calls_is meld alone name before after onward (call.Poll old.number c) old Done new of fits (λ is no. absurd (cc (is, no)))
       (barrier_waits meld name.limits alone before.seen look.seen old mid looked c k a after.seen (did_wait alone [] look.seen point after.seen did wait)
       of.legal Nobody new standing
       (subst (λ w. MissingAre after.seen c k w (failures look.seen) Nobody) same

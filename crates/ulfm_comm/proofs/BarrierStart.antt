@@ -8,9 +8,9 @@ use Rattle.ulfm_model.specs.{Answers.{first_refusal, opened}, History.{History, 
 use Rattle.ulfm_model.specs.{Records.{Fits, Held, Record, held_at, with_held}, Runs.{Did}, Words.{MayOpen}}
 use Rattle.ulfm_model.proofs.{Stable.{arrive_stays}}
 use Rattle.ulfm_model.specs.Terms.{tests_of}
-use Rattle.ulfm_words.specs.{Places.{IsCell}, Steps.{IsAdded, IsView, Name, Sight}, Tries.{MayArrive}}
+use Rattle.ulfm_words.specs.{Places.{IsCell}, Steps.{IsAdded, IsView, Over, Sight}, Tries.{MayArrive}}
 use Rattle.ulfm_words.proofs.{Growing.{arrival_stays}, Ranks.{place_within}, Trails.{did_added}}
-use Rattle.ulfm_words.specs.Steps.{view_of}
+use Rattle.ulfm_words.specs.Steps.{view_at}
 use Rattle.ulfm_comm.specs.{Calls.{Linearizes}, Look.{Looked}}
 use Rattle.ulfm_comm.proofs.{CallRuns.{calls_is}, Helds.{change_alike}, Holding.{comm_is, exists_is, group_is, holds}, WholeCall.{held_before, replied}}
 use Rattle.ulfm_comm.proofs.Refusals.{by_tests}
@@ -53,11 +53,11 @@ module _ {P : Type 0} (meld : P → P → P) (limits : Limits) (look : History P
   barrier_may_come more begins legal absent = arrive_stays meld limits look more c x.next_barrier own.number begins legal
       (barrier_place, absent_before look more c x.next_barrier own.number begins absent) absent
 
-module _ {P : Type 0} (meld : P → P → P) (alone : Bool) (name : Name) (before look after : Sight P) (onward : before.steps ≤ after.steps) (rank c : ℕ)
+module _ {P : Type 0} (meld : P → P → P) (alone : Bool) (name : Over P) (before look after : Sight P) (onward : before.steps ≤ after.steps) (rank c : ℕ)
     (old mid : Record) (fits : Fits meld name.limits before.seen old)
     (looked : Looked alone before.seen look.seen old mid) (now : Fits meld name.limits look.seen mid) (x : Held) (held : held_at mid c ≡ Some x)
     (passed : first_refusal (tests_of {P = P} old x (call.Barrier rank c)) ≡ None)
-    (of : IsView meld (view_of name after)) (stands : IsTrue (has_arrived after.seen c x.next_barrier mid.number)) where
+    (of : IsView meld (view_at name after)) (stands : IsTrue (has_arrived after.seen c x.next_barrier mid.number)) where
   mine : mid.number ≡ old.number
   mine = ap (λ (w : Record). w.number) looked.record_is
 
@@ -72,9 +72,9 @@ module _ {P : Type 0} (meld : P → P → P) (alone : Bool) (name : Name) (befor
     by = Rank mid.number;
     event = Arrive c x.next_barrier mid.number;
   }) look.seen after.seen → new ≡ with_held mid c (λ y. opened y (Some (Barrier x.next_barrier)))
-      → Linearizes meld alone (call.Barrier rank c) (local old (view_of name before)) Started (local new (view_of name after))
+      → Linearizes meld alone (call.Barrier rank c) (local old (view_at name before)) Started (local new (view_at name after))
   calls_entered new added is =
-      calls_is meld alone name before after onward (call.Barrier rank c) old Started new of fits
+      calls_is meld alone name before after onward (call.Barrier rank c) old Started new of fits (λ is no. absurd (cc (is, no)))
       (replied meld name.limits alone before.seen look.seen old mid looked after.seen (Arrive x.comm x.next_barrier old.number ∷ [])
       (call.Barrier rank c) Started new x
       (did_added alone (record { by = Rank old.number; event = Arrive x.comm x.next_barrier old.number }) look.seen after.seen
@@ -88,9 +88,9 @@ module _ {P : Type 0} (meld : P → P → P) (alone : Bool) (name : Name) (befor
       (λ here polls. absurd (cc polls)))
 
   -- or before
-  pub calls_entered_before : Did alone [] look.seen after.seen → Linearizes meld alone (call.Barrier rank c) (local old (view_of name before)) (Refused Twice) (local mid (view_of name after))
+  pub calls_entered_before : Did alone [] look.seen after.seen → Linearizes meld alone (call.Barrier rank c) (local old (view_at name before)) (Refused Twice) (local mid (view_at name after))
   calls_entered_before did =
-      calls_is meld alone name before after onward (call.Barrier rank c) old (Refused Twice) mid of fits
+      calls_is meld alone name before after onward (call.Barrier rank c) old (Refused Twice) mid of fits (λ is no. absurd (cc (is, no)))
       (replied meld name.limits alone before.seen look.seen old mid looked after.seen [] (call.Barrier rank c) (Refused Twice) mid x did of.legal
       (held_before meld name.limits alone before.seen look.seen old mid looked c (Some x) held)
       (by_tests meld alone name before look (call.Barrier rank c) old mid fits looked x held None passed) tt

@@ -1,18 +1,26 @@
 -- What a call promises, by its run.
 use Rattle.std.proofs.Common.{◌≡◌, ◌⊎◌, ℕ, ◌≤◌, Bool, true, false, List, [], None, refl, ap, sym, ◌∙◌, subst, append-nil, inl, inr, IsTrue}
+use Rattle.ulfm_model.specs.History.{slot}
+use Rattle.ulfm_model.specs.declared.{contribution.Contribution.{Contribution}, contribution.Slot.{Slot}}
+use Rattle.std.proofs.Common.{Some}
+use Rattle.std.proofs.Common.{Some}
+use Rattle.ulfm_model.specs.Runs.{settled_by}
+use Rattle.ulfm_model.specs.Records.{Held}
+use Rattle.ulfm_comm.proofs.Unspread.{unspread}
+use Rattle.ulfm_comm.specs.Requests.{contributes}
 use Rattle.std.specs.List.{AllByRecursion}
 use mathlib.Core.List.{IsPrefix}
 use Rattle.ulfm_model.specs.declared.{call.Call.{Call}, event.Caller.TheVariants.{Rank}, event.Event.{Event}, limits.Limits.{Limits}}
-use Rattle.ulfm_model.specs.declared.refusal.Refusal.TheVariants.{NoSuchComm, ProcFailed, SelfFailed}
+use Rattle.ulfm_model.specs.declared.refusal.Refusal.TheVariants.{NoSuchComm, ProcFailed, SelfFailed, Twice}
 use Rattle.ulfm_model.specs.declared.{reply.Reply.{Reply}, reply.Reply.TheVariants.{FailedGroup, Pending, Refused}}
 use Rattle.ulfm_model.specs.{Answers.{MayOwn, Sees, polled_by, refusal_of}, History.{History, IsLegal, entries_by, failures, has, spawns}}
 use Rattle.ulfm_model.specs.{Records.{Fits, Record, held_at, is_shrink}, Runs.{Did, IsAloneRun, IsCall, IsRun}}
 use Rattle.ulfm_model.specs.Terms.{comm_of}
 use Rattle.ulfm_model.specs.Records.{moment}
 use Rattle.ulfm_model.proofs.{LeftFits.{fits_seen}, LeftRuns.{call_fits}, Lists.{prefix_trans}, Stable.{fits_stays}}
-use Rattle.ulfm_words.specs.Steps.{view_of, IsView, Name, Sight}
+use Rattle.ulfm_words.specs.Steps.{IsView, Over, Sight, view_at}
 use Rattle.ulfm_words.proofs.Trails.{did_none, did_prefix, did_quiet, did_wait}
-use Rattle.ulfm_comm.specs.{Calls.{Calls, HadCome, RanOut, Linearizes}, Ends.{IsEarlyRun, IsEndRun, IsRefusedAgain}, Look.{Looked}}
+use Rattle.ulfm_comm.specs.{Calls.{Calls, FindsTwice, HadCome, RanOut, Linearizes}, Ends.{IsEarlyRun, IsEndRun, IsRefusedAgain}, Look.{Looked}}
 use Rattle.ulfm_comm.proofs.ReplyKinds.{counted_seen}
 use Rattle.ulfm_comm.proofs.WholeCall.{refused_missing, sees_later, self_failed}
 use Rattle.ulfm_comm.specs.Local.{local}
@@ -41,6 +49,7 @@ module _ {P : Type 0} (meld : P → P → P) (limits : Limits) (alone : Bool) (b
           point_begins = span.point_begins;
           point_ends = prefix_trans span.point early.found after span.point_ends (did_prefix alone [] early.found after early.waited);
           legal = legal;
+          spread = span.spread;
         };
         answer = record {
           own = ended.run.answer.own;
@@ -53,17 +62,29 @@ module _ {P : Type 0} (meld : P → P → P) (limits : Limits) (alone : Bool) (b
         };
       }
 
-  -- where nobody else steps, a run is one of the sequential object
-  pub alone_of : IsEndRun meld limits alone (moment old before) asked reply (moment new after) → IsTrue alone → IsAloneCall meld limits before after old asked reply new
-  alone_of ended here = inr (by_alone alone here ended)
+  -- a reply that rests on no wing: one that is `twice` to the start of an agreement finds a contribution
+  abbrev pub RestsOnNone : Type 0
+  RestsOnNone = reply ≡ Refused Twice → contributes asked ≡ true → (x : Held) → held_at old (comm_of asked) ≡ Some x
+      → (given : Contribution P) × (slot after x.comm x.next_agreement old.number ≡ Some (Slot.Given given))
+
+  -- where nobody else steps, a run whose reply rests on no wing is one of the sequential object
+  pub alone_of : RestsOnNone → IsEndRun meld limits alone (moment old before) asked reply (moment new after) → IsTrue alone → IsAloneCall meld limits before after old asked reply new
+  alone_of rests ended here = inr (by_alone alone here ended)
     where
       by_alone : (b : Bool) → IsTrue b → IsEndRun meld limits b (moment old before) asked reply (moment new after) → IsAloneRun meld limits (moment old before) asked reply (moment new after)
-      by_alone true here ended = record { run = ended.run; at_end = ended.at_end; marks = ended.marks refl }
+      by_alone true here ended =
+          let u = unspread meld limits true before after old asked reply new ended rests in
+          record {
+            run = u.0;
+            at_end = u.2 ∙ ended.at_end;
+            unspread = u.1;
+            marks = λ polls not_declared. ap settled_by u.3 ∙ ended.marks refl polls not_declared;
+          }
       by_alone false here ended = absurd (cc here)
 
 -- what a call is, by its end
-module _ {P : Type 0} (meld : P → P → P) (alone : Bool) (name : Name) (asked : Call P) (old : Record) (before : Sight P) (reply : Reply P) (new : Record)
-    (after : Sight P) (called : Calls meld alone asked (local old (view_of name before)) reply (local new (view_of name after))) where
+module _ {P : Type 0} (meld : P → P → P) (alone : Bool) (name : Over P) (asked : Call P) (old : Record) (before : Sight P) (reply : Reply P) (new : Record)
+    (after : Sight P) (called : Calls meld alone asked (local old (view_at name before)) reply (local new (view_at name after))) where
   -- it is one of the sequential object, among the steps of others
   pub called_run : IsCall meld name.limits alone (moment old before.seen) asked reply (moment new after.seen)
   called_run = by_end called.linearizes.ends
@@ -74,17 +95,25 @@ module _ {P : Type 0} (meld : P → P → P) (alone : Bool) (name : Name) (asked
       by_end (inr (inl ended)) = inr ended.run
       by_end (inr (inr early)) = inr (run_early meld name.limits alone before.seen after.seen old asked reply new called.linearizes.of.legal early)
 
-  -- where nobody else steps, it is one of the sequential object alone
-  pub called_alone : IsTrue alone → IsAloneCall meld name.limits before.seen after.seen old asked reply new
-  called_alone here = by_end called.linearizes.ends
+  -- a barrier's rests on none
+  early_rests : (early : IsEarlyRun meld name.limits alone (moment old before.seen) asked reply (moment new after.seen)) → RestsOnNone meld name.limits alone before.seen early.found old asked reply new
+  early_rests early = by_missing early.missing
+    where
+      by_missing : (reply ≡ Pending) ⊎ (reply ≡ Refused ProcFailed) → RestsOnNone meld name.limits alone before.seen early.found old asked reply new
+      by_missing (inl waits) = λ is. absurd (cc (waits, is))
+      by_missing (inr failed) = λ is. absurd (cc (failed, is))
+
+  -- where nobody else steps, it is one of the sequential object alone, if its reply rests on no wing
+  pub called_alone : RestsOnNone meld name.limits alone before.seen after.seen old asked reply new → IsTrue alone → IsAloneCall meld name.limits before.seen after.seen old asked reply new
+  called_alone rests here = by_end called.linearizes.ends
     where
       by_end : (IsRefusedAgain old reply new × (after ≡ before)) ⊎ (IsEndRun meld name.limits alone (moment old before.seen) asked reply (moment new after.seen) ⊎ IsEarlyRun meld name.limits alone (moment old before.seen) asked reply (moment new after.seen))
           → IsAloneCall meld name.limits before.seen after.seen old asked reply new
       by_end (inl (again, same)) = inl (again.refused, ap (λ (w : Sight P). w.seen) same, again.reply_is, again.record_is)
-      by_end (inr (inl ended)) = alone_of meld name.limits alone before.seen after.seen old asked reply new ended here
+      by_end (inr (inl ended)) = alone_of meld name.limits alone before.seen after.seen old asked reply new rests ended here
       by_end (inr (inr early)) =
           subst (λ h. IsAloneCall meld name.limits before.seen h old asked reply new) (sym (did_quiet alone early.found after.seen early.waited here))
-          (alone_of meld name.limits alone before.seen early.found old asked reply new early.run here)
+          (alone_of meld name.limits alone before.seen early.found old asked reply new (early_rests early) early.run here)
 
   -- one that counted failures has seen all that are declared at its end
   pub called_counts : (count : ℕ) → reply ≡ FailedGroup count → new.seen ≡ failures after.seen
@@ -100,41 +129,45 @@ module _ {P : Type 0} (meld : P → P → P) (alone : Bool) (name : Name) (asked
           not_early (inl waits) = cc (waits, is)
           not_early (inr failed) = cc (failed, is)
 
-module _ {P : Type 0} (meld : P → P → P) (alone : Bool) (name : Name) (before after : Sight P) (onward : before.steps ≤ after.steps) where
+module _ {P : Type 0} (meld : P → P → P) (alone : Bool) (name : Over P) (before after : Sight P) (onward : before.steps ≤ after.steps) where
   -- a call with its point at its end
-  pub calls_is : (asked : Call P) (old : Record) (reply : Reply P) (new : Record) → IsView meld (view_of name after) → Fits meld name.limits before.seen old
-      → IsEndRun meld name.limits alone (moment old before.seen) asked reply (moment new after.seen) → Linearizes meld alone asked (local old (view_of name before)) reply (local new (view_of name after))
-  calls_is asked old reply new of fits ended =
+  pub calls_is : (asked : Call P) (old : Record) (reply : Reply P) (new : Record) → IsView meld (view_at name after) → Fits meld name.limits before.seen old
+      → (reply ≡ Refused Twice → FindsTwice asked old (view_at name after))
+      → IsEndRun meld name.limits alone (moment old before.seen) asked reply (moment new after.seen) → Linearizes meld alone asked (local old (view_at name before)) reply (local new (view_at name after))
+  calls_is asked old reply new of fits twice ended =
       record {
         of = of;
         onward = onward;
         fits = call_fits meld name.limits alone before.seen after.seen old asked reply new fits (inr ended.run);
+        twice = twice;
         ends = inr (inl ended);
       }
 
   -- the poll of a barrier, with its point where somebody was found missing
-  pub calls_early : (asked : Call P) (old : Record) (reply : Reply P) (new : Record) → IsView meld (view_of name after) → Fits meld name.limits before.seen old
-      → IsEarlyRun meld name.limits alone (moment old before.seen) asked reply (moment new after.seen) → Linearizes meld alone asked (local old (view_of name before)) reply (local new (view_of name after))
-  calls_early asked old reply new of fits early =
+  pub calls_early : (asked : Call P) (old : Record) (reply : Reply P) (new : Record) → IsView meld (view_at name after) → Fits meld name.limits before.seen old
+      → (reply ≡ Refused Twice → FindsTwice asked old (view_at name after))
+      → IsEarlyRun meld name.limits alone (moment old before.seen) asked reply (moment new after.seen) → Linearizes meld alone asked (local old (view_at name before)) reply (local new (view_at name after))
+  calls_early asked old reply new of fits twice early =
       record {
         of = of;
         onward = onward;
         fits = call_fits meld name.limits alone before.seen after.seen old asked reply new fits
             (inr (run_early meld name.limits alone before.seen after.seen old asked reply new of.legal early));
+        twice = twice;
         ends = inr (inr early);
       }
 
   -- a rank that its look finds declared
-  pub calls_declared : (asked : Call P) (old new : Record) → IsView meld (view_of name after) → Fits meld name.limits before.seen old → old.refused ≡ false
+  pub calls_declared : (asked : Call P) (old new : Record) → IsView meld (view_at name after) → Fits meld name.limits before.seen old → old.refused ≡ false
       → Did alone [] before.seen after.seen
       → IsTrue (has (failures after.seen) old.number) → new ≡ record old { seen = failures after.seen; refused = true }
-      → Linearizes meld alone asked (local old (view_of name before)) (Refused SelfFailed) (local new (view_of name after))
+      → Linearizes meld alone asked (local old (view_at name before)) (Refused SelfFailed) (local new (view_at name after))
   calls_declared asked old new of fits in_use did declared is =
-      calls_is asked old (Refused SelfFailed) new of fits (self_failed meld name.limits alone before.seen after.seen old after.seen asked new in_use did
+      calls_is asked old (Refused SelfFailed) new of fits (λ is no. absurd (cc (is, no))) (self_failed meld name.limits alone before.seen after.seen old after.seen asked new in_use did
       (did_none alone after.seen) of.legal declared is)
 
   -- a rank that goes on after its look
-  pub looked_fits : (old mid : Record) → IsView meld (view_of name after) → Fits meld name.limits before.seen old → Looked alone before.seen after.seen old mid
+  pub looked_fits : (old mid : Record) → IsView meld (view_at name after) → Fits meld name.limits before.seen old → Looked alone before.seen after.seen old mid
       → Fits meld name.limits after.seen mid
   looked_fits old mid of fits looked =
       let still = fits_stays meld name.limits before.seen after.seen old (did_prefix alone [] before.seen after.seen looked.did) of.legal fits in
@@ -142,20 +175,20 @@ module _ {P : Type 0} (meld : P → P → P) (alone : Bool) (name : Name) (befor
       ([], append-nil (failures after.seen)))
 
   -- a call on a communicator that the rank doesn't hold
-  pub calls_missing : (asked : Call P) (old mid : Record) → IsView meld (view_of name after) → Fits meld name.limits before.seen old
+  pub calls_missing : (asked : Call P) (old mid : Record) → IsView meld (view_at name after) → Fits meld name.limits before.seen old
       → Looked alone before.seen after.seen old mid → held_at mid (comm_of asked) ≡ None
-      → Linearizes meld alone asked (local old (view_of name before)) (Refused NoSuchComm) (local mid (view_of name after))
+      → Linearizes meld alone asked (local old (view_at name before)) (Refused NoSuchComm) (local mid (view_at name after))
   calls_missing asked old mid of fits looked missing =
-      calls_is asked old (Refused NoSuchComm) mid of fits (refused_missing meld name.limits alone before.seen after.seen old mid looked asked mid of.legal
+      calls_is asked old (Refused NoSuchComm) mid of fits (λ is no. absurd (cc (is, no))) (refused_missing meld name.limits alone before.seen after.seen old mid looked asked mid of.legal
       missing refl)
 
   -- a call that ran out of memory, of a rank that has then seen so much
-  pub runs_out_after : (asked : Call P) (old new : Record) (look : History P) (own : List (Event P)) → IsView meld (view_of name after)
+  pub runs_out_after : (asked : Call P) (old new : Record) (look : History P) (own : List (Event P)) → IsView meld (view_at name after)
       → Fits meld name.limits before.seen old → Looked alone before.seen look old (record old { seen = failures look })
       → Did alone (entries_by (Rank old.number) own) look after.seen → refusal_of old asked ≡ None → AllByRecursion (MayOwn (failures look) old asked) own
       → spawns (entries_by (Rank old.number) own) ≡ [] → HadCome meld name.limits after.seen old.number (comm_of asked) (polled_by old asked)
       → Sees (is_shrink (polled_by old asked)) (failures look) after.seen new.seen → IsPrefix new.seen (failures after.seen)
-      → new ≡ record old { seen = new.seen } → RanOut meld alone asked (local old (view_of name before)) (local new (view_of name after))
+      → new ≡ record old { seen = new.seen } → RanOut meld alone asked (local old (view_at name before)) (local new (view_at name after))
   runs_out_after asked old new look own of fits looked did passed may none come sees begins is =
       let to_look = did_prefix alone [] before.seen look looked.did in
       let to_end = did_prefix alone (entries_by (Rank old.number) own) look after.seen did in
@@ -176,6 +209,7 @@ module _ {P : Type 0} (meld : P → P → P) (alone : Bool) (name : Name) (befor
             point_begins = whole;
             point_ends = ([], append-nil after.seen);
             legal = of.legal;
+            spread = false;
           };
           not_declared = looked.not_declared;
           not_refused = passed;

@@ -9,7 +9,7 @@ use Rattle.ulfm_model.specs.declared.step_name.StepName.TheVariants as step
 use Rattle.ulfm_model.specs.{Answers.{refusal_of}, History.{History}, Records.{Fits, Held, Record, held_at}, Words.{MayOpen}}
 use Rattle.ulfm_model.specs.Terms.{comm_of, request_of}
 use Rattle.ulfm_model.proofs.Groups.{members_few}
-use Rattle.ulfm_words.specs.Steps.{view_of, IsView, Name, Sight}
+use Rattle.ulfm_words.specs.Steps.{IsView, Over, Sight, view_at}
 use Rattle.ulfm_comm.specs.{Bound.{call_bound, poll_bound, step_bound}, Calls.{EndsAs, EndsReply, wants_memory}, Counts.{Counted, CountsStep, named_steps}}
 use Rattle.ulfm_comm.specs.{Phase.{next_step}, StepsLeft.{MakesStep, Spends, group_of, steps_left}}
 use Rattle.ulfm_comm.specs.declared.{phases.phase.Next.{Next}}
@@ -23,6 +23,7 @@ named_is None r c old new made = let same = ap (λ (s : Sight _). s.steps) made 
 named_is (Some step.List) r c old new made = made.1.steps
 named_is (Some step.Settle) r c old new made = made.1.steps
 named_is (Some step.Block) r c old new made = made.2.steps
+named_is (Some step.Wing) r c old new made = made.3.steps
 named_is (Some step.Mark) r c old new made = made.2.steps
 named_is (Some step.Slot) r c old new made = made.2.steps
 named_is (Some step.Cache) r c old new made = made.2.steps
@@ -52,13 +53,13 @@ few_held meld limits h own c fits = go (held_at own c) (λ x is. is)
     go (Some x) is = let few = members_few limits.ranks h c in let same = ap length
         (group_is meld limits h own c x fits (is x refl)) in omega (arith, few, same)
 
-poll_most : (N v n M : ℕ) (request : Option Request) → poll_bound N v n M request ≤ N + 3 * n + 2 * M + 2
+poll_most : (N v n M : ℕ) (request : Option Request) → poll_bound N v n M request ≤ N + 5 * n + 2 * M + 4
 poll_most N v n M None = omega arith
 poll_most N v n M (Some (Agree k)) = omega arith
 poll_most N v n M (Some (Shrink k)) = omega arith
 poll_most N v n M (Some (Barrier k)) = omega arith
 
-call_most : {P : Type 0} (N v n M : ℕ) (request : Option Request) (asked : Call P) → call_bound N v n M request asked ≤ N + 3 * n + 2 * M + 2
+call_most : {P : Type 0} (N v n M : ℕ) (request : Option Request) (asked : Call P) → call_bound N v n M request asked ≤ N + 5 * n + 2 * M + 4
 call_most N v n M request (call.Fail rank) = omega arith
 call_most N v n M request (call.GetFailed rank c) = omega arith
 call_most N v n M request (call.Ack rank c count) = omega arith
@@ -81,8 +82,8 @@ bound_small {P} meld limits h own asked may fits = go own.refused (is_some (refu
     few : n ≤ limits.ranks
     few = few_held meld limits h own (comm_of asked) fits
 
-    most : call_bound limits.ranks (length own.seen) n limits.comms (request_of (held_at own (comm_of asked))) asked ≤ limits.ranks + 3 * n + 2 * limits.comms +
-        2
+    most : call_bound limits.ranks (length own.seen) n limits.comms (request_of (held_at own (comm_of asked))) asked ≤ limits.ranks + 5 * n + 2 * limits.comms +
+        4
     most = call_most limits.ranks (length own.seen) n limits.comms (request_of (held_at own (comm_of asked))) asked
 
     go : (a b : Bool) → (if a then 0 else (if b then limits.ranks - length own.seen else call_bound limits.ranks (length own.seen) n limits.comms
@@ -92,19 +93,19 @@ bound_small {P} meld limits h own asked may fits = go own.refused (is_some (refu
     go false false = omega (arith, may.in_range.ranks, may.in_range.comms, few, most)
 
 -- a call's steps are counted onward
-ends_onward : {P : Type 0} (meld : P → P → P) (alone : Bool) (name : Name) (asked : Call P) (old : Record) (before : Sight P) (reply : Reply P) (new : Record)
+ends_onward : {P : Type 0} (meld : P → P → P) (alone : Bool) (name : Over P) (asked : Call P) (old : Record) (before : Sight P) (reply : Reply P) (new : Record)
     (after : Sight P)
-    → EndsReply meld alone asked (local old (view_of name before)) reply (local new (view_of name after)) → before.steps ≤ after.steps
+    → EndsReply meld alone asked (local old (view_at name before)) reply (local new (view_at name after)) → before.steps ≤ after.steps
 ends_onward {P} meld alone name asked old before reply new after ends = go (wants_memory reply) ends
   where
-    go : (b : Bool) → EndsAs meld alone asked (local old (view_of name before)) reply b (local new (view_of name after)) → before.steps ≤ after.steps
+    go : (b : Bool) → EndsAs meld alone asked (local old (view_at name before)) reply b (local new (view_at name after)) → before.steps ≤ after.steps
     go true ended = ended.0.ran_out.onward
     go false called = called.linearizes.onward
 
 -- The difference of two counts modulo 2 ^ 64 is the number of a call's steps.
-module _ {P : Type 0} (meld : P → P → P) (alone : Bool) (name : Name) (asked : Call P) (old : Record) (before : Sight P) (reply : Reply P) (new : Record)
+module _ {P : Type 0} (meld : P → P → P) (alone : Bool) (name : Over P) (asked : Call P) (old : Record) (before : Sight P) (reply : Reply P) (new : Record)
     (after : Sight P)
-    (of : IsView meld (view_of name before)) (fits : Fits meld name.limits before.seen old) (ends : EndsReply meld alone asked (local old (view_of name before)) reply (local new (view_of name after)))
+    (of : IsView meld (view_at name before)) (fits : Fits meld name.limits before.seen old) (ends : EndsReply meld alone asked (local old (view_at name before)) reply (local new (view_at name after)))
     (steps : after.steps ≤ before.steps + step_bound name.limits old asked) (first last made : ℕ) (first_is : first ≡ before.steps % 2 ^ 64)
     (last_is : last ≡ after.steps % 2 ^ 64)
     (made_is : made ≡ (last + (2 ^ 64 - first)) % 2 ^ 64) where

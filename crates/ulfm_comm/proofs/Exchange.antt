@@ -16,17 +16,21 @@ use Rattle.ulfm_model.specs.{Runs.{Did}, Words.{MayOpen}}
 use Rattle.ulfm_model.specs.Terms.{comm_of, tests_of}
 use Rattle.ulfm_model.proofs.Stable.{fits_stays}
 use Rattle.ulfm_model.specs.Records.{moment}
-use Rattle.ulfm_words.specs.{Places.{IsCell}, Steps.{IsAdded, IsView, Name, Sight}, Tries.{MayArrive, MayEnd}}
+use Rattle.ulfm_words.specs.{Places.{IsCell}, Steps.{IsAdded, IsView, Over, Sight}, Tries.{MayArrive, MayEnd}}
 use Rattle.ulfm_words.proofs.Trails.{added_after, did_added, did_after, did_prefix}
-use Rattle.ulfm_words.specs.Steps.{view_of}
+use Rattle.ulfm_words.specs.Steps.{view_at}
+use Rattle.ulfm_words.specs.declared.sets.Settled.{Settled}
+use Rattle.ulfm_steps.specs.Settles.{IsSpreadIn, WingStands}
 use Rattle.ulfm_record.specs.Kept.{HasNext}
+use Rattle.ulfm_comm.proofs.Stands.{looked_lasts}
 use Rattle.ulfm_comm.specs.{Calls.{Linearizes, reply_of}, Phase.{Answered, Stands}, Look.{HasLooked}}
+use Rattle.ulfm_comm.specs.Requests.{contributes}
 use Rattle.ulfm_comm.specs.{Exchange.{StartsWith, Settles, start_leaves, start_result}, Step.{Walks}, Revokes.{revoked}}
-use Rattle.ulfm_comm.specs.declared.phases.phase.Phase.TheVariants.{Settling}
+use Rattle.ulfm_comm.specs.declared.phases.phase.Phase.TheVariants.{Settling, Spreading}
 use Rattle.ulfm_comm.proofs.BarrierStart.{barrier_may_come, barrier_within, calls_entered, calls_entered_before}
 use Rattle.ulfm_comm.proofs.{AmongOthers.{added_loosely, did_loosely, tried_loosely}, WholeCall.{held_before}}
 use Rattle.ulfm_comm.proofs.Revokes.{calls_revoked, calls_standing, held_below, held_may_end}
-use Rattle.ulfm_comm.proofs.Starts.{calls_started}
+use Rattle.ulfm_comm.proofs.Starts.{calls_spread, calls_started}
 use Rattle.ulfm_comm.specs.Local.{frame, local}
 
 -- no test holds, so the first doesn't
@@ -45,6 +49,7 @@ pub record IsStarting {P : Type 0} (meld : P → P → P) (limits : Limits) (ask
   pub starts : (traits_of asked).starts x ≡ Some request
   pub adds : (look : List ℕ) (given : Contribution P) → CallAdds look old.number x asked (Settle x.comm x.next_agreement old.number given)
   pub replies : (view : AtPoint P) → (reply : _) → StartReplies view old x offer reply → Replies meld limits view old x asked reply
+  pub contributing : contributes asked ≡ true
   pub room : x.next_agreement < old.limits.rounds
   pub next : old.limits.rounds ≤ 4096 → HasNext request
 
@@ -64,6 +69,7 @@ is_starting meld limits (call.Agree rank c value) old x request offer passes sta
       starts = ap Some (sym starts.0);
       adds = λ look given. (given, refl);
       replies = λ view reply is. subst (λ o. StartReplies view old x o reply) starts.1 is;
+      contributing = refl;
       room = omega (arith, room);
       next = λ few. subst HasNext (sym starts.0) (omega (arith, room, few));
     }
@@ -78,6 +84,7 @@ is_starting meld limits (call.Shrink rank c) old x request offer passes starts =
       starts = ap Some (sym starts.0);
       adds = λ look given. (given, refl);
       replies = λ view reply is. subst (λ o. StartReplies view old x o reply) starts.1 is;
+      contributing = refl;
       room = room;
       next = λ few. subst HasNext (sym starts.0) (omega (arith, room, few));
     }
@@ -122,15 +129,15 @@ pub tried_after : {P : Type 0} (alone won : Bool) (e : _) (x y z : History P) �
 tried_after alone true e x y z did outcome = added_after alone e x y z did outcome
 tried_after alone false e x y z did outcome = did_after alone [] x y z did outcome
 
-module _ {P : Type 0} (meld : P → P → P) (quiet : Bool) (name : Name) (number : ℕ) (old new : Sight P) (of : IsView meld (view_of name new))
+module _ {P : Type 0} (meld : P → P → P) (quiet : Bool) (name : Over P) (number : ℕ) (old new : Sight P) (of : IsView meld (view_at name new))
     (one : new.steps ≡ old.steps + 1) (cached : IsPrefix old.cached new.cached) where
   -- one step without an event
-  pub walks_none : Did quiet [] old.seen new.seen → Walks meld quiet number (view_of name old) (view_of name new)
+  pub walks_none : Did quiet [] old.seen new.seen → Walks meld quiet number (view_at name old) (view_at name new)
   walks_none did = record { of = of; own = []; did = did; onward = omega (arith, one); cached = cached }
 
   -- one exchange
   pub walks_tried : (won : Bool) (event : Event P) → MatchBool won (IsAdded quiet (record { by = Rank number; event = event }) old.seen new.seen)
-      (Did quiet [] old.seen new.seen) → Walks meld quiet number (view_of name old) (view_of name new)
+      (Did quiet [] old.seen new.seen) → Walks meld quiet number (view_at name old) (view_at name new)
   walks_tried true event outcome = record {
     of = of;
     own = event ∷ [];
@@ -141,8 +148,8 @@ module _ {P : Type 0} (meld : P → P → P) (quiet : Bool) (name : Name) (numbe
   walks_tried false event outcome = walks_none outcome
 
   -- the exchange of a contribution
-  pub walks_settled : (own : Record) (x : Held) (offer : Offer P) (settled : Result (Unit {0}) (Slot P)) → own.number ≡ number
-      → Settles quiet old.seen new.seen own x offer settled → Walks meld quiet number (view_of name old) (view_of name new)
+  pub walks_settled : (own : Record) (x : Held) (offer : Offer P) (settled : Result (Unit {0}) Settled) → own.number ≡ number
+      → Settles quiet old.seen new.seen own x offer settled → Walks meld quiet number (view_at name old) (view_at name new)
   walks_settled own x offer (Ok done) mine gave =
       record {
         of = of;
@@ -158,7 +165,7 @@ module _ {P : Type 0} (meld : P → P → P) (quiet : Bool) (name : Name) (numbe
 
 -- what holds of an exchange where the words are alone holds among others' steps
 settles_loosely : {P : Type 0} (alone quiet : Bool) → (IsTrue alone → IsTrue quiet)
-    → (now after : History P) (own : Record) (x : Held) (offer : Offer P) (settled : Result (Unit {0}) (Slot P)) → Settles quiet now after own x offer settled
+    → (now after : History P) (own : Record) (x : Held) (offer : Offer P) (settled : Result (Unit {0}) Settled) → Settles quiet now after own x offer settled
     → Settles alone now after own x offer settled
 settles_loosely alone quiet only now after own x offer (Ok done) gave =
     record {
@@ -171,37 +178,75 @@ settles_loosely alone quiet only now after own x offer (Ok done) gave =
     }
 settles_loosely alone quiet only now after own x offer (Err put) was = record { did = did_loosely alone quiet only [] now after was.did; stands = was.stands }
 
-module _ {P : Type 0} (meld : P → P → P) (alone quiet : Bool) (only : IsTrue alone → IsTrue quiet) (name : Name) (asked : Call P) (request : Request)
+module _ {P : Type 0} (meld : P → P → P) (alone quiet : Bool) (only : IsTrue alone → IsTrue quiet) (name : Over P) (asked : Call P) (request : Request)
     (offer : Offer P) (group : List ℕ) (old : Record) (before : Sight P) (own : Record) (now after : Sight P) (went : now.steps ≤ after.steps)
-    (stood : Stands meld alone (local old (view_of name before)) (record { asked = asked; phase = Settling request offer; group = group }) (local own (view_of name now))) (x : Held)
+    (stood : Stands meld alone (local old (view_at name before)) (record { asked = asked; phase = Settling request offer; group = group }) (local own (view_at name now))) (x : Held)
     (held : held_at own (comm_of asked) ≡ Some x) where
-  by_exchange : (settled : Result (Unit {0}) (Slot P)) (new : Record) → IsView meld (view_of name after) → Settles quiet now.seen after.seen own x offer settled
+  by_exchange : (settled : Result (Unit {0}) Settled) (new : Record) → IsView meld (view_at name after) → Settles quiet now.seen after.seen own x offer settled
       → new ≡ start_leaves own (comm_of asked) request settled
-      → Linearizes meld alone asked (local old (view_of name before)) (reply_of (λ _. Started) (start_result settled)) (local new (view_of name after))
+      → Linearizes meld alone asked (local old (view_at name before)) (reply_of (λ _. Started) (start_result settled)) (local new (view_at name after))
   by_exchange settled new of settles leaves =
       let p = stood.at.0 in
       let same = found_same meld name.limits alone asked old before.seen own now.seen p x held in
       let has = is_starting meld name.limits asked old p.x request offer (passes_tests meld name.limits alone asked old before.seen own now.seen p)
       stood.at.1 in
       calls_started meld alone name before (record now { seen = p.look }) after (omega (arith, stood.onward, went)) asked old own stood.fits p.looked p.x p.held
-      p.passed now.seen p.waited offer request has.no_poll has.starts (has.adds (failures p.look)) has.replies
+      p.passed now.seen p.waited offer request has.no_poll has.starts (has.adds (failures p.look)) has.replies has.contributing
       settled (start_result settled) new of
       (subst (λ y. Settles alone now.seen after.seen own y offer settled) (sym same)
       (settles_loosely alone quiet only now.seen after.seen own x offer settled settles)) refl leaves
 
   -- a start is answered as its exchange says
-  pub start_answered : (settled : Result (Unit {0}) (Slot P)) (new : Record) → IsView meld (view_of name after) → Settles quiet now.seen after.seen own x offer settled
+  pub start_answered : (settled : Result (Unit {0}) Settled) (new : Record) → IsView meld (view_at name after) → Settles quiet now.seen after.seen own x offer settled
       → new ≡ start_leaves own (comm_of asked) request settled
-      → Answered meld alone asked (local old (view_of name before)) (reply_of (λ _. Started) (start_result settled)) (local new (view_of name after))
+      → Answered meld alone asked (local old (view_at name before)) (reply_of (λ _. Started) (start_result settled)) (local new (view_at name after))
   start_answered (Ok done) new of settles leaves = record { ends = inr (by_exchange (Ok done) new of settles leaves); pending = λ is. absurd (cc is) }
-  start_answered (Err (Marked mark)) new of settles leaves = record {
-    ends = inr (by_exchange (Err (Marked mark)) new of settles leaves);
+  start_answered (Err Settled.Marked) new of settles leaves = record {
+    ends = inr (by_exchange (Err Settled.Marked) new of settles leaves);
     pending = λ is. absurd (cc is);
   }
-  start_answered (Err (Given given)) new of settles leaves = record {
-    ends = inr (by_exchange (Err (Given given)) new of settles leaves);
+  start_answered (Err Settled.Contributed) new of settles leaves = record {
+    ends = inr (by_exchange (Err Settled.Contributed) new of settles leaves);
     pending = λ is. absurd (cc is);
   }
+
+-- the first exchange of a start of an agreement
+module _ {P : Type 0} (meld : P → P → P) (alone quiet : Bool) (only : IsTrue alone → IsTrue quiet) (name : Over P) (asked : Call P) (request : Request)
+    (offer : Offer P) (group : List ℕ) (old : Record) (before : Sight P) (own : Record) (now after : Sight P) (went : now.steps ≤ after.steps)
+    (stood : Stands meld alone (local old (view_at name before)) (record { asked = asked; phase = Spreading request offer; group = group }) (local own (view_at name now))) (x : Held)
+    (held : held_at own (comm_of asked) ≡ Some x) (of : IsView meld (view_at name after)) (did : Did quiet [] now.seen after.seen) where
+  -- where the wing stood before, the start is answered `twice`
+  pub spread_before : WingStands (view_at name after) x.comm x.next_agreement own.number
+      → Answered meld alone asked (local old (view_at name before)) (Refused Twice) (local own (view_at name after))
+  spread_before stands =
+      let p = stood.at.0 in
+      let same = found_same meld name.limits alone asked old before.seen own now.seen p x held in
+      let has = is_starting meld name.limits asked old p.x request offer (passes_tests meld name.limits alone asked old before.seen own now.seen p)
+      stood.at.1 in
+      record {
+        ends = inr (calls_spread meld alone name before (record now { seen = p.look }) after (omega (arith, stood.onward, went)) asked old own stood.fits p.looked p.x
+            p.held p.passed now.seen p.waited offer request has.no_poll has.starts (has.adds (failures p.look)) has.replies has.contributing of
+            (did_loosely alone quiet only [] now.seen after.seen did)
+            (subst (λ (z : Held). WingStands (view_at name after) z.comm z.next_agreement own.number) (sym same) stands));
+        pending = λ is. absurd (cc is);
+      }
+
+  -- where it is set by this step, the rank contributes next
+  pub spread_goes : IsSpreadIn (view_at name after) x.comm x.next_agreement own.number offer
+      → Stands meld alone (local old (view_at name before)) (record { asked = asked; phase = Settling request offer; group = group }) (local own (view_at name after))
+  spread_goes set =
+      let p = stood.at.0 in
+      let same = found_same meld name.limits alone asked old before.seen own now.seen p x held in
+      record {
+        fits = stood.fits;
+        mine = stood.mine;
+        onward = omega (arith, stood.onward, went);
+        at = (
+          looked_lasts meld name.limits alone old before.seen own now.seen after.seen (did_loosely alone quiet only [] now.seen after.seen did) of.legal asked p,
+          stood.at.1,
+          subst (λ (z : Held). IsSpreadIn (view_at name after) z.comm z.next_agreement own.number offer) (sym same) set,
+        );
+      }
 
 -- the start of a barrier, among others' steps since its look
 module _ {P : Type 0} (meld : P → P → P) (limits : Limits) (alone : Bool) (asked : Call P) (old : Record) (before : History P) (own : Record) (now : History P)
@@ -224,14 +269,14 @@ module _ {P : Type 0} (meld : P → P → P) (limits : Limits) (alone : Bool) (a
   arriving_may legal = barrier_may_come meld limits now own (comm_of asked) p.x (fits_now meld limits alone asked old before own now p legal) p.held
       barrier_room
 
-module _ {P : Type 0} (meld : P → P → P) (alone quiet : Bool) (only : IsTrue alone → IsTrue quiet) (name : Name) (c round : ℕ) (old : Record) (before : Sight P)
+module _ {P : Type 0} (meld : P → P → P) (alone quiet : Bool) (only : IsTrue alone → IsTrue quiet) (name : Over P) (c round : ℕ) (old : Record) (before : Sight P)
     (own : Record) (now after : Sight P) (onward : before.steps ≤ after.steps) (fits : Fits meld name.limits before.seen old)
     (p : HasLooked (frame meld name.limits alone) (call.Barrier old.number c) (moment old before.seen) (moment own now.seen)) (round_is : round ≡ p.x.next_barrier)
-    (of : IsView meld (view_of name after)) (stands : IsTrue (has_arrived after.seen c round own.number)) where
+    (of : IsView meld (view_at name after)) (stands : IsTrue (has_arrived after.seen c round own.number)) where
   -- the rank has arrived by this call, or before
   pub arrived_now : (new : Record) → IsAdded quiet (record { by = Rank own.number; event = Arrive c round own.number }) now.seen after.seen
       → new ≡ with_held own c (λ y. opened y (Some (Barrier round)))
-      → Answered meld alone (call.Barrier old.number c) (local old (view_of name before)) Started (local new (view_of name after))
+      → Answered meld alone (call.Barrier old.number c) (local old (view_at name before)) Started (local new (view_at name after))
   arrived_now new added is =
       let look : Sight P = record now { seen = p.look } in
       let e : Entry P = record { by = Rank own.number; event = Arrive c round own.number } in
@@ -245,7 +290,7 @@ module _ {P : Type 0} (meld : P → P → P) (alone quiet : Bool) (only : IsTrue
         pending = λ same. absurd (cc same);
       }
 
-  pub arrived_before : Did quiet [] now.seen after.seen → Answered meld alone (call.Barrier old.number c) (local old (view_of name before)) (Refused Twice) (local own (view_of name after))
+  pub arrived_before : Did quiet [] now.seen after.seen → Answered meld alone (call.Barrier old.number c) (local old (view_at name before)) (Refused Twice) (local own (view_at name after))
   arrived_before did =
       let look : Sight P = record now { seen = p.look } in
       let passed = passes_tests meld name.limits alone (call.Barrier old.number c) old before.seen own now.seen p in
@@ -257,12 +302,12 @@ module _ {P : Type 0} (meld : P → P → P) (alone quiet : Bool) (only : IsTrue
       }
 
 -- a revocation, and the question after it
-module _ {P : Type 0} (meld : P → P → P) (alone quiet : Bool) (only : IsTrue alone → IsTrue quiet) (name : Name) (c : ℕ) (old : Record) (before : Sight P)
-    (own : Record) (now after : Sight P) (onward : before.steps ≤ after.steps) (fits : Fits meld name.limits before.seen old) (of : IsView meld (view_of name after)) where
+module _ {P : Type 0} (meld : P → P → P) (alone quiet : Bool) (only : IsTrue alone → IsTrue quiet) (name : Over P) (c : ℕ) (old : Record) (before : Sight P)
+    (own : Record) (now after : Sight P) (onward : before.steps ≤ after.steps) (fits : Fits meld name.limits before.seen old) (of : IsView meld (view_at name after)) where
   revoked_once : (p : HasLooked (frame meld name.limits alone) (call.Revoke old.number c) (moment old before.seen) (moment own now.seen)) (won : Bool)
       → MatchBool won (IsAdded quiet (record { by = Rank own.number; event = Revoke c }) now.seen after.seen) (Did quiet [] now.seen after.seen)
       → IsTrue (is_revoked after.seen c)
-      → Linearizes meld alone (call.Revoke old.number c) (local old (view_of name before)) (revoked won) (local own (view_of name after))
+      → Linearizes meld alone (call.Revoke old.number c) (local old (view_at name before)) (revoked won) (local own (view_at name after))
   revoked_once p won outcome stands =
       let mine = number_is meld name.limits alone (call.Revoke old.number c) old before.seen own now.seen p in
       let e : Entry P = record { by = Rank old.number; event = Revoke c } in
@@ -276,14 +321,14 @@ module _ {P : Type 0} (meld : P → P → P) (alone quiet : Bool) (only : IsTrue
   pub revoke_answered : HasLooked (frame meld name.limits alone) (call.Revoke old.number c) (moment old before.seen) (moment own now.seen) → (won : Bool)
       → MatchBool won (IsAdded quiet (record { by = Rank own.number; event = Revoke c }) now.seen after.seen) (Did quiet [] now.seen after.seen)
       → IsTrue (is_revoked after.seen c)
-      → Answered meld alone (call.Revoke old.number c) (local old (view_of name before)) (revoked won) (local own (view_of name after))
+      → Answered meld alone (call.Revoke old.number c) (local old (view_at name before)) (revoked won) (local own (view_at name after))
   revoke_answered p true outcome stands = record { ends = inr (revoked_once p true outcome stands); pending = λ same. absurd (cc same) }
   revoke_answered p false outcome stands = record { ends = inr (revoked_once p false outcome stands); pending = λ same. absurd (cc same) }
 
   -- whether it is
   pub asked_answered : HasLooked (frame meld name.limits alone) (call.IsRevoked old.number c) (moment old before.seen) (moment own now.seen) → (found : Bool)
       → Did quiet [] now.seen after.seen → found ≡ is_revoked after.seen c
-      → Answered meld alone (call.IsRevoked old.number c) (local old (view_of name before)) (Standing found) (local own (view_of name after))
+      → Answered meld alone (call.IsRevoked old.number c) (local old (view_at name before)) (Standing found) (local own (view_at name after))
   asked_answered p found did is =
       record {
         ends = inr (calls_standing meld alone name before (record now { seen = p.look }) after onward old.number c old own fits p.looked p.fits p.x p.held found

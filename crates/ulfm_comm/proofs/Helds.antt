@@ -22,7 +22,7 @@ contexts_changed c f same (x ∷ xs) =
     [ true ↦ ap (λ i. i ∷ contexts_of xs) (same x) | false ↦ ap (λ ids. x.context ∷ ids) rest ]
 
 -- a rank that holds one communicator
-pub room_new : (limits : Limits) (capacity places : ℕ) (x : Held) → MayOpen limits → limits.ranks ≤ capacity → 32 ≤ places → x.context < 32
+pub room_new : (limits : Limits) (capacity places : ℕ) (x : Held) → MayOpen limits → limits.ranks ≤ capacity → 64 ≤ places → x.context < 64
     → HasRoom limits capacity places (x ∷ [])
 unfolding IsDistinct
 room_new limits capacity places x may_open room enough id =
@@ -37,7 +37,7 @@ room_changed limits capacity places now c f xs new old contexts is same =
       may_open = old.may_open;
       room = old.room;
       enough = omega (arith, old.enough, same);
-      ids = subst (AllByRecursion (λ i. i < 32)) (sym (contexts_changed c f contexts xs)) old.ids;
+      ids = subst (AllByRecursion (λ i. i < 64)) (sym (contexts_changed c f contexts xs)) old.ids;
       contexts = subst (IsDistinct nat_eq) (sym (contexts_changed c f contexts xs)) old.contexts;
     })
 
@@ -69,13 +69,13 @@ room_kept limits capacity places now p xs new old is same =
       may_open = old.may_open;
       room = old.room;
       enough = omega (arith, old.enough, same);
-      ids = contexts_kept p (λ i. i < 32) xs old.ids;
+      ids = contexts_kept p (λ i. i < 64) xs old.ids;
       contexts = distinct_kept p xs old.contexts;
     })
 
 -- one communicator more, with a context id that none has
 pub room_pushed : (limits : Limits) (capacity places now c : ℕ) (f : Held → Held) (made : Held) (xs new : List Held) → HasRoom limits capacity places xs
-    → ((y : Held) → (f y).context ≡ y.context) → made.context < 32
+    → ((y : Held) → (f y).context ≡ y.context) → made.context < 64
     → AllByRecursion (λ i. nat_eq i made.context ≡ false) (contexts_of xs) → new ≡ change_at c f xs ++ made ∷ [] → places ≤ now
     → HasRoom limits capacity now new
 room_pushed limits capacity places now c f made xs new old contexts id fresh is more =
@@ -85,30 +85,30 @@ room_pushed limits capacity places now c f made xs new old contexts id fresh is 
       may_open = rest.may_open;
       room = rest.room;
       enough = omega (arith, old.enough, more);
-      ids = subst (AllByRecursion (λ i. i < 32)) (sym (contexts_push (change_at c f xs) made))
-          (each_push (λ i. i < 32) (contexts_of (change_at c f xs)) made.context rest.ids id);
+      ids = subst (AllByRecursion (λ i. i < 64)) (sym (contexts_push (change_at c f xs) made))
+          (each_push (λ i. i < 64) (contexts_of (change_at c f xs)) made.context rest.ids id);
       contexts =
           subst (IsDistinct nat_eq) (sym (contexts_push (change_at c f xs) made))
           (distinct_push nat_eq (contexts_of (change_at c f xs)) made.context rest.contexts
           (any_none (λ i. nat_eq i made.context) (contexts_of (change_at c f xs)) others));
     })
 
-ids_below : (ids : List ℕ) (q : ℕ) → AllByRecursion (λ i. i < 32) ids → list_any (nat_eq q) ids ≡ true → q < 32
+ids_below : (ids : List ℕ) (q : ℕ) → AllByRecursion (λ i. i < 64) ids → list_any (nat_eq q) ids ≡ true → q < 64
 ids_below [] q all among = absurd (cc among)
 ids_below (i ∷ ids) q all among = go (nat_eq q i) refl (λ more. ids_below ids q all.1 more)
   where
-    go : (b : Bool) → nat_eq q i ≡ b → (list_any (nat_eq q) ids ≡ true → q < 32) → q < 32
-    go true same rest = let is : q ≡ i = grind (arith, nat_tests) in subst (λ n. n < 32) (sym is) all.0
+    go : (b : Bool) → nat_eq q i ≡ b → (list_any (nat_eq q) ids ≡ true → q < 64) → q < 64
+    go true same rest = let is : q ≡ i = grind (arith, nat_tests) in subst (λ n. n < 64) (sym is) all.0
     go false other rest = rest (sym (ap (λ b. b || list_any (nat_eq q) ids) other) ∙ among)
 
 -- where a context id is free, there is room for one communicator more
-pub room_left : (limits : Limits) (capacity places id : ℕ) (xs : List Held) → HasRoom limits capacity places xs → id < 32
+pub room_left : (limits : Limits) (capacity places id : ℕ) (xs : List Held) → HasRoom limits capacity places xs → id < 64
     → AllByRecursion (λ i. nat_eq i id ≡ false) (contexts_of xs) → length xs < places
 room_left limits capacity places id xs old below fresh =
     let ids = contexts_of xs ++ id ∷ [] in
     let distinct = distinct_push nat_eq (contexts_of xs) id old.contexts (any_none (λ i. nat_eq i id) (contexts_of xs) fresh) in
-    let all = each_push (λ i. i < 32) (contexts_of xs) id old.ids below in
-    let few = length-le_from_distinct_below ids 32 distinct (λ q among. ids_below ids q all among) in
+    let all = each_push (λ i. i < 64) (contexts_of xs) id old.ids below in
+    let few = length-le_from_distinct_below ids 64 distinct (λ q among. ids_below ids q all among) in
     let more = length-append (contexts_of xs) (id ∷ []) in
     let same = length-map xs (λ (x : Held). x.context) in
     omega (arith, few, more, same, old.enough)

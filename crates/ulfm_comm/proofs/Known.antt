@@ -1,25 +1,27 @@
 -- What a call knows of its round's blocks, as it goes on.
 use Rattle.std.proofs.Common.{◌≡◌, ◌⊎◌, inl, inr, ℕ, Bool, true, false, List, [], Some, None, IsTrue, is_some, refl, ap, sym, ◌∙◌}
+use Rattle.ulfm_words.specs.Steps.{TriesFurther}
+use Rattle.ulfm_words.specs.declared.sets.Settled.{Settled}
 use Rattle.std.proofs.Common.{subst, append-nil, arith}
 use Rattle.std.specs.Prelude.{Result, Ok, Err}
 use Rattle.std.proofs.lemmas.Bool.{false≢true}
 use mathlib.Core.List.{IsPrefix}
 use Rattle.ulfm_model.specs.declared.call.Call.TheVariants as call
-use Rattle.ulfm_model.specs.declared.{block.Block.{Block}, block.Side.TheVariants.{Front, Back}, call.Call.{Call}}
+use Rattle.ulfm_model.specs.declared.{block.Beside.{Beside}, block.Side.TheVariants.{Front, Back}, call.Call.{Call}}
 use Rattle.ulfm_model.specs.declared.{contribution.Slot.{Slot}, contribution.Slot.TheVariants.{Given, Mark}}
 use Rattle.ulfm_model.specs.declared.{refusal.Refusal.{Refusal}, refusal.Refusal.TheVariants.{OutOfMemory}, reply.Reply.{Reply}}
 use Rattle.ulfm_model.specs.declared.reply.Reply.TheVariants.{Refused, Started}
 use Rattle.ulfm_model.specs.{Answers.{first_refusal, polled_by}, Records.{Held, Record, held_at, is_shrink}}
 use Rattle.ulfm_model.specs.Terms.{comm_of, request_of, tests_of}
 use Rattle.ulfm_model.proofs.{Blocks.{has_block_stays}, Lists.{prefix_trans}}
-use Rattle.ulfm_words.specs.Steps.{view_of, Name, Sight}
+use Rattle.ulfm_words.specs.Steps.{Over as Named, Sight, view_at}
 use Rattle.ulfm_steps.specs.{Blocks.{AllSet, AreSet, block_at}, declared.blocks.RoundBlocks.{RoundBlocks}}
 use Rattle.ulfm_comm.specs.{Calls.{EndsAs, EndsReply, HasReplied, RepliedAs, is_out_of_memory, reply_of, wants_memory}, Exchange.{start_result}}
 use Rattle.ulfm_comm.specs.{Known.{KnowsIn, KnowsNext}, Phase.{GoesOn, IsMaking, IsPast, LeadsTo, NextBelow, is_looking}}
-use Rattle.ulfm_comm.specs.{Requests.{BlocksStand, LeavesSet, agreement, is_agreement, is_of_round, is_round_refusal, may_cache}, Revokes.{revoked}}
+use Rattle.ulfm_comm.specs.{Requests.{BlocksStand, LeavesSet, agreement, is_agreement, is_of_round, is_round_refusal}, Wings.{MayTry, WingsSettled}, Revokes.{revoked}}
 use Rattle.ulfm_comm.specs.Step.{HasReadOn, StepSees}
 use Rattle.ulfm_comm.specs.declared.{phases.phase.Next.{Next}, phases.phase.Next.TheVariants.{Goes, Ends}, phases.phase.Phase.{Phase}}
-use Rattle.ulfm_comm.specs.declared.phases.phase.Phase.TheVariants.{Over, Begun, Looking, Settling, Arriving, Revoking, Asking, Peeking, Marking, Reading}
+use Rattle.ulfm_comm.specs.declared.phases.phase.Phase.TheVariants.{Over, Begun, Looking, Spreading, Settling, Arriving, Revoking, Asking, Peeking, Marking, Reading}
 use Rattle.ulfm_comm.specs.declared.phases.phase.Phase.TheVariants.{ReadingOn, Spawning, Waiting, Checking}
 use Rattle.ulfm_comm.proofs.Look.{idle_poll}
 use Rattle.ulfm_comm.specs.Local.{local}
@@ -32,7 +34,7 @@ one_round false true j k is = absurd (cc is)
 one_round true false j k is = absurd (cc is)
 
 -- what a record holds that has seen more is as it was, and blocks that are set stay so
-pub blocks_of : {P : Type 0} (own new : Record) (asked : Call P) (cached longer : List Block) → ((c : ℕ) → held_at new c ≡ held_at own c)
+pub blocks_of : {P : Type 0} (own new : Record) (asked : Call P) (cached longer : List Beside) → ((c : ℕ) → held_at new c ≡ held_at own c)
     → IsPrefix cached longer → BlocksStand own asked cached → BlocksStand new asked longer
 blocks_of own new (call.Fail rank) cached longer same begins stand = tt
 blocks_of own new (call.GetFailed rank c) cached longer same begins stand = tt
@@ -46,14 +48,14 @@ blocks_of own new (call.Revoke rank c) cached longer same begins stand = tt
 blocks_of own new (call.IsRevoked rank c) cached longer same begins stand = tt
 blocks_of own new (call.Free rank c) cached longer same begins stand = tt
 
-pub blocks_later : {P : Type 0} (own : Record) (asked : Call P) (cached longer : List Block) → IsPrefix cached longer → BlocksStand own asked cached
+pub blocks_later : {P : Type 0} (own : Record) (asked : Call P) (cached longer : List Beside) → IsPrefix cached longer → BlocksStand own asked cached
     → BlocksStand own asked longer
 blocks_later own asked cached longer begins stand = blocks_of own own asked cached longer (λ c. refl) begins stand
 
 -- a poll that knows all blocks of its round to be set
 pub round_known : {P : Type 0} (own : Record) (asked : Call P) (rank : ℕ) → asked ≡ call.Poll rank (comm_of asked) → (x : Held)
     → held_at own (comm_of asked) ≡ Some x → (shrinks : Bool) (k : ℕ) → x.request ≡ Some (agreement shrinks k)
-    → (c : ℕ) → c ≡ comm_of asked → (members : List ℕ) → members ≡ x.group → (cached : List Block) → AllSet cached c k members → BlocksStand own asked cached
+    → (c : ℕ) → c ≡ comm_of asked → (members : List ℕ) → members ≡ x.group → (cached : List Beside) → AllSet cached c k members → BlocksStand own asked cached
 round_known {P} own asked rank polls x held shrinks k open_is c there members members_are cached all =
     let here : AllSet cached (comm_of asked) k x.group = subst (λ ms. AllSet cached (comm_of asked) k ms) members_are
     (subst (λ j. AllSet cached j k members) there all) in
@@ -68,21 +70,22 @@ round_known {P} own asked rank polls x held shrinks k open_is c there members me
 -- the poll of an open agree or shrink may cache blocks
 pub agreement_caches : {P : Type 0} (own : Record) (asked : Call P) (rank : ℕ) → asked ≡ call.Poll rank (comm_of asked) → (x : Held)
     → held_at own (comm_of asked) ≡ Some x → (shrinks : Bool) (k : ℕ) → x.request ≡ Some (agreement shrinks k)
-    → may_cache own asked ≡ true
+    → is_agreement (polled_by own asked) ≡ true
 agreement_caches own asked rank polls x held shrinks k open_is =
-    ap (may_cache own) polls ∙ (ap (λ h. is_agreement (request_of h)) held ∙ (ap is_agreement open_is ∙ by_kind shrinks))
+    ap (λ a. is_agreement (polled_by own a)) polls ∙ (ap (λ h. is_agreement (request_of h)) held ∙ (ap is_agreement open_is ∙ by_kind shrinks))
   where
     by_kind : (b : Bool) → is_agreement (Some (agreement b k)) ≡ true
     by_kind false = refl
     by_kind true = refl
 
 -- once a poll knows its round's decision, all that it knows is of blocks that are set
-pub known_next : {P : Type 0} (own : Record) (asked : Call P) (cached : List Block) (next : Next P) → NextBelow 5 next → BlocksStand own asked cached
+pub known_next : {P : Type 0} (own : Record) (asked : Call P) (cached : List Beside) (next : Next P) → NextBelow 5 next → BlocksStand own asked cached
     → KnowsNext own asked cached next
 known_next own asked cached (Ends reply) below stand = λ of. stand
 known_next own asked cached (Goes Over) below stand = tt
 known_next own asked cached (Goes Begun) below stand = tt
 known_next own asked cached (Goes Looking) below stand = tt
+known_next own asked cached (Goes (Spreading request offer)) below stand = tt
 known_next own asked cached (Goes (Settling request offer)) below stand = tt
 known_next own asked cached (Goes (Arriving round)) below stand = tt
 known_next own asked cached (Goes Revoking) below stand = tt
@@ -95,12 +98,13 @@ known_next own asked cached (Goes (Spawning append context reach)) below stand =
 known_next own asked cached (Goes (Waiting arrivals)) below stand = tt
 known_next own asked cached (Goes (Checking missing)) below stand = tt
 
-pub known_making : {P : Type 0} (own : Record) (asked : Call P) (cached : List Block) (next : Next P) → IsMaking next → BlocksStand own asked cached
+pub known_making : {P : Type 0} (own : Record) (asked : Call P) (cached : List Beside) (next : Next P) → IsMaking next → BlocksStand own asked cached
     → KnowsNext own asked cached next
 known_making own asked cached (Ends reply) making stand = λ of. stand
 known_making own asked cached (Goes Over) making stand = tt
 known_making own asked cached (Goes Begun) making stand = tt
 known_making own asked cached (Goes Looking) making stand = tt
+known_making own asked cached (Goes (Spreading request offer)) making stand = tt
 known_making own asked cached (Goes (Settling request offer)) making stand = tt
 known_making own asked cached (Goes (Arriving round)) making stand = tt
 known_making own asked cached (Goes Revoking) making stand = tt
@@ -114,7 +118,7 @@ known_making own asked cached (Goes (Waiting arrivals)) making stand = tt
 known_making own asked cached (Goes (Checking missing)) making stand = tt
 
 -- the same of a record that holds the same
-module _ {P : Type 0} (own new : Record) (asked : Call P) (cached : List Block) (same : (c : ℕ) → held_at new c ≡ held_at own c) where
+module _ {P : Type 0} (own new : Record) (asked : Call P) (cached : List Beside) (same : (c : ℕ) → held_at new c ≡ held_at own c) where
   blocks_same : BlocksStand own asked cached → BlocksStand new asked cached
   blocks_same stand = blocks_of own new asked cached cached same ([], append-nil cached) stand
 
@@ -128,13 +132,13 @@ module _ {P : Type 0} (own new : Record) (asked : Call P) (cached : List Block) 
   next_same (Ends reply) known = λ of. blocks_same (known of)
 
 -- nothing is known of blocks yet
-pub knows_none : {P : Type 0} (cached : List Block) (c k : ℕ) (blocks : RoundBlocks P) → (is_some blocks.front ≡ false) × (is_some blocks.back ≡ false)
+pub knows_none : {P : Type 0} (cached : List Beside) (c k : ℕ) (blocks : RoundBlocks P) → (is_some blocks.front ≡ false) × (is_some blocks.back ≡ false)
     → AreSet cached c k blocks
 knows_none cached c k blocks none Front some = absurd (false≢true (sym none.0 ∙ some))
 knows_none cached c k blocks none Back some = absurd (false≢true (sym none.1 ∙ some))
 
 -- a poll that its record refuses has no round
-pub refused_stand : {P : Type 0} (own : Record) (x : Held) (asked : Call P) (refusal : Refusal) (cached : List Block) → held_at own (comm_of asked) ≡ Some x
+pub refused_stand : {P : Type 0} (own : Record) (x : Held) (asked : Call P) (refusal : Refusal) (cached : List Beside) → held_at own (comm_of asked) ≡ Some x
     → first_refusal (tests_of own x asked) ≡ Some refusal → BlocksStand own asked cached
 refused_stand {P} own x (call.Poll rank c) refusal cached held is = λ y shrinks k held' open_is.
     let none = idle_poll {P = P} own x (call.Poll rank c) refusal refl is in
@@ -153,10 +157,10 @@ refused_stand own x (call.IsRevoked rank c) refusal cached held is = tt
 refused_stand own x (call.Free rank c) refusal cached held is = tt
 
 -- what a start or a revocation answers tells of no round
-pub start_of_none : {P : Type 0} (settled : Result (Unit {0}) (Slot P)) → is_of_round {P = P} (reply_of (λ _. Started) (start_result settled)) ≡ false
-start_of_none (Ok done) = refl
-start_of_none (Err (Mark mark)) = refl
-start_of_none (Err (Given given)) = refl
+pub start_of_none : (P : Type 0) (settled : Result (Unit {0}) Settled) → is_of_round {P = P} (reply_of (λ _. Started) (start_result settled)) ≡ false
+start_of_none P (Ok done) = refl
+start_of_none P (Err Settled.Marked) = refl
+start_of_none P (Err Settled.Contributed) = refl
 
 pub revoked_of_none : (P : Type 0) (won : Bool) → is_of_round {P = P} (revoked won) ≡ false
 revoked_of_none P true = refl
@@ -194,7 +198,7 @@ reads_on (ReadingOn on made) = true
 reads_on _ = false
 
 -- what has been seen behind the look, a step later
-module _ {P : Type 0} (own : Record) (asked : Call P) (cached longer : List Block) (begins : IsPrefix cached longer) (start mid new : List ℕ) where
+module _ {P : Type 0} (own : Record) (asked : Call P) (cached longer : List Beside) (begins : IsPrefix cached longer) (start mid new : List ℕ) where
   still_read_on : HasReadOn own asked start mid cached → new ≡ mid → HasReadOn own asked start new longer
   still_read_on read same = record {
     shrinks = read.shrinks;
@@ -229,23 +233,23 @@ memory_of_round (Refused refusal) wants = go refusal wants
 memory_of_round _ wants = absurd (cc wants)
 
 -- a whole call, by what it comes to
-module _ {P : Type 0} (meld : P → P → P) (alone : Bool) (name : Name) (asked : Call P) (old : Record) (before : Sight P) (reply : Reply P) (new : Record)
+module _ {P : Type 0} (meld : P → P → P) (alone : Bool) (name : Named P) (asked : Call P) (old : Record) (before : Sight P) (reply : Reply P) (new : Record)
     (after : Sight P) where
-  pub whole_ends : HasReplied meld alone asked (local old (view_of name before)) reply (local new (view_of name after)) → IsPrefix before.cached after.cached
-      → (may_cache old asked ≡ false → after.caches ≡ before.caches) → LeavesSet old asked reply after.cached
-      → EndsReply meld alone asked (local old (view_of name before)) reply (local new (view_of name after))
-  whole_ends replied begins caches knows = go (wants_memory reply) refl replied
+  pub whole_ends : HasReplied meld alone asked (local old (view_at name before)) reply (local new (view_at name after)) → IsPrefix before.cached after.cached
+      → TriesFurther (MayTry old asked) before.caches after.caches → (IsTrue alone → WingsSettled (view_at name before) → WingsSettled (view_at name after)) → LeavesSet old asked reply after.cached
+      → EndsReply meld alone asked (local old (view_at name before)) reply (local new (view_at name after))
+  whole_ends replied begins caches wings knows = go (wants_memory reply) refl replied
     where
-      go : (b : Bool) → wants_memory reply ≡ b → RepliedAs meld alone asked (local old (view_of name before)) reply b (local new (view_of name after))
-          → EndsAs meld alone asked (local old (view_of name before)) reply b (local new (view_of name after))
+      go : (b : Bool) → wants_memory reply ≡ b → RepliedAs meld alone asked (local old (view_at name before)) reply b (local new (view_at name after))
+          → EndsAs meld alone asked (local old (view_at name before)) reply b (local new (view_at name after))
       go true wants ended = (
         record {
           ran_out = ended.0;
-          blocks = record { cached = begins; caches = caches; knows = λ _. knows (memory_of_round reply wants) };
+          blocks = record { cached = begins; caches = caches; wings = wings; knows = λ _. knows (memory_of_round reply wants) };
         },
         ended.1,
       )
       go false wants ended = record {
         linearizes = ended;
-        blocks = record { cached = begins; caches = caches; knows = knows };
+        blocks = record { cached = begins; caches = caches; wings = wings; knows = knows };
       }

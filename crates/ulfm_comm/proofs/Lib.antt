@@ -5,7 +5,9 @@ pub mod BarrierPolls
 pub mod StepsLeft
 pub mod AlsoLeft
 pub mod Known
+pub mod Wings
 pub mod CallRuns
+pub mod Resting
 pub mod Counts
 pub mod Spawning
 pub mod BarrierStart
@@ -35,3 +37,4 @@ pub mod Peeking
 pub mod Ready
 pub mod Begins
 pub mod Misses
+pub mod Unspread

@@ -6,12 +6,12 @@ use Rattle.ulfm_laws.specs.declared.ctx_mask.CtxMask.{CtxMask}
 use Rattle.ulfm_model.specs.declared.call.Call.TheVariants as call
 use Rattle.ulfm_model.specs.declared.{call.Call.{Call}, call.Request.{Request}, call.Request.TheVariants.{Agree, Shrink}, contribution.Offer.{Offer}}
 use Rattle.ulfm_model.specs.declared.{contribution.Offer.TheVariants.{Flag, Ctx}, event.Caller.TheVariants.{Rank}, refusal.Refusal.{Refusal}}
-use Rattle.ulfm_model.specs.declared.{refusal.Refusal.TheVariants.{Idle, NoSuchComm, SelfFailed}, reply.Reply.{Reply}}
+use Rattle.ulfm_model.specs.declared.{refusal.Refusal.TheVariants.{Idle, NoSuchComm, SelfFailed, Twice}, reply.Reply.{Reply}}
 use Rattle.ulfm_model.specs.declared.reply.Reply.TheVariants.{Acked, FailedGroup, Freed, Pending, Refused}
 use Rattle.ulfm_model.specs.{Answers.{Effect, first_refusal, printed, left_with, traits_of}, Answers.Effect.{Keeps}, History.{failures, has}}
 use Rattle.ulfm_model.specs.{Records.{Fits, Held, Record, free_ids, held_at, with_held}, Runs.{Did}}
 use Rattle.ulfm_model.specs.Terms.{comm_of, request_of, tests_of}
-use Rattle.ulfm_words.specs.Steps.{view_of, IsView, Name, Sight}
+use Rattle.ulfm_words.specs.Steps.{IsView, Over, Sight, view_at}
 use Rattle.ulfm_words.proofs.{Ranks.{failures_le, full_has}, Trails.{did_none, did_prefix}}
 use Rattle.std.proofs.lemmas.{Bool.{eqb-false}, List.{length-take, take-append-drop}}
 use mathlib.Core.List.{IsPrefix}
@@ -26,26 +26,30 @@ use Rattle.ulfm_comm.proofs.{Acks.{ack_failed_is, get_failed_is}, CallRuns.{call
 use Rattle.ulfm_comm.proofs.{WholeCall.{held_before, refused}, Refusals.{by_tests}}
 use Rattle.ulfm_comm.specs.Local.{frame, local}
 
--- what each test of a call refuses leaves the record as it is, and isn't want of memory
+abbrev is_twice : Refusal → Bool
+is_twice Twice = true
+is_twice _ = false
+
+-- what each test of a call refuses leaves the record as it is, and is neither want of memory nor `twice`
 abbrev IsMild : Bool × Refusal → Type 0
-IsMild test = ((printed test.1).2 ≡ Keeps) × (is_out_of_memory test.1 ≡ false)
+IsMild test = ((printed test.1).2 ≡ Keeps) × (is_out_of_memory test.1 ≡ false) × (is_twice test.1 ≡ false)
 
 mild_tests : {P : Type 0} (own : Record) (x : Held) (asked : Call P) → AllByRecursion IsMild (tests_of own x asked)
 mild_tests own x (call.Fail rank) = tt
 mild_tests own x (call.GetFailed rank c) = tt
 mild_tests own x (call.Ack rank c count) = tt
-mild_tests own x (call.Agree rank c value) = ((refl, refl), ((refl, refl), tt))
-mild_tests own x (call.Shrink rank c) = ((refl, refl), ((refl, refl), ((refl, refl), tt)))
-mild_tests own x (call.Barrier rank c) = ((refl, refl), ((refl, refl), tt))
-mild_tests own x (call.Poll rank c) = ((refl, refl), tt)
+mild_tests own x (call.Agree rank c value) = ((refl, refl, refl), ((refl, refl, refl), tt))
+mild_tests own x (call.Shrink rank c) = ((refl, refl, refl), ((refl, refl, refl), ((refl, refl, refl), tt)))
+mild_tests own x (call.Barrier rank c) = ((refl, refl, refl), ((refl, refl, refl), tt))
+mild_tests own x (call.Poll rank c) = ((refl, refl, refl), tt)
 mild_tests own x (call.Revoke rank c) = tt
 mild_tests own x (call.IsRevoked rank c) = tt
-mild_tests own x (call.Free rank c) = ((refl, refl), ((refl, refl), tt))
+mild_tests own x (call.Free rank c) = ((refl, refl, refl), ((refl, refl, refl), tt))
 
 mild_first : (tests : List (Bool × Refusal)) (refusal : Refusal) → AllByRecursion IsMild tests → first_refusal tests ≡ Some refusal
-    → ((printed refusal).2 ≡ Keeps) × (is_out_of_memory refusal ≡ false)
+    → ((printed refusal).2 ≡ Keeps) × (is_out_of_memory refusal ≡ false) × (is_twice refusal ≡ false)
 mild_first [] refusal all is = absurd (cc is)
-mild_first ((true, first) ∷ tests) refusal all is = let same : first ≡ refusal = cc is in subst (λ r. ((printed r).2 ≡ Keeps) × (is_out_of_memory r ≡ false))
+mild_first ((true, first) ∷ tests) refusal all is = let same : first ≡ refusal = cc is in subst (λ r. ((printed r).2 ≡ Keeps) × (is_out_of_memory r ≡ false) × (is_twice r ≡ false))
     same all.0
 mild_first ((false, first) ∷ tests) refusal all is = mild_first tests refusal all.1 is
 
@@ -80,20 +84,20 @@ idle_poll own x (call.Revoke rank c) refusal polls is = absurd (cc polls)
 idle_poll own x (call.IsRevoked rank c) refusal polls is = absurd (cc polls)
 idle_poll own x (call.Free rank c) refusal polls is = absurd (cc polls)
 
-module _ {P : Type 0} (meld : P → P → P) (alone : Bool) (name : Name) (asked : Call P) (old : Record) (before : Sight P) (new : Record) (after : Sight P) where
+module _ {P : Type 0} (meld : P → P → P) (alone : Bool) (name : Over P) (asked : Call P) (old : Record) (before : Sight P) (new : Record) (after : Sight P) where
   -- a reply that isn't pending, and isn't for want of memory
-  pub answered_by : (reply : Reply P) → wants_memory reply ≡ false → (reply ≡ Pending → ⊥) → Linearizes meld alone asked (local old (view_of name before)) reply (local new (view_of name after))
-      → Answered meld alone asked (local old (view_of name before)) reply (local new (view_of name after))
+  pub answered_by : (reply : Reply P) → wants_memory reply ≡ false → (reply ≡ Pending → ⊥) → Linearizes meld alone asked (local old (view_at name before)) reply (local new (view_at name after))
+      → Answered meld alone asked (local old (view_at name before)) reply (local new (view_at name after))
   answered_by reply none other calls =
-      record { ends = inr (subst (λ b. RepliedAs meld alone asked (local old (view_of name before)) reply b (local new (view_of name after))) (sym none) calls); pending = λ is. absurd (other is) }
+      record { ends = inr (subst (λ b. RepliedAs meld alone asked (local old (view_at name before)) reply b (local new (view_at name after))) (sym none) calls); pending = λ is. absurd (other is) }
 
-module _ {P : Type 0} (meld : P → P → P) (alone : Bool) (name : Name) (asked : Call P) (old : Record) (before : Sight P) (mid : Record) (now : Sight P)
-    (j : JustLooked meld alone asked (local old (view_of name before)) (local mid (view_of name now))) (of : IsView meld (view_of name now)) where
+module _ {P : Type 0} (meld : P → P → P) (alone : Bool) (name : Over P) (asked : Call P) (old : Record) (before : Sight P) (mid : Record) (now : Sight P)
+    (j : JustLooked meld alone asked (local old (view_at name before)) (local mid (view_at name now))) (of : IsView meld (view_at name now)) where
   pub just_fits : Fits meld name.limits now.seen mid
   just_fits = looked_fits meld alone name before now j.onward old mid of j.fits j.looked
 
   -- on a communicator that the rank doesn't hold
-  pub just_missing : held_at mid (comm_of asked) ≡ None → Answered meld alone asked (local old (view_of name before)) (Refused NoSuchComm) (local mid (view_of name now))
+  pub just_missing : held_at mid (comm_of asked) ≡ None → Answered meld alone asked (local old (view_at name before)) (Refused NoSuchComm) (local mid (view_at name now))
   just_missing missing = answered_by meld alone name asked old before mid now (Refused NoSuchComm) refl (λ is. absurd (cc is))
       (calls_missing meld alone name before now j.onward asked old mid of j.fits j.looked missing)
 
@@ -103,13 +107,13 @@ module _ {P : Type 0} (meld : P → P → P) (alone : Bool) (name : Name) (asked
 
     -- the record refuses the call
     pub just_refused : (refusal : Refusal) → first_refusal (tests_of mid x asked) ≡ Some refusal
-        → Answered meld alone asked (local old (view_of name before)) (Refused refusal) (local mid (view_of name now))
+        → Answered meld alone asked (local old (view_at name before)) (Refused refusal) (local mid (view_at name now))
     just_refused refusal is =
         let mild = mild_first (tests_of mid x asked) refusal (mild_tests mid x asked) is in
         let first : first_refusal (tests_of old x asked) ≡ Some refusal = sym (ap first_refusal tests_before) ∙ is in
         let at = held_before meld name.limits alone before.seen now.seen old mid j.looked (comm_of asked) (Some x) held in
         answered_by meld alone name asked old before mid now (Refused refusal) mild.1 (λ same. absurd (cc same))
-        (calls_is meld alone name before now j.onward asked old (Refused refusal) mid of j.fits
+        (calls_is meld alone name before now j.onward asked old (Refused refusal) mid of j.fits (λ same. absurd (let no = mild.2 in cc (same, no)))
         (refused meld name.limits alone before.seen now.seen old mid j.looked asked refusal mid of.legal
         (by_tests meld alone name before now asked old mid j.fits j.looked x held (Some refusal) first)
         (sym (ap (λ (e : Effect). left_with mid (comm_of asked) e) mild.0))
@@ -129,43 +133,43 @@ module _ {P : Type 0} (meld : P → P → P) (alone : Bool) (name : Name) (asked
           waited = did_none alone now.seen;
         }
 
-module _ {P : Type 0} (meld : P → P → P) (alone : Bool) (name : Name) (rank c : ℕ) (old : Record) (before : Sight P) (mid : Record) (now : Sight P)
-    (of : IsView meld (view_of name now)) (x : Held) (held : held_at mid c ≡ Some x) where
+module _ {P : Type 0} (meld : P → P → P) (alone : Bool) (name : Over P) (rank c : ℕ) (old : Record) (before : Sight P) (mid : Record) (now : Sight P)
+    (of : IsView meld (view_at name now)) (x : Held) (held : held_at mid c ≡ Some x) where
   -- so many ranks have failed
-  pub just_counted : (n : ℕ) → n ≡ length (filter (has x.group) mid.seen) → JustLooked meld alone (call.GetFailed rank c) (local old (view_of name before)) (local mid (view_of name now))
-      → Answered meld alone (call.GetFailed rank c) (local old (view_of name before)) (FailedGroup n) (local mid (view_of name now))
+  pub just_counted : (n : ℕ) → n ≡ length (filter (has x.group) mid.seen) → JustLooked meld alone (call.GetFailed rank c) (local old (view_at name before)) (local mid (view_at name now))
+      → Answered meld alone (call.GetFailed rank c) (local old (view_at name before)) (FailedGroup n) (local mid (view_at name now))
   just_counted n is j =
       answered_by meld alone name (call.GetFailed rank c) old before mid now (FailedGroup n) refl (λ same. absurd (cc same))
-      (calls_is meld alone name before now j.onward (call.GetFailed rank c) old (FailedGroup n) mid of j.fits
+      (calls_is meld alone name before now j.onward (call.GetFailed rank c) old (FailedGroup n) mid of j.fits (λ is no. absurd (cc (is, no)))
       (get_failed_is meld name.limits alone before.seen now.seen old mid j.looked of.legal
       (just_fits meld alone name (call.GetFailed rank c) old before mid now j of) rank c x held n mid
       (is ∙ ap (λ (w : Record). length (filter (has x.group) w.seen)) j.looked.record_is) refl))
 
   -- so many are acknowledged
   pub just_acked : (count n : ℕ) (new : Record) → n ≡ max x.acked (min count (length (filter (has x.group) mid.seen)))
-      → new ≡ with_held mid c (λ y. record y { acked = n }) → JustLooked meld alone (call.Ack rank c count) (local old (view_of name before)) (local mid (view_of name now))
-      → Answered meld alone (call.Ack rank c count) (local old (view_of name before)) (Acked n) (local new (view_of name now))
+      → new ≡ with_held mid c (λ y. record y { acked = n }) → JustLooked meld alone (call.Ack rank c count) (local old (view_at name before)) (local mid (view_at name now))
+      → Answered meld alone (call.Ack rank c count) (local old (view_at name before)) (Acked n) (local new (view_at name now))
   just_acked count n new is left j =
       answered_by meld alone name (call.Ack rank c count) old before new now (Acked n) refl (λ same. absurd (cc same))
-      (calls_is meld alone name before now j.onward (call.Ack rank c count) old (Acked n) new of j.fits
+      (calls_is meld alone name before now j.onward (call.Ack rank c count) old (Acked n) new of j.fits (λ is no. absurd (cc (is, no)))
       (ack_failed_is meld name.limits alone before.seen now.seen old mid j.looked of.legal
       (just_fits meld alone name (call.Ack rank c count) old before mid now j of) rank c x held count n new
       (is ∙ ap (λ (w : Record). max x.acked (min count (length (filter (has x.group) w.seen)))) j.looked.record_is) left))
 
   -- the communicator is given back
   pub just_freed : (new : Record) → first_refusal (tests_of {P = P} mid x (call.Free rank c)) ≡ None
-      → new ≡ record mid { held = filter (λ y. not (y.comm == c)) mid.held } → JustLooked meld alone (call.Free rank c) (local old (view_of name before)) (local mid (view_of name now))
-      → Answered meld alone (call.Free rank c) (local old (view_of name before)) Freed (local new (view_of name now))
+      → new ≡ record mid { held = filter (λ y. not (y.comm == c)) mid.held } → JustLooked meld alone (call.Free rank c) (local old (view_at name before)) (local mid (view_at name now))
+      → Answered meld alone (call.Free rank c) (local old (view_at name before)) Freed (local new (view_at name now))
   just_freed new passed left j =
       answered_by meld alone name (call.Free rank c) old before new now Freed refl (λ same. absurd (cc same))
       (calls_freed meld alone name before now j.onward rank c old mid new of j.fits j.looked x held
       (sym (ap first_refusal (tests_before meld alone name (call.Free rank c) old before mid now j of x held)) ∙ passed) left)
 
 -- a rank that its look finds declared
-pub just_declared : {P : Type 0} (meld : P → P → P) (alone : Bool) (name : Name) (asked : Call P) (old : Record) (before : Sight P) (new : Record)
-    (now : Sight P) → before.steps ≤ now.steps → IsView meld (view_of name now) → Fits meld name.limits before.seen old → old.refused ≡ false
+pub just_declared : {P : Type 0} (meld : P → P → P) (alone : Bool) (name : Over P) (asked : Call P) (old : Record) (before : Sight P) (new : Record)
+    (now : Sight P) → before.steps ≤ now.steps → IsView meld (view_at name now) → Fits meld name.limits before.seen old → old.refused ≡ false
     → Did alone [] before.seen now.seen → IsTrue (has (failures now.seen) old.number) → new ≡ record old { seen = failures now.seen; refused = true }
-    → Answered meld alone asked (local old (view_of name before)) (Refused SelfFailed) (local new (view_of name now))
+    → Answered meld alone asked (local old (view_at name before)) (Refused SelfFailed) (local new (view_at name now))
 just_declared meld alone name asked old before new now onward of fits in_use did declared is =
     answered_by meld alone name asked old before new now (Refused SelfFailed) refl (λ same. absurd (cc same))
     (calls_declared meld alone name before now onward asked old new of fits in_use did declared is)
@@ -205,18 +209,18 @@ starts_shrink {P} asked rank c own mid seen x round ids is mid_is free at =
     as_offer i = Ctx i
 
 -- a call that begins has seen what is a beginning of the list of failures
-begun_seen : {P : Type 0} (meld : P → P → P) (alone : Bool) (name : Name) (asked : Call P) (old : Record) (before : Sight P) (group : List ℕ) (own : Record)
+begun_seen : {P : Type 0} (meld : P → P → P) (alone : Bool) (name : Over P) (asked : Call P) (old : Record) (before : Sight P) (group : List ℕ) (own : Record)
     (now : Sight P)
-    → Stands meld alone (local old (view_of name before)) (record { asked = asked; phase = Begun; group = group }) (local own (view_of name now)) → IsPrefix own.seen (failures now.seen)
+    → Stands meld alone (local old (view_at name before)) (record { asked = asked; phase = Begun; group = group }) (local own (view_at name now)) → IsPrefix own.seen (failures now.seen)
 begun_seen meld alone name asked old before group own now u =
     let grown = failures_begin before.seen now.seen (did_prefix alone [] before.seen now.seen u.at.2) in
     subst (λ (w : Record). IsPrefix w.seen (failures now.seen)) (sym u.at.1) (prefix_trans old.seen (failures before.seen)
     (failures now.seen) u.fits.seen grown)
 
 -- that is all ranks, at most
-pub begun_within : {P : Type 0} (meld : P → P → P) (alone : Bool) (name : Name) (asked : Call P) (old : Record) (before : Sight P) (group : List ℕ)
-    (own : Record) (now : Sight P) → IsView meld (view_of name now)
-    → Stands meld alone (local old (view_of name before)) (record { asked = asked; phase = Begun; group = group }) (local own (view_of name now)) → length own.seen ≤ name.limits.ranks
+pub begun_within : {P : Type 0} (meld : P → P → P) (alone : Bool) (name : Over P) (asked : Call P) (old : Record) (before : Sight P) (group : List ℕ)
+    (own : Record) (now : Sight P) → IsView meld (view_at name now)
+    → Stands meld alone (local old (view_at name before)) (record { asked = asked; phase = Begun; group = group }) (local own (view_at name now)) → length own.seen ≤ name.limits.ranks
 begun_within meld alone name asked old before group own now of u =
     omega (
       arith,
@@ -226,11 +230,11 @@ begun_within meld alone name asked old before group own now of u =
     )
 
 -- a look begins behind what was seen, or at the last of all ranks
-pub begins_looking : {P : Type 0} (meld : P → P → P) (alone : Bool) (name : Name) (asked : Call P) (old : Record) (before : Sight P) (group : List ℕ)
-    (own new : Record) (now : Sight P) → IsView meld (view_of name now)
+pub begins_looking : {P : Type 0} (meld : P → P → P) (alone : Bool) (name : Over P) (asked : Call P) (old : Record) (before : Sight P) (group : List ℕ)
+    (own new : Record) (now : Sight P) → IsView meld (view_at name now)
     → new ≡ record own { seen = take (own.limits.ranks - 1) own.seen }
-    → Stands meld alone (local old (view_of name before)) (record { asked = asked; phase = Begun; group = group }) (local own (view_of name now))
-    → Stands meld alone (local old (view_of name before)) (record { asked = asked; phase = Looking; group = group }) (local new (view_of name now))
+    → Stands meld alone (local old (view_at name before)) (record { asked = asked; phase = Begun; group = group }) (local own (view_at name now))
+    → Stands meld alone (local old (view_at name before)) (record { asked = asked; phase = Looking; group = group }) (local new (view_at name now))
 begins_looking meld alone name asked old before group own new now of is u =
     let n = own.limits.ranks - 1 in
     let some : 0 < name.limits.ranks = omega (arith, of.may_open.in_range.some_ranks) in
@@ -255,7 +259,7 @@ begins_looking meld alone name asked old before group own new now of is u =
     }
 
 -- a rank that has seen as many failures as there are ranks has seen them all
-pub full_seen : {P : Type 0} (meld : P → P → P) (name : Name) (own : Record) (now : Sight P) → IsView meld (view_of name now) → Fits meld name.limits now.seen own
+pub full_seen : {P : Type 0} (meld : P → P → P) (name : Over P) (own : Record) (now : Sight P) → IsView meld (view_at name now) → Fits meld name.limits now.seen own
     → length own.seen ≡ own.limits.ranks → own.seen ≡ failures now.seen
 full_seen meld name own now of fits full =
     let ranks : own.limits.ranks ≡ name.limits.ranks = ap (λ l. l.ranks) fits.same_limits in
@@ -263,10 +267,10 @@ full_seen meld name own now of fits full =
     full_found own.seen (failures now.seen) fits.seen (omega (arith, few, full, ranks))
 
 -- a rank that has seen all ranks declared is one of them
-pub has_seen_all : {P : Type 0} (meld : P → P → P) (alone : Bool) (name : Name) (asked : Call P) (own new : Record) (now : Sight P) → IsView meld (view_of name now)
+pub has_seen_all : {P : Type 0} (meld : P → P → P) (alone : Bool) (name : Over P) (asked : Call P) (own new : Record) (now : Sight P) → IsView meld (view_at name now)
     → Fits meld name.limits now.seen own → own.refused ≡ false
     → own.number < own.limits.ranks → length own.seen ≡ own.limits.ranks → new ≡ record own { refused = true }
-    → Linearizes meld alone asked (local own (view_of name now)) (Refused SelfFailed) (local new (view_of name now))
+    → Linearizes meld alone asked (local own (view_at name now)) (Refused SelfFailed) (local new (view_at name now))
 has_seen_all meld alone name asked own new now of fits in_use below full is =
     let ranks : own.limits.ranks ≡ name.limits.ranks = ap (λ l. l.ranks) fits.same_limits in
     let all = full_seen meld name own now of fits full in
@@ -276,7 +280,7 @@ has_seen_all meld alone name asked own new now of fits in_use below full is =
     (is ∙ ap (λ s. record own { seen = s; refused = true }) all)
 
 -- one that hasn't has a place left to load
-pub has_place_left : {P : Type 0} (meld : P → P → P) (name : Name) (own : Record) (now : Sight P) → IsView meld (view_of name now) → Fits meld name.limits now.seen own
+pub has_place_left : {P : Type 0} (meld : P → P → P) (name : Over P) (own : Record) (now : Sight P) → IsView meld (view_at name now) → Fits meld name.limits now.seen own
     → (length own.seen == own.limits.ranks) ≡ false → length own.seen < name.limits.ranks
 has_place_left meld name own now of fits e =
     let ranks : own.limits.ranks ≡ name.limits.ranks = ap (λ l. l.ranks) fits.same_limits in

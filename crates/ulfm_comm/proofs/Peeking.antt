@@ -1,5 +1,11 @@
 -- The poll of an agreement while it loads its round's blocks, and how it goes on.
 use Rattle.std.proofs.Common.{◌≡◌, ℕ, ◌<◌, ◌≤◌, Bool, true, false, cond, not, List, [], ◌∷◌, length, filter, Some, is_some, refl, ap, ap₂, sym, ◌∙◌, subst}
+use Rattle.ulfm_model.specs.declared.step_name.StepName.TheVariants as step
+use Rattle.ulfm_model.specs.declared.block.Wing.{Wing}
+use Rattle.std.proofs.Common.{if◌then◌else◌}
+use Rattle.ulfm_comm.proofs.Agreement.{starts_half}
+use Rattle.ulfm_steps.specs.Blocks.{peek_site}
+use Rattle.ulfm_steps.specs.Blocks.{HoldsFirst}
 use Rattle.std.proofs.Common.{arith, IsTrue}
 use Rattle.std.specs.List.{AllByRecursion, list_all}
 use Rattle.std.specs.List.Sorted.{IsStrictlyIncreasing}
@@ -9,9 +15,9 @@ use Rattle.ulfm_model.specs.{Answers.{traits_of}, Blocks.{IsSide, IsSummed}, His
 use Rattle.ulfm_model.specs.{Records.{Fits, Held, Record, held_at}, Runs.{Did}, Terms.{comm_of}}
 use Rattle.ulfm_model.proofs.{Lists.{each_from, filter_none}, OnlyReply.{all_member}, Stable.{fits_stays}}
 use Rattle.ulfm_model.specs.Records.{moment}
-use Rattle.ulfm_words.specs.{Steps.{IsView, Name, Sight}, declared.step.Site.{Site}}
+use Rattle.ulfm_words.specs.{Steps.{IsView, Over, Sight}, declared.step.Site.{Site}}
 use Rattle.ulfm_words.proofs.Trails.{did_none, did_prefix, did_quiet, did_wait}
-use Rattle.ulfm_words.specs.Steps.{view_of}
+use Rattle.ulfm_words.specs.Steps.{view_at}
 use Rattle.ulfm_steps.specs.declared.{mark_all.MarkAll.{MarkAll}, blocks.Peek.{Peek}, blocks.ReadBlocks.{ReadBlocks}}
 use Rattle.ulfm_steps.specs.{Blocks.{BothTell, MayPeek, block_at, is_whole, starts_at}, Marks.{IsAt, Marks, members_in}, Rounds.{IsRoundOf}, Turns.{IsStepAt}}
 use Rattle.ulfm_steps.proofs.{InBlocks.{few_members}, Groups.{members_rise}, Marking.{marks_none}}
@@ -102,10 +108,10 @@ module _ {P : Type 0} (meld : P → P → P) (limits : Limits) (alone : Bool) (c
       }
 
 -- a call that loads its round's blocks, by what the code knows of the communicator
-module _ {P : Type 0} (meld : P → P → P) (name : Name) (asked : Call P) (peek : Peek P) (shrinks : Bool) (group : List ℕ) (own : Record) (now : Sight P)
-    (of : IsView meld (view_of name now)) (y : Held) (w : ℕ) (found : held_at own w ≡ Some y) (w_is : w ≡ comm_of asked)
+module _ {P : Type 0} (meld : P → P → P) (name : Over P) (asked : Call P) (peek : Peek P) (shrinks : Bool) (group : List ℕ) (own : Record) (now : Sight P)
+    (of : IsView meld (view_at name now)) (y : Held) (w : ℕ) (found : held_at own w ≡ Some y) (w_is : w ≡ comm_of asked)
     (members : List ℕ) (members_are : members ≡ y.group) (alone : Bool) (old : Record) (before : Sight P)
-    (st : Stands meld alone (local old (view_of name before)) (record { asked = asked; phase = Peeking peek shrinks; group = group }) (local own (view_of name now))) where
+    (st : Stands meld alone (local old (view_at name before)) (record { asked = asked; phase = Peeking peek shrinks; group = group }) (local own (view_at name now))) where
   abbrev peeking : IsPeeking (frame meld name.limits alone) (comm_of asked) shrinks peek (moment old before.seen) (moment own now.seen)
   peeking = st.at.1
 
@@ -117,12 +123,13 @@ module _ {P : Type 0} (meld : P → P → P) (name : Name) (asked : Call P) (pee
       (peeking_round meld name.limits alone (comm_of asked) shrinks peek old before.seen own now.seen peeking of.legal)
 
   -- the next one may be loaded
-  pub peek_may : MayPeek meld members (running peek (view_of name now))
+  pub peek_may : MayPeek meld members (running peek (view_at name now))
   peek_may =
       record {
         of = of;
         round = peek_round;
         some = subst (IsSide peek.side) (sym peek_same) st.at.2;
+        first = st.at.3;
         are = subst (λ ms. BothTell meld now.seen peek.comm peek.round ms peek.blocks) (sym peek_same) peeking.are;
       }
 
@@ -134,7 +141,7 @@ module _ {P : Type 0} (meld : P → P → P) (name : Name) (asked : Call P) (pee
       (holds meld name.limits peeking.look own (comm_of asked) peeking.x peeking.fits peeking.held).member)
 
   -- after a further load
-  module _ (quiet : Bool) (only : IsTrue alone → IsTrue quiet) (after : Sight P) (later : IsView meld (view_of name after)) (did : Did quiet [] now.seen after.seen)
+  module _ (quiet : Bool) (only : IsTrue alone → IsTrue quiet) (after : Sight P) (later : IsView meld (view_at name after)) (did : Did quiet [] now.seen after.seen)
       (steps : now.steps ≤ after.steps) (next : Peek P) (comm : next.comm ≡ peek.comm)
       (round : next.round ≡ peek.round) (are : BothTell meld after.seen peek.comm peek.round members next.blocks) where
     are_there : BothTell meld after.seen next.comm next.round peeking.x.group next.blocks
@@ -147,17 +154,17 @@ module _ {P : Type 0} (meld : P → P → P) (name : Name) (asked : Call P) (pee
     on = peeking_on meld name.limits alone (comm_of asked) shrinks peek old before.seen own now.seen peeking quiet only after.seen did next comm round are_there
 
     -- one more is left
-    pub peek_goes : IsSide next.side members → Stands meld alone (local old (view_of name before)) (record { asked = asked; phase = Peeking next shrinks; group = group }) (local own (view_of name after))
+    pub peek_goes : IsSide next.side members → HoldsFirst meld (view_at name after) next → Stands meld alone (local old (view_at name before)) (record { asked = asked; phase = Peeking next shrinks; group = group }) (local own (view_at name after))
     unfolding peeking_on
-    peek_goes more = record {
+    peek_goes more first = record {
       fits = st.fits;
       mine = st.mine;
       onward = omega (arith, st.onward, steps);
-      at = (st.at.0, on, subst (IsSide next.side) peek_same more);
+      at = (st.at.0, on, subst (IsSide next.side) peek_same more, first);
     }
 
     -- not all were set
-    pub peek_unread : is_whole next.blocks (length members) ≡ false → HasPeeked meld alone asked shrinks next (local old (view_of name before)) (local own (view_of name after))
+    pub peek_unread : is_whole next.blocks (length members) ≡ false → HasPeeked meld alone asked shrinks next (local old (view_at name before)) (local own (view_at name after))
     unfolding peeking_on
     peek_unread unknown = record {
       fits = st.fits;
@@ -169,7 +176,7 @@ module _ {P : Type 0} (meld : P → P → P) (name : Name) (asked : Call P) (pee
 
     -- all were: this is what they say
     pub peek_ends : (all : Summary P) → IsSummed meld after.seen peek.comm peek.round members all
-        → HasReadAll meld alone asked (polled_round shrinks next.round) all (local old (view_of name before)) (local own (view_of name after))
+        → HasReadAll meld alone asked (polled_round shrinks next.round) all (local old (view_at name before)) (local own (view_at name after))
     unfolding peeking_on
     peek_ends all said =
         let there : IsSummed meld after.seen (comm_of asked) next.round peeking.x.group all =
@@ -187,18 +194,18 @@ module _ {P : Type 0} (meld : P → P → P) (name : Name) (asked : Call P) (pee
 
 -- the load that a peek makes is the one that is named
 pub peek_named : {P : Type 0} (peek : Peek P) (shrinks : Bool) (rank c : ℕ) (old new : Sight P) → peek.comm ≡ c
-    → IsStepAt (Site.Block (block_at peek.comm peek.round peek.side)) true old new → MakesStep (next_step (Peeking peek shrinks)) rank c old new
-peek_named peek shrinks rank c old new there one = (
-  peek.round,
-  peek.side,
-  subst (λ w. IsStepAt (Site.Block (block_at w peek.round peek.side)) true old new)
-      there one,
-)
+    → IsStepAt (peek_site peek) true old new → MakesStep (next_step (Peeking peek shrinks)) rank c old new
+peek_named {P} peek shrinks rank c old new there one = go (is_some peek.first) one
+  where
+    go : (b : Bool) → IsStepAt (if b then Site.Wing (Wing.Block (block_at peek.comm peek.round peek.side)) else Site.Block (block_at peek.comm peek.round peek.side)) true old new
+        → MakesStep (Some (if b then step.Wing else step.Block)) rank c old new
+    go true at = (Wing.Block (block_at peek.comm peek.round peek.side), true, there, at)
+    go false at = (peek.round, peek.side, subst (λ w. IsStepAt (Site.Block (block_at w peek.round peek.side)) true old new) there at)
 
 -- not all blocks were set: what comes next, by what the code knows of the communicator
-module _ {P : Type 0} (meld : P → P → P) (alone : Bool) (name : Name) (asked : Call P) (shrinks : Bool) (peek : Peek P) (old : Record) (before : Sight P)
-    (own : Record) (now : Sight P) (of : IsView meld (view_of name now))
-    (h : HasPeeked meld alone asked shrinks peek (local old (view_of name before)) (local own (view_of name now))) (group : List ℕ) (y : Held) (w : ℕ) (found : held_at own w ≡ Some y)
+module _ {P : Type 0} (meld : P → P → P) (alone : Bool) (name : Over P) (asked : Call P) (shrinks : Bool) (peek : Peek P) (old : Record) (before : Sight P)
+    (own : Record) (now : Sight P) (of : IsView meld (view_at name now))
+    (h : HasPeeked meld alone asked shrinks peek (local old (view_at name before)) (local own (view_at name now))) (group : List ℕ) (y : Held) (w : ℕ) (found : held_at own w ≡ Some y)
     (w_is : w ≡ comm_of asked) (members declared : List ℕ) (members_are : members ≡ y.group)
     (declared_are : declared ≡ own.seen) where
   abbrev p : IsPeeking (frame meld name.limits alone) (comm_of asked) shrinks peek (moment old before.seen) (moment own now.seen)
@@ -242,7 +249,7 @@ module _ {P : Type 0} (meld : P → P → P) (alone : Bool) (name : Name) (asked
 
     -- a declared member is marked
     pub unread_marking : (n : ℕ) → marks.rank ≡ n → n ≡ own.number → marks.comm ≡ w → marks.round ≡ peek.round → marks.next < length declared
-        → Stands meld alone (local old (view_of name before)) (record { asked = asked; phase = Marking marks peek.blocks shrinks; group = group }) (local own (view_of name now))
+        → Stands meld alone (local old (view_at name before)) (record { asked = asked; phase = Marking marks peek.blocks shrinks; group = group }) (local own (view_at name now))
     unread_marking n rank_is n_is there round more =
         let here : marks.comm ≡ comm_of asked = there ∙ w_is in
         let marking : IsMarking (frame meld name.limits alone) (comm_of asked) shrinks marks peek.blocks (moment old before.seen) (moment own now.seen) =
@@ -275,7 +282,7 @@ module _ {P : Type 0} (meld : P → P → P) (alone : Bool) (name : Name) (asked
     -- or, where there is none, the blocks are read
     pub unread_reading : (reading : ReadBlocks P) (size : ℕ) → reading ≡ starts_at w peek.round peek.blocks size → size ≡ length members
         → length declared ≤ marks.next
-        → Stands meld alone (local old (view_of name before)) (record { asked = asked; phase = Reading reading shrinks; group = group }) (local own (view_of name now))
+        → Stands meld alone (local old (view_at name before)) (record { asked = asked; phase = Reading reading shrinks; group = group }) (local own (view_at name now))
     unread_reading reading size is size_is past =
         let nobody : filter (has p.x.group) fs ≡ [] = sym (all_in p.x.group fs marks.next at_look.within (subst (λ s. length s ≤ marks.next) seen_are past))
         ∙ none_yet in
@@ -302,5 +309,6 @@ module _ {P : Type 0} (meld : P → P → P) (alone : Bool) (name : Name) (asked
             h.polls,
             reading_begins meld name.limits alone (comm_of asked) shrinks peek.round p.x old before.seen own now.seen marked peek.blocks w peek.round size are
                 h.unknown reading is w_is refl (size_is ∙ ap length unread_same),
+            starts_half (view_at name now) _ reading w peek.round peek.blocks size is,
           );
         }

@@ -213,11 +213,11 @@ module _ {P : Type 0} (meld : P → P → P) (limits : Limits) (alone : Bool) (b
       (λ event is. marks_added (failures p.look) x k shrinks event (marks_declared (failures p.look) x c k (comm_is meld limits p.look mid c x p.fits p.held)
       event is)) p.marks.own p.marks.marks
 
-  pub answered : (reply : Reply P) (new : Record) → PollReplies meld limits (record { look = failures p.look; history = after; own = p.marks.own }) old.number x
+  pub answered : (reply : Reply P) (new : Record) → PollReplies meld limits (record { look = failures p.look; history = after; own = p.marks.own; spread = false }) old.number x
       (Some (agreement shrinks k)) reply
       → new ≡ left_by limits.ranks after mid asked reply → IsEndRun meld limits alone (moment old before) asked reply (moment new after)
   answered reply new replies left =
-      let view : AtPoint P = record { look = failures p.look; history = after; own = p.marks.own } in
+      let view : AtPoint P = record { look = failures p.look; history = after; own = p.marks.own; spread = false } in
       replied meld limits alone before p.look old mid p.looked after p.marks.own asked reply new x whole p.legal held_first not_refused
       (subst (λ request. AllByRecursion (PollAdds (failures p.look) x request) p.marks.own) (sym p.open_is) declared)
       (subst (λ request. PollReplies meld limits view old.number x request reply) (sym p.open_is) replies) left
@@ -252,7 +252,7 @@ module _ {P : Type 0} (meld : P → P → P) (limits : Limits) (alone : Bool) (b
   pub poll_pending : (member : ℕ) (new : Record) → IsTrue (has x.group member) → slot after c k member ≡ None → new ≡ mid
       → IsEndRun meld limits alone (moment old before) asked Pending (moment new after)
   poll_pending member new in_group unsettled is =
-      let view : AtPoint P = record { look = failures p.look; history = after; own = p.marks.own } in
+      let view : AtPoint P = record { look = failures p.look; history = after; own = p.marks.own; spread = false } in
       answered Pending new
       (pending_replies meld limits view old.number x k shrinks
       (record {

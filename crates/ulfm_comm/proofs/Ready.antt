@@ -6,7 +6,7 @@ use Rattle.ulfm_model.specs.declared.{call.Call.{Call}, call.Request.TheVariants
 use Rattle.ulfm_model.specs.declared.{block.Side.TheVariants.{Front, Back}}
 use Rattle.ulfm_model.specs.{Blocks.{IsSide, block_of}, History.{History, failures}, Records.{Fits, Held, Record, held_at}, Terms.{comm_of}}
 use Rattle.ulfm_model.specs.Records.{moment}
-use Rattle.ulfm_words.specs.Steps.{view_of, IsView, Name, Sight}
+use Rattle.ulfm_words.specs.Steps.{IsView, Over, Sight, view_at}
 use Rattle.ulfm_words.proofs.Trails.{did_none}
 use Rattle.ulfm_steps.specs.declared.{arrivals.Arrivals.{Arrivals}, blocks.Peek.{Peek}}
 use Rattle.ulfm_steps.specs.{Arriving.{AtArrival, IsAsked, asked_before}, Blocks.{MembersTell}}
@@ -23,8 +23,8 @@ tells_none meld h c k group None none = tt
 tells_none meld h c k group (Some all) none = absurd (cc none)
 
 -- the poll of a request that is open, right after its look
-module _ {P : Type 0} (meld : P → P → P) (alone : Bool) (name : Name) (asked : Call P) (old : Record) (before : Sight P) (own : Record) (now : Sight P)
-    (just : JustLooked meld alone asked (local old (view_of name before)) (local own (view_of name now))) (of : IsView meld (view_of name now)) where
+module _ {P : Type 0} (meld : P → P → P) (alone : Bool) (name : Over P) (asked : Call P) (old : Record) (before : Sight P) (own : Record) (now : Sight P)
+    (just : JustLooked meld alone asked (local old (view_at name before)) (local own (view_at name now))) (of : IsView meld (view_at name now)) where
   pub just_fits : Fits meld name.limits now.seen own
   just_fits = looked_fits meld alone name before now just.onward old own of just.fits just.looked
 
@@ -41,9 +41,9 @@ module _ {P : Type 0} (meld : P → P → P) (alone : Bool) (name : Name) (asked
 
     -- of an agreement: the blocks of its round are loaded
     pub ready_peeking : (peek : Peek P) (shrinks : Bool) (k : ℕ) → x.request ≡ Some (agreement shrinks k) → peek.comm ≡ w → peek.round ≡ k → peek.side ≡ Front
-        → (is_some peek.blocks.front ≡ false) × (is_some peek.blocks.back ≡ false)
-        → Stands meld alone (local old (view_of name before)) (record { asked = asked; phase = Peeking peek shrinks; group = group }) (local own (view_of name now))
-    ready_peeking peek shrinks k open_is there round first none =
+        → (is_some peek.blocks.front ≡ false) × (is_some peek.blocks.back ≡ false) → peek.first ≡ None
+        → Stands meld alone (local old (view_at name before)) (record { asked = asked; phase = Peeking peek shrinks; group = group }) (local own (view_at name now))
+    ready_peeking peek shrinks k open_is there round first none bare =
         let some : 0 < length x.group = some_member x.group own.number (holds meld name.limits now.seen own (comm_of asked) x just_fits just_held).member in
         let peeking : IsPeeking (frame meld name.limits alone) (comm_of asked) shrinks peek (moment old before.seen) (moment own now.seen) =
         record {
@@ -65,14 +65,14 @@ module _ {P : Type 0} (meld : P → P → P) (alone : Bool) (name : Name) (asked
           fits = just.fits;
           mine = just.mine;
           onward = just.onward;
-          at = (poll_mine asked old rank comm polls just.mine, peeking, subst (λ s. IsSide s x.group) (sym first) some);
+          at = (poll_mine asked old rank comm polls just.mine, peeking, subst (λ s. IsSide s x.group) (sym first) some, rw bare tt);
         }
 
     module _ (members declared : List ℕ) (members_are : members ≡ x.group) (declared_are : declared ≡ own.seen) where
       -- of a barrier: who has arrived is read
       pub ready_waiting : (arrivals : Arrivals) (k : ℕ) → arrivals.comm ≡ w → arrivals.round ≡ k → x.request ≡ Some (Barrier k)
           → IsAsked members declared arrivals.others arrivals.next → asked_before members declared arrivals.others arrivals.next ≡ []
-          → Stands meld alone (local old (view_of name before)) (record { asked = asked; phase = Waiting arrivals; group = group }) (local own (view_of name now))
+          → Stands meld alone (local old (view_at name before)) (record { asked = asked; phase = Waiting arrivals; group = group }) (local own (view_at name now))
       ready_waiting arrivals k there round open_is asks first =
           let waits : IsWaiting (frame meld name.limits alone) (comm_of asked) arrivals.round x (moment old before.seen) (moment own now.seen) =
           record {

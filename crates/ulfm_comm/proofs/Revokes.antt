@@ -6,9 +6,9 @@ use Rattle.ulfm_model.specs.declared.{event.Caller.TheVariants.{Rank}, event.Eve
 use Rattle.ulfm_model.specs.declared.reply.Reply.TheVariants.{AlreadyRevoked, Revoked, Standing}
 use Rattle.ulfm_model.specs.{History.{History, IsLegal, is_revoked}, Records.{Fits, Held, Record, held_at}, Runs.{Did}, Words.{MayOpen}}
 use Rattle.ulfm_model.proofs.Stable.{revoke_stays}
-use Rattle.ulfm_words.specs.{Steps.{IsAdded, IsView, Name, Sight}, Tries.{MayEnd}}
+use Rattle.ulfm_words.specs.{Steps.{IsAdded, IsView, Over, Sight}, Tries.{MayEnd}}
 use Rattle.ulfm_words.proofs.{Growing.{revoked_stays}, Ranks.{spawns_below}, Trails.{did_added}}
-use Rattle.ulfm_words.specs.Steps.{view_of}
+use Rattle.ulfm_words.specs.Steps.{view_at}
 use Rattle.ulfm_comm.specs.{Calls.{Linearizes}, Look.{Looked}, Revokes.{revoked}}
 use Rattle.ulfm_comm.proofs.{CallRuns.{calls_is}, Holding.{comm_is, exists_is}, WholeCall.{held_before, replied}, Refusals.{by_tests}}
 use Rattle.ulfm_comm.specs.Local.{local}
@@ -36,32 +36,32 @@ module _ {P : Type 0} (meld : P → P → P) (limits : Limits) (look : History P
   held_may_end more begins legal standing =
       revoke_stays meld limits look more c begins legal (exists_is meld limits look own c x fits held, standing_before look more c begins standing) standing
 
-module _ {P : Type 0} (meld : P → P → P) (alone : Bool) (name : Name) (before look after : Sight P) (onward : before.steps ≤ after.steps) (rank c : ℕ)
+module _ {P : Type 0} (meld : P → P → P) (alone : Bool) (name : Over P) (before look after : Sight P) (onward : before.steps ≤ after.steps) (rank c : ℕ)
     (old mid : Record) (fits : Fits meld name.limits before.seen old)
     (looked : Looked alone before.seen look.seen old mid) (now : Fits meld name.limits look.seen mid) (x : Held) (held : held_at mid c ≡ Some x) where
   -- the communicator is revoked, by this call or before
-  pub calls_revoked : (won : Bool) → IsView meld (view_of name after) → MatchBool won (IsAdded alone (record { by = Rank old.number; event = Revoke c }) look.seen
+  pub calls_revoked : (won : Bool) → IsView meld (view_at name after) → MatchBool won (IsAdded alone (record { by = Rank old.number; event = Revoke c }) look.seen
       after.seen) (Did alone [] look.seen after.seen) → IsTrue (is_revoked after.seen c)
-      → Linearizes meld alone (call.Revoke rank c) (local old (view_of name before)) (revoked won) (local mid (view_of name after))
+      → Linearizes meld alone (call.Revoke rank c) (local old (view_at name before)) (revoked won) (local mid (view_at name after))
   calls_revoked true of outcome stands =
-      calls_is meld alone name before after onward (call.Revoke rank c) old Revoked mid of fits
+      calls_is meld alone name before after onward (call.Revoke rank c) old Revoked mid of fits (λ is no. absurd (cc (is, no)))
       (replied meld name.limits alone before.seen look.seen old mid looked after.seen (Revoke c ∷ []) (call.Revoke rank c) Revoked mid x
       (did_added alone (record { by = Rank old.number; event = Revoke c }) look.seen after.seen outcome) of.legal
       (held_before meld name.limits alone before.seen look.seen old mid looked c (Some x) held)
       (by_tests meld alone name before look (call.Revoke rank c) old mid fits looked x held None refl)
       (ap Revoke (sym (comm_is meld name.limits look.seen mid c x now held)), tt) (stands, inl (refl, refl)) refl (λ here polls. absurd (cc polls)))
   calls_revoked false of outcome stands =
-      calls_is meld alone name before after onward (call.Revoke rank c) old AlreadyRevoked mid of fits
+      calls_is meld alone name before after onward (call.Revoke rank c) old AlreadyRevoked mid of fits (λ is no. absurd (cc (is, no)))
       (replied meld name.limits alone before.seen look.seen old mid looked after.seen [] (call.Revoke rank c) AlreadyRevoked mid x outcome of.legal
       (held_before meld name.limits alone before.seen look.seen old mid looked c (Some x) held)
       (by_tests meld alone name before look (call.Revoke rank c) old mid fits looked x held None refl)
       tt (stands, inr (refl, refl)) refl (λ here polls. absurd (cc polls)))
 
   -- whether the communicator is revoked, at the end
-  pub calls_standing : (found : Bool) → IsView meld (view_of name after) → Did alone [] look.seen after.seen → found ≡ is_revoked after.seen c
-      → Linearizes meld alone (call.IsRevoked rank c) (local old (view_of name before)) (Standing found) (local mid (view_of name after))
+  pub calls_standing : (found : Bool) → IsView meld (view_at name after) → Did alone [] look.seen after.seen → found ≡ is_revoked after.seen c
+      → Linearizes meld alone (call.IsRevoked rank c) (local old (view_at name before)) (Standing found) (local mid (view_at name after))
   calls_standing found of did is =
-      calls_is meld alone name before after onward (call.IsRevoked rank c) old (Standing found) mid of fits
+      calls_is meld alone name before after onward (call.IsRevoked rank c) old (Standing found) mid of fits (λ is no. absurd (cc (is, no)))
       (replied meld name.limits alone before.seen look.seen old mid looked after.seen [] (call.IsRevoked rank c) (Standing found) mid x did of.legal
       (held_before meld name.limits alone before.seen look.seen old mid looked c (Some x) held)
       (by_tests meld alone name before look (call.IsRevoked rank c) old mid fits looked x held None refl)

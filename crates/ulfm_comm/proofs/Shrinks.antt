@@ -1,5 +1,6 @@
 -- The end of a shrink's poll.
 use Rattle.std.proofs.Common.{◌≡◌, ◌⊎◌, ℕ, ◌+◌, ◌-◌, ◌<◌, Bool, true, List, [], ◌∷◌, ◌++◌, length, filter, filter_map, map, take, Some, slice_get, refl, ap}
+use Rattle.std.proofs.Common.{false}
 use Rattle.std.proofs.Common.{ap₂, sym, ◌∙◌, subst, append-nil, arith, inl, inr, IsTrue, IsFalse}
 use Rattle.std.specs.List.{AllByRecursion}
 use Rattle.std.proofs.lemmas.List.{map-append}
@@ -130,7 +131,7 @@ module _ {P : Type 0} (meld : P → P → P) (limits : Limits) (alone : Bool) (b
       events = p.marks.own ++ own
 
       abbrev view : AtPoint P
-      view = record { look = failures p.look; history = ending; own = events }
+      view = record { look = failures p.look; history = ending; own = events; spread = false }
 
       pub all_did : Did alone (entries_by (Rank old.number) events) p.look ending
       all_did =
@@ -168,9 +169,10 @@ module _ {P : Type 0} (meld : P → P → P) (limits : Limits) (alone : Bool) (b
       ends_so : (reply : Reply P) (new : Record) → IsSelfFailed view old poll reply ⊎ IsReply meld limits view old poll reply
           → new ≡ left_by limits.ranks ending (record mid { seen = seen }) poll reply → IsEndRun meld limits alone (moment old before) poll reply (moment new ending)
       ends_so reply new replies left =
-          run_ends meld limits alone before p.look old ending events poll reply new seen p.looked.in_use p.looked.did all_did end_legal may_own replies sees_on
+          run_ends meld limits alone before p.look old false ending events poll reply new seen p.looked.in_use p.looked.did all_did end_legal may_own replies sees_on
           (left ∙ ap (λ (w : Record). left_by limits.ranks ending (record w { seen = seen }) poll reply) p.looked.record_is)
           (λ alone_here polls not_declared. settled_more p.marks.own own settles_none ∙ due meld limits alone before old mid c true k x h p alone_here)
+          (λ on. absurd (cc on))
 
       end_begins : IsPrefix h ending
       end_begins = prefix_trans h after ending begins (did_prefix alone (entries_by (Rank old.number) own) after ending did)

@@ -7,7 +7,7 @@ use Rattle.std.proofs.lemmas.List.{length-map}
 use Rattle.ulfm_model.specs.declared.{event.Caller.{Caller}, event.Event.TheVariants.{Spawn}}
 use Rattle.ulfm_model.specs.{History.{spawns}}
 use Rattle.ulfm_model.proofs.Lists.{in_list}
-use Rattle.ulfm_words.specs.Steps.{view_of, Name, Sight}
+use Rattle.ulfm_words.specs.Steps.{Over, Sight, view_at}
 use Rattle.ulfm_words.proofs.{Ranks.{spawns_below}, Trails.{did_added}}
 use Rattle.ulfm_steps.specs.Appends.{wanted, Appends}
 use Rattle.ulfm_steps.specs.declared.{append.Appended.{Appended}, append.Appended.TheVariants.{Won, Found, Full}, item.Item.{Item}}
@@ -50,12 +50,12 @@ so_many xs (suc n) all = let last = all n (omega arith) in omega (
       (λ (made : ℕ × ℕ). Comm made.0 made.1),
 )
 
-module _ {P : Type 0} (meld : P → P → P) (alone : Bool) (name : Name) (by : Caller) (c k : ℕ) (before after : Sight P) (most i : ℕ) where
+module _ {P : Type 0} (meld : P → P → P) (alone : Bool) (name : Over P) (by : Caller) (c k : ℕ) (before after : Sight P) (most i : ℕ) where
   one_more : i + 1 - 1 ≡ i
   one_more = omega arith
 
   -- this call made it
-  won_makes : Appends meld alone (wanted (Comm c k) by) most (view_of name before) (Won i) (view_of name after) → IsMadeBy meld alone by (round_on c k) (view_of name before) (i + 1) (view_of name after)
+  won_makes : Appends meld alone (wanted (Comm c k) by) most (view_at name before) (Won i) (view_at name after) → IsMadeBy meld alone by (round_on c k) (view_at name before) (i + 1) (view_at name after)
   won_makes appends =
       record {
         of = appends.of;
@@ -72,7 +72,7 @@ module _ {P : Type 0} (meld : P → P → P) (alone : Bool) (name : Name) (by : 
       }
 
   -- it had been made
-  found_made : Appends meld alone (wanted (Comm c k) by) most (view_of name before) (Found i) (view_of name after) → IsMadeBy meld alone by (round_on c k) (view_of name before) (i + 1) (view_of name after)
+  found_made : Appends meld alone (wanted (Comm c k) by) most (view_at name before) (Found i) (view_at name after) → IsMadeBy meld alone by (round_on c k) (view_at name before) (i + 1) (view_at name after)
   found_made appends =
       record {
         of = appends.of;
@@ -89,14 +89,14 @@ module _ {P : Type 0} (meld : P → P → P) (alone : Bool) (name : Name) (by : 
       }
 
   -- one or the other
-  pub makes : (end : Appended) → (end ≡ Won i) ⊎ (end ≡ Found i) → Appends meld alone (wanted (Comm c k) by) most (view_of name before) end (view_of name after)
-      → IsMadeBy meld alone by (round_on c k) (view_of name before) (i + 1) (view_of name after)
-  makes end (inl won) appends = won_makes (subst (λ e. Appends meld alone (wanted (Comm c k) by) most (view_of name before) e (view_of name after)) won appends)
-  makes end (inr found) appends = found_made (subst (λ e. Appends meld alone (wanted (Comm c k) by) most (view_of name before) e (view_of name after)) found appends)
+  pub makes : (end : Appended) → (end ≡ Won i) ⊎ (end ≡ Found i) → Appends meld alone (wanted (Comm c k) by) most (view_at name before) end (view_at name after)
+      → IsMadeBy meld alone by (round_on c k) (view_at name before) (i + 1) (view_at name after)
+  makes end (inl won) appends = won_makes (subst (λ e. Appends meld alone (wanted (Comm c k) by) most (view_at name before) e (view_at name after)) won appends)
+  makes end (inr found) appends = found_made (subst (λ e. Appends meld alone (wanted (Comm c k) by) most (view_at name before) e (view_at name after)) found appends)
 
-module _ {P : Type 0} (meld : P → P → P) (alone : Bool) (name : Name) (by : Caller) (c k : ℕ) (before after : Sight P) where
+module _ {P : Type 0} (meld : P → P → P) (alone : Bool) (name : Over P) (by : Caller) (c k : ℕ) (before after : Sight P) where
   -- all that there may be were made of other rounds
-  pub full_of : (most : ℕ) → Appends meld alone (wanted (Comm c k) by) most (view_of name before) Full (view_of name after) → IsFullBy meld alone (round_on c k) (view_of name before) (view_of name after)
+  pub full_of : (most : ℕ) → Appends meld alone (wanted (Comm c k) by) most (view_at name before) Full (view_at name after) → IsFullBy meld alone (round_on c k) (view_at name before) (view_at name after)
   full_of most appends =
       let passed = appends.outcome.1 in
       let many = so_many (spawns after.seen) (name.limits.comms - 1) (λ j lt. let at = passed j lt in (at.0, at.1)) in
@@ -114,7 +114,7 @@ module _ {P : Type 0} (meld : P → P → P) (alone : Bool) (name : Name) (by : 
       }
 
   -- its number is small
-  pub number_fits : (j : ℕ) → IsMadeBy meld alone by (round_on c k) (view_of name before) j (view_of name after) → j < 2 ^ 16
+  pub number_fits : (j : ℕ) → IsMadeBy meld alone by (round_on c k) (view_at name before) j (view_at name after) → j < 2 ^ 16
   number_fits j made =
       let range = made.of.may_open.in_range in
       let below = spawns_below meld name.limits after.seen made.of.legal range.some_comms in

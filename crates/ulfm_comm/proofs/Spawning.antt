@@ -9,7 +9,7 @@ use mathlib.Core.List.{IsPrefix}
 use Rattle.ulfm_laws.specs.declared.{summary.Body.TheVariants.{Ctx as OfIds}, ctx_mask.CtxMask.{CtxMask}, summary.Summary.{Summary}}
 use Rattle.ulfm_model.specs.declared.call.Call.TheVariants as call
 use Rattle.ulfm_model.specs.declared.{call.Call.{Call}, event.Caller.TheVariants.{Rank}, event.Event.{Event}, event.Event.TheVariants.{Spawn}}
-use Rattle.ulfm_model.specs.declared.{limits.Limits.{Limits}, refusal.Refusal.TheVariants.{Mismatch, NoContext, NoRoom, OutOfMemory, SelfFailed}}
+use Rattle.ulfm_model.specs.declared.{limits.Limits.{Limits}, refusal.Refusal.TheVariants.{Mismatch, NoContext, NoRoom, OutOfMemory, SelfFailed, Twice}}
 use Rattle.ulfm_model.specs.declared.{reply.Reply.{Reply}, reply.Reply.TheVariants.{Pending, Refused, Shrunk}}
 use Rattle.ulfm_model.specs.{Answers.{CallAdds, PollAdds, closed, polled_by, traits_of}, History.{History, IsLegal, entries_by, failures, has, spawns, without}}
 use Rattle.ulfm_model.specs.{Records.{Fits, Held, IsLowestId, Record, held_at, is_shrink}, Runs.{Did}}
@@ -17,7 +17,7 @@ use Rattle.ulfm_model.specs.Terms.{comm_of, contexts_of, new_held}
 use Rattle.ulfm_model.proofs.{Groups.{members_few}, Histories.{failures_begin}, LeftFits.{fits_seen}, Lists.{length-filter-le, prefix_trans}}
 use Rattle.ulfm_model.proofs.Stable.{fits_stays}
 use Rattle.ulfm_model.specs.Records.{moment}
-use Rattle.ulfm_words.specs.Steps.{view_of, IsView, Name, Sight}
+use Rattle.ulfm_words.specs.Steps.{IsView, Over, Sight, view_at}
 use Rattle.ulfm_words.proofs.{Ranks.{spawns_below}, Trails.{did_none, did_prefix, did_wait}}
 use Rattle.ulfm_steps.proofs.{Appending.{append_stays}, Spawning.{may_spawn}}
 use Rattle.ulfm_steps.specs.Appends.{MayAppend, Passed, room}
@@ -26,7 +26,7 @@ use Rattle.ulfm_comm.specs.declared.{phases.phase.Made.{Made}, phases.phase.Phas
 use Rattle.ulfm_comm.specs.declared.phases.spawning.Spawned.TheVariants as spawned
 use Rattle.ulfm_steps.specs.declared.read_on.ReadOn.{ReadOn}
 use Rattle.ulfm_steps.specs.ReadsOn.{AtFailure, MayReadOn, ReadsOn}
-use Rattle.ulfm_comm.specs.{Calls.{RepliedAs, HadCome, RanOut, wants_memory}, Ends.{IsEndRun}}
+use Rattle.ulfm_comm.specs.{Calls.{FindsTwice, RepliedAs, HadCome, RanOut, wants_memory}, Ends.{IsEndRun}}
 use Rattle.ulfm_comm.specs.{Spawning.{Holds, IsFullBy, IsMadeBy, MayHold, MayGoSpawning, SpawnIs, HasReached, HasReadMask}, Step.{Adds, Makes, Walks}}
 use Rattle.ulfm_comm.specs.{Phase.{Answered, Stands}, Agreement.{HasReadAll}}
 use Rattle.ulfm_steps.proofs.ReadingOn.{passing_grow}
@@ -55,16 +55,17 @@ reads_stay group count old new whole longer reach reads more =
     record { goes_on = reads.goes_on; begins = prefix_trans new whole longer reads.begins more; within = reads.within; counted = reads.counted }
 
 -- the poll of a shrink is answered, with its point at its end
-pub answered_with : {P : Type 0} (meld : P → P → P) (alone : Bool) (name : Name) (asked : Call P) (old : Record) (before : Sight P) (reply : Reply P)
-    (new : Record) (after : Sight P) → IsView meld (view_of name after) → before.steps ≤ after.steps → Fits meld name.limits before.seen old
+pub answered_with : {P : Type 0} (meld : P → P → P) (alone : Bool) (name : Over P) (asked : Call P) (old : Record) (before : Sight P) (reply : Reply P)
+    (new : Record) (after : Sight P) → IsView meld (view_at name after) → before.steps ≤ after.steps → Fits meld name.limits before.seen old
     → asked ≡ call.Poll old.number (comm_of asked) → IsEndRun meld name.limits alone (moment old before.seen) (call.Poll old.number (comm_of asked)) reply (moment new after.seen)
     → wants_memory reply ≡ false → (reply ≡ Pending → ⊥)
-    → Answered meld alone asked (local old (view_of name before)) reply (local new (view_of name after))
+    → Answered meld alone asked (local old (view_at name before)) reply (local new (view_at name after))
 answered_with meld alone name asked old before reply new after of onward fits polls ended answers decides =
     let mine = subst (λ (a : Call _). IsEndRun meld name.limits alone (moment old before.seen) a reply (moment new after.seen)) (sym polls) ended in
-    let called = calls_is meld alone name before after onward asked old reply new of fits mine in
+    let twice = λ (is : reply ≡ Refused Twice). subst (λ (a : Call _). FindsTwice a old (view_at name after)) (sym polls) (λ no. absurd (cc no)) in
+    let called = calls_is meld alone name before after onward asked old reply new of fits twice mine in
     record {
-      ends = inr (subst (λ b. RepliedAs meld alone asked (local old (view_of name before)) reply b (local new (view_of name after))) (sym answers) called);
+      ends = inr (subst (λ b. RepliedAs meld alone asked (local old (view_at name before)) reply b (local new (view_at name after))) (sym answers) called);
       pending = λ waits. absurd (decides waits);
     }
 
@@ -74,8 +75,8 @@ none_made [] c k none = refl
 none_made (x ∷ xs) c k none = absurd (omega (arith, none))
 
 -- where there may be the world's communicator alone, none can be made
-pub full_alone : {P : Type 0} (meld : P → P → P) (alone : Bool) (name : Name) (c k : ℕ) (now : Sight P) → IsView meld (view_of name now) → name.limits.comms ≡ 1
-    → IsFullBy meld alone (round_on c k) (view_of name now) (view_of name now)
+pub full_alone : {P : Type 0} (meld : P → P → P) (alone : Bool) (name : Over P) (c k : ℕ) (now : Sight P) → IsView meld (view_at name now) → name.limits.comms ≡ 1
+    → IsFullBy meld alone (round_on c k) (view_at name now) (view_at name now)
 full_alone meld alone name c k now of one =
     let below = spawns_below meld name.limits now.seen of.legal of.may_open.in_range.some_comms in
     let none : length (spawns now.seen) ≡ 0 = omega (arith, below, one) in
@@ -89,15 +90,15 @@ full_alone meld alone name c k now of one =
       caches = refl;
     }
 
--- the ids of a mask are below 32
-id_below : (mask : CtxMask) (i : ℕ) → IsLowestId mask.bits i → i < 32
-id_below mask i lowest = go (nat_lt i 32) refl
+-- the ids of a mask are below 64
+id_below : (mask : CtxMask) (i : ℕ) → IsLowestId mask.bits i → i < 64
+id_below mask i lowest = go (nat_lt i 64) refl
   where
-    go : (b : Bool) → nat_lt i 32 ≡ b → i < 32
+    go : (b : Bool) → nat_lt i 64 ≡ b → i < 64
     go true below = grind (arith, nat_tests)
     go false above =
-        let from : 32 ≤ i = grind (arith, nat_tests) in
-        let none = bit_at_above mask.bits 32 i mask.fits from in
+        let from : 64 ≤ i = grind (arith, nat_tests) in
+        let none = bit_at_above mask.bits 64 i mask.fits from in
         let one = lowest.in_it in absurd (cc (none, one))
 
 module _ {P : Type 0} (meld : P → P → P) (limits : Limits) (alone : Bool) (c k : ℕ) (mask : CtxMask) (x : Held) (count : ℕ) (old : Record) (before : History P)
@@ -183,8 +184,8 @@ module _ {P : Type 0} (meld : P → P → P) (limits : Limits) (alone : Bool) (c
             lowest.in_it);
       }
 
-module _ {P : Type 0} (meld : P → P → P) (alone : Bool) (name : Name) (asked : Call P) (k : ℕ) (mask : CtxMask) (x : Held) (count reach : ℕ) (old : Record)
-    (before : Sight P) (own : Record) (now : Sight P) (of : IsView meld (view_of name now)) (onward : before.steps ≤ now.steps)
+module _ {P : Type 0} (meld : P → P → P) (alone : Bool) (name : Over P) (asked : Call P) (k : ℕ) (mask : CtxMask) (x : Held) (count reach : ℕ) (old : Record)
+    (before : Sight P) (own : Record) (now : Sight P) (of : IsView meld (view_at name now)) (onward : before.steps ≤ now.steps)
     (fits : Fits meld name.limits before.seen old) (polls : asked ≡ call.Poll old.number (comm_of asked))
     (d : HasReadMask (frame meld name.limits alone) (comm_of asked) (decided_as k mask count) x (moment old before.seen) (moment own now.seen))
     (reads : ReadsOn x.group count d.mid.seen own.seen (failures now.seen) reach) where
@@ -204,7 +205,7 @@ module _ {P : Type 0} (meld : P → P → P) (alone : Bool) (name : Name) (asked
 
   -- the rank is in the decision's failed group
   pub ends_self_failed : (new : Record) → has (take reach own.seen) own.number ≡ true → new ≡ record own { refused = true }
-      → Answered meld alone asked (local old (view_of name before)) (Refused SelfFailed) (local new (view_of name now))
+      → Answered meld alone asked (local old (view_at name before)) (Refused SelfFailed) (local new (view_at name now))
   ends_self_failed new among is =
       answered_with meld alone name asked old before (Refused SelfFailed) new now of onward fits polls
       (shrink_self_failed meld name.limits alone before.seen old d.mid c k x d.decided d.marked d.all d.read now.seen begins_now of.legal own.seen reach counted
@@ -212,8 +213,8 @@ module _ {P : Type 0} (meld : P → P → P) (alone : Bool) (name : Name) (asked
       refl (λ waits. absurd (cc waits))
 
   -- no communicator is left
-  pub ends_full : (new : Record) (after : Sight P) → IsFullBy meld alone (round_on c k) (view_of name now) (view_of name after) → has (take reach own.seen) own.number ≡ false → new ≡ closed own c
-      → Answered meld alone asked (local old (view_of name before)) (Refused NoRoom) (local new (view_of name after))
+  pub ends_full : (new : Record) (after : Sight P) → IsFullBy meld alone (round_on c k) (view_at name now) (view_at name after) → has (take reach own.seen) own.number ≡ false → new ≡ closed own c
+      → Answered meld alone asked (local old (view_at name before)) (Refused NoRoom) (local new (view_at name after))
   ends_full new after full out is =
       answered_with meld alone name asked old before (Refused NoRoom) new after full.of (omega (arith, onward, full.onward)) fits polls
       (shrink_no_room meld name.limits alone before.seen old d.mid c k x d.decided d.marked d.all d.read now.seen begins_now of.legal own.seen reach counted
@@ -221,10 +222,10 @@ module _ {P : Type 0} (meld : P → P → P) (alone : Bool) (name : Name) (asked
       (is ∙ ap (λ (w : Record). closed w c) d.own_is)) refl (λ waits. absurd (cc waits))
 
   -- it is made, and the rank holds it
-  pub ends_made : (j context size : ℕ) (group : List ℕ) (new : Record) (after : Sight P) → IsMadeBy meld alone (Rank old.number) (round_on c k) (view_of name now) j (view_of name after)
+  pub ends_made : (j context size : ℕ) (group : List ℕ) (new : Record) (after : Sight P) → IsMadeBy meld alone (Rank old.number) (round_on c k) (view_at name now) j (view_at name after)
       → Holds c context group own j size new → IsLowestId mask.bits context
       → group ≡ without x.group (take reach own.seen) → has (take reach own.seen) own.number ≡ false
-      → Answered meld alone asked (local old (view_of name before)) (Shrunk j context size) (local new (view_of name after))
+      → Answered meld alone asked (local old (view_at name before)) (Shrunk j context size) (local new (view_at name after))
   ends_made j context size group new after made holds lowest left out =
       answered_with meld alone name asked old before (Shrunk j context size) new after made.of (omega (arith, onward, made.onward)) fits polls
       (shrink_shrunk meld name.limits alone before.seen old d.mid c k x d.decided d.marked d.all d.read now.seen begins_now of.legal own.seen reach counted
@@ -234,11 +235,11 @@ module _ {P : Type 0} (meld : P → P → P) (alone : Bool) (name : Name) (asked
       (λ waits. absurd (cc waits))
 
   -- memory for it was refused, before the list of communicators was changed
-  pub ends_out : has (take reach own.seen) own.number ≡ false → Answered meld alone asked (local old (view_of name before)) (Refused OutOfMemory) (local own (view_of name now))
+  pub ends_out : has (take reach own.seen) own.number ≡ false → Answered meld alone asked (local old (view_at name before)) (Refused OutOfMemory) (local own (view_at name now))
   ends_out out_of_it =
       let poll = call.Poll old.number c in
       let quiet = did_none alone now.seen in
-      let out : RanOut meld alone poll (local old (view_of name before)) (local own (view_of name now)) =
+      let out : RanOut meld alone poll (local old (view_at name before)) (local own (view_at name now)) =
       runs_out_after meld alone name before now onward poll old own d.marked.look (d.marked.marks.own ++ []) of fits
       (record { in_use = d.marked.looked.in_use; did = d.marked.looked.did; not_declared = d.marked.looked.not_declared; record_is = refl })
       (all_did meld name.limits alone before.seen old d.mid c k x d.decided d.marked d.all d.read now.seen begins_now of.legal own.seen reach counted []
@@ -257,13 +258,13 @@ module _ {P : Type 0} (meld : P → P → P) (alone : Bool) (name : Name) (asked
       let shrinking : IsTrue (is_shrink (polled_by {P = P} old poll)) = ap is_shrink
       (polls_it meld name.limits alone before.seen old d.mid c true k x d.decided d.marked) in
       record {
-        ends = inr (subst (λ (a : Call P). RanOut meld alone a (local old (view_of name before)) (local own (view_of name now)) × IsTrue (is_shrink (polled_by old a))) (sym polls) (out, shrinking));
+        ends = inr (subst (λ (a : Call P). RanOut meld alone a (local old (view_at name before)) (local own (view_at name now)) × IsTrue (is_shrink (polled_by old a))) (sym polls) (out, shrinking));
         pending = λ waits. absurd (cc waits);
       }
 
-module _ {P : Type 0} (meld : P → P → P) (alone : Bool) (name : Name) (asked : Call P) (k : ℕ) (all : Summary P) (old : Record) (before : Sight P)
-    (mid : Record) (now : Sight P) (of : IsView meld (view_of name now))
-    (r : HasReadAll meld alone asked (polled_round true k) all (local old (view_of name before)) (local mid (view_of name now))) where
+module _ {P : Type 0} (meld : P → P → P) (alone : Bool) (name : Over P) (asked : Call P) (k : ℕ) (all : Summary P) (old : Record) (before : Sight P)
+    (mid : Record) (now : Sight P) (of : IsView meld (view_at name now))
+    (r : HasReadAll meld alone asked (polled_round true k) all (local old (view_at name before)) (local mid (view_at name now))) where
   fits_read : Fits meld name.limits now.seen mid
   fits_read = later meld name.limits alone before.seen old mid (comm_of asked) true k r.x now.seen r.marked
 
@@ -272,7 +273,7 @@ module _ {P : Type 0} (meld : P → P → P) (alone : Bool) (name : Name) (asked
 
   -- some have offered no mask
   pub ends_mismatch : (new : Record) → ((mask : CtxMask) → all.body ≡ OfIds mask → ⊥) → new ≡ closed mid (comm_of asked)
-      → Answered meld alone asked (local old (view_of name before)) (Refused Mismatch) (local new (view_of name now))
+      → Answered meld alone asked (local old (view_at name before)) (Refused Mismatch) (local new (view_at name now))
   ends_mismatch new other is =
       answered_with meld alone name asked old before (Refused Mismatch) new now of r.onward r.fits r.polls
       (shrink_mismatch meld name.limits alone before.seen old mid (comm_of asked) k r.x now.seen r.marked all r.read new other is) refl
@@ -280,7 +281,7 @@ module _ {P : Type 0} (meld : P → P → P) (alone : Bool) (name : Name) (asked
 
   -- no context id is free
   pub ends_no_context : (mask : CtxMask) (new : Record) → all.body ≡ OfIds mask → mask.bits ≡ 0 → new ≡ closed mid (comm_of asked)
-      → Answered meld alone asked (local old (view_of name before)) (Refused NoContext) (local new (view_of name now))
+      → Answered meld alone asked (local old (view_at name before)) (Refused NoContext) (local new (view_at name now))
   ends_no_context mask new body none is =
       answered_with meld alone name asked old before (Refused NoContext) new now of r.onward r.fits r.polls
       (shrink_no_context meld name.limits alone before.seen old mid (comm_of asked) k r.x now.seen r.marked all r.read mask new body none is) refl
@@ -307,7 +308,7 @@ module _ {P : Type 0} (meld : P → P → P) (alone : Bool) (name : Name) (asked
   -- and so many failures that were seen reach as far as its failed group
   pub reached_first : (mask : CtxMask) (on : ReadOn) → all.body ≡ OfIds mask → 0 < mask.bits → AtFailure r.x.group all.known.count on mid.seen
       → all.known.count ≤ on.found
-      → HasReached meld alone asked (record { round = k; mask = mask; count = all.known.count }) on.reach (local old (view_of name before)) (local mid (view_of name now))
+      → HasReached meld alone asked (record { round = k; mask = mask; count = all.known.count }) on.reach (local old (view_at name before)) (local mid (view_at name now))
   unfolding decided_first
   reached_first mask on body some at enough =
       record {
@@ -320,14 +321,14 @@ module _ {P : Type 0} (meld : P → P → P) (alone : Bool) (name : Name) (asked
       }
 
 -- the list of failures was read on: others' events came, and a longer beginning of it is seen
-module _ {P : Type 0} (meld : P → P → P) (alone : Bool) (name : Name) (asked : Call P) (on : ReadOn) (made : Made) (group : List ℕ) (old : Record)
+module _ {P : Type 0} (meld : P → P → P) (alone : Bool) (name : Over P) (asked : Call P) (on : ReadOn) (made : Made) (group : List ℕ) (old : Record)
     (before : Sight P) (own : Record) (now : Sight P)
-    (s : Stands meld alone (local old (view_of name before)) (record { asked = asked; phase = ReadingOn on made; group = group }) (local own (view_of name now))) (new : Record) (after : Sight P)
+    (s : Stands meld alone (local old (view_at name before)) (record { asked = asked; phase = ReadingOn on made; group = group }) (local own (view_at name now))) (new : Record) (after : Sight P)
     (did : Did alone [] now.seen after.seen) (onward : now.steps ≤ after.steps)
     (is : new ≡ record own { seen = new.seen }) (goes : IsPrefix own.seen new.seen) (begins : IsPrefix new.seen (failures after.seen)) where
   -- as far as that the decision's failed group isn't known yet
   pub reads_further : (next : ReadOn) (others : List ℕ) → AtFailure s.at.1.group made.count next new.seen → next.found < made.count
-      → Stands meld alone (local old (view_of name before)) (record { asked = asked; phase = ReadingOn next made; group = others }) (local new (view_of name after))
+      → Stands meld alone (local old (view_at name before)) (record { asked = asked; phase = ReadingOn next made; group = others }) (local new (view_at name after))
   reads_further next others at more =
       let before_that = s.onward in
       record {
@@ -346,7 +347,7 @@ module _ {P : Type 0} (meld : P → P → P) (alone : Bool) (name : Name) (asked
 
   -- or that it is
   pub has_reached : (next : ReadOn) → AtFailure s.at.1.group made.count next new.seen → made.count ≤ next.found
-      → HasReached meld alone asked made next.reach (local old (view_of name before)) (local new (view_of name after))
+      → HasReached meld alone asked made next.reach (local old (view_at name before)) (local new (view_at name after))
   unfolding decided_on
   has_reached next at enough =
       let before_that = s.onward in
@@ -362,13 +363,13 @@ module _ {P : Type 0} (meld : P → P → P) (alone : Bool) (name : Name) (asked
       }
 
 -- the communicator is looked for: a step in the list of communicators, or all that were left, led to this
-module _ {P : Type 0} (meld : P → P → P) (alone quiet : Bool) (only : IsTrue alone → IsTrue quiet) (name : Name) (asked : Call P) (append : Append)
+module _ {P : Type 0} (meld : P → P → P) (alone quiet : Bool) (only : IsTrue alone → IsTrue quiet) (name : Over P) (asked : Call P) (append : Append)
     (context reach : ℕ) (group : List ℕ) (old : Record) (before : Sight P) (own : Record) (now : Sight P)
-    (of : IsView meld (view_of name now)) (s : Stands meld alone (local old (view_of name before)) (record {
+    (of : IsView meld (view_at name now)) (s : Stands meld alone (local old (view_at name before)) (record {
       asked = asked;
       phase = Spawning append context reach;
       group = group;
-    }) (local own (view_of name now))) (comm : ℕ) (there : comm ≡ comm_of asked) where
+    }) (local own (view_at name now))) (comm : ℕ) (there : comm ≡ comm_of asked) where
   pub item_is : append.item ≡ OfComm comm s.at.1.round
   item_is = s.at.1.item ∙ ap (λ n. OfComm n s.at.1.round) (sym there)
 
@@ -398,8 +399,8 @@ module _ {P : Type 0} (meld : P → P → P) (alone quiet : Bool) (only : IsTrue
 
   module _ (next : Append) (new : Record) (after : Sight P) where
     -- these are steps of the rank's own
-    pub spawn_walks : (result : Spawned) → SpawnIs meld quiet (target comm s.at.1.round context group) (seeking append (local own (view_of name now))) result (seeking next (local new (view_of name after)))
-        → Walks meld quiet own.number (view_of name now) (view_of name after)
+    pub spawn_walks : (result : Spawned) → SpawnIs meld quiet (target comm s.at.1.round context group) (seeking append (local own (view_at name now))) result (seeking next (local new (view_at name after)))
+        → Walks meld quiet own.number (view_at name now) (view_at name after)
     spawn_walks spawned.Unknown is = record { of = is.0.of; own = []; did = is.0.did; onward = is.0.onward; cached = is.0.cached }
     spawn_walks (spawned.Made j size) is =
         record {
@@ -412,14 +413,14 @@ module _ {P : Type 0} (meld : P → P → P) (alone quiet : Bool) (only : IsTrue
     spawn_walks spawned.Full is = record { of = is.0.of; own = []; did = is.0.did; onward = is.0.onward; cached = is.0.cached }
 
     -- no block is cached
-    pub spawn_caches : (result : Spawned) → SpawnIs meld quiet (target comm s.at.1.round context group) (seeking append (local own (view_of name now))) result (seeking next (local new (view_of name after)))
+    pub spawn_caches : (result : Spawned) → SpawnIs meld quiet (target comm s.at.1.round context group) (seeking append (local own (view_at name now))) result (seeking next (local new (view_at name after)))
         → after.caches ≡ now.caches
     spawn_caches spawned.Unknown is = is.0.caches
     spawn_caches (spawned.Made j size) is = is.0.caches
     spawn_caches spawned.Full is = is.0.caches
 
     -- and add nothing, or the communicator
-    pub spawn_adds : (reply : Option (Reply P)) (result : Spawned) → SpawnIs meld quiet (target comm s.at.1.round context group) (seeking append (local own (view_of name now))) result (seeking next (local new (view_of name after))) → Adds quiet [] own asked reply now.seen after.seen
+    pub spawn_adds : (reply : Option (Reply P)) (result : Spawned) → SpawnIs meld quiet (target comm s.at.1.round context group) (seeking append (local own (view_at name now))) result (seeking next (local new (view_at name after))) → Adds quiet [] own asked reply now.seen after.seen
     spawn_adds reply spawned.Unknown is = adds_none quiet [] own asked reply now.seen after.seen is.0.did
     spawn_adds reply (spawned.Made j size) is =
         record { events = is.0.own; did = subst (λ by. Did quiet (entries_by by is.0.own) now.seen after.seen) rank_is is.0.did; few = by_few is.0.few }
@@ -447,8 +448,8 @@ module _ {P : Type 0} (meld : P → P → P) (alone quiet : Bool) (only : IsTrue
     spawn_adds reply spawned.Full is = adds_none quiet [] own asked reply now.seen after.seen is.0.did
 
     -- it isn't found yet
-    pub spawn_goes_on : (others : List ℕ) → others ≡ group → SpawnIs meld quiet (target comm s.at.1.round context group) (seeking append (local own (view_of name now))) spawned.Unknown (seeking next (local new (view_of name after)))
-        → Stands meld alone (local old (view_of name before)) (record { asked = asked; phase = Spawning next context reach; group = others }) (local new (view_of name after))
+    pub spawn_goes_on : (others : List ℕ) → others ≡ group → SpawnIs meld quiet (target comm s.at.1.round context group) (seeking append (local own (view_at name now))) spawned.Unknown (seeking next (local new (view_at name after)))
+        → Stands meld alone (local old (view_at name before)) (record { asked = asked; phase = Spawning next context reach; group = others }) (local new (view_at name after))
     unfolding decided_on
     spawn_goes_on others kept is =
         let i = s.at.1 in
@@ -458,12 +459,12 @@ module _ {P : Type 0} (meld : P → P → P) (alone quiet : Bool) (only : IsTrue
         let here : next.item ≡ OfComm comm i.round = sought.item ∙ item_is in
         let earlier = s.onward in
         let onward = sought.onward in
-        subst (λ ms. Stands meld alone (local old (view_of name before)) (record { asked = asked; phase = Spawning next context reach; group = ms }) (local new (view_of name after))) (sym kept)
-        (subst (λ (w : Record). Stands meld alone (local old (view_of name before)) (record {
+        subst (λ ms. Stands meld alone (local old (view_at name before)) (record { asked = asked; phase = Spawning next context reach; group = ms }) (local new (view_at name after))) (sym kept)
+        (subst (λ (w : Record). Stands meld alone (local old (view_at name before)) (record {
           asked = asked;
           phase = Spawning next context reach;
           group = group;
-        }) (local w (view_of name after))) (sym is.1) (record {
+        }) (local w (view_at name after))) (sym is.1) (record {
           fits = s.fits;
           mine = s.mine;
           onward = omega (arith, earlier, onward);
@@ -491,13 +492,13 @@ module _ {P : Type 0} (meld : P → P → P) (alone quiet : Bool) (only : IsTrue
         }))
 
     -- it is made, and held
-    pub spawn_makes : (j size : ℕ) → SpawnIs meld quiet (target comm s.at.1.round context group) (seeking append (local own (view_of name now))) (spawned.Made j size) (seeking next (local new (view_of name after)))
-        → Answered meld alone asked (local old (view_of name before)) (Shrunk j context size) (local new (view_of name after))
+    pub spawn_makes : (j size : ℕ) → SpawnIs meld quiet (target comm s.at.1.round context group) (seeking append (local own (view_at name now))) (spawned.Made j size) (seeking next (local new (view_at name after)))
+        → Answered meld alone asked (local old (view_at name before)) (Shrunk j context size) (local new (view_at name after))
     spawn_makes j size is =
         let i = s.at.1 in
         let made = is.0 in
-        let mine : IsMadeBy meld alone (Rank old.number) (round_on (comm_of asked) i.round) (view_of name now) j (view_of name after) =
-        subst (λ n. IsMadeBy meld alone (Rank old.number) (round_on n i.round) (view_of name now) j (view_of name after)) there (record {
+        let mine : IsMadeBy meld alone (Rank old.number) (round_on (comm_of asked) i.round) (view_at name now) j (view_at name after) =
+        subst (λ n. IsMadeBy meld alone (Rank old.number) (round_on n i.round) (view_at name now) j (view_at name after)) there (record {
           of = made.of;
           own = made.own;
           makes = made.makes;
@@ -516,13 +517,13 @@ module _ {P : Type 0} (meld : P → P → P) (alone quiet : Bool) (only : IsTrue
         (subst (λ n. Holds n context group own j size new) there is.1) i.lowest i.left i.stays
 
     -- there is no room for it
-    pub spawn_full : (ended : Record) → SpawnIs meld quiet (target comm s.at.1.round context group) (seeking append (local own (view_of name now))) spawned.Full (seeking next (local new (view_of name after)))
-        → ended ≡ closed new comm → Answered meld alone asked (local old (view_of name before)) (Refused NoRoom) (local ended (view_of name after))
+    pub spawn_full : (ended : Record) → SpawnIs meld quiet (target comm s.at.1.round context group) (seeking append (local own (view_at name now))) spawned.Full (seeking next (local new (view_at name after)))
+        → ended ≡ closed new comm → Answered meld alone asked (local old (view_at name before)) (Refused NoRoom) (local ended (view_at name after))
     spawn_full ended is closes =
         let i = s.at.1 in
         let full = is.0 in
-        let loosely : IsFullBy meld alone (round_on (comm_of asked) i.round) (view_of name now) (view_of name after) =
-        subst (λ n. IsFullBy meld alone (round_on n i.round) (view_of name now) (view_of name after)) there
+        let loosely : IsFullBy meld alone (round_on (comm_of asked) i.round) (view_at name now) (view_at name after) =
+        subst (λ n. IsFullBy meld alone (round_on n i.round) (view_at name now) (view_at name after)) there
         (record {
           of = full.of;
           did = did_loosely alone quiet only [] now.seen after.seen full.did;

@@ -1,14 +1,18 @@
 -- A call under way stands as it stood, after others' events.
-use Rattle.std.proofs.Common.{◌≡◌, ℕ, Bool, true, List, [], IsTrue, ap, sym, ◌∙◌, arith}
+use Rattle.std.proofs.Common.{◌≡◌, ℕ, Bool, true, List, [], Option, Some, None, IfSome, is_some, IsTrue, ap, sym, ◌∙◌, arith}
 use mathlib.Core.List.{IsPrefix}
 use Rattle.ulfm_laws.specs.declared.ctx_mask.CtxMask.{CtxMask}
 use Rattle.ulfm_model.specs.declared.call.Call.TheVariants as call
 use Rattle.ulfm_model.specs.declared.{call.Call.{Call}, limits.Limits.{Limits}}
 use Rattle.ulfm_model.specs.{Answers.{polled_by}, History.{History, IsLegal, failures}, Records.{Held, Record, is_shrink}, Runs.{Did}}
-use Rattle.ulfm_model.proofs.{Histories.{failures_begin}, Lists.{prefix_trans}}
+use Rattle.ulfm_model.specs.{Blocks.{has_block}, History.{slot}, declared.{block.Block.{Block}, block.Wing.{Wing}, contribution.Slot.{Slot}}}
+use Rattle.ulfm_model.proofs.{Blocks.{block_stays, has_block_stays, has_wing_stays}, Histories.{failures_begin, slot_stays}, Lists.{prefix_trans}}
+use Rattle.ulfm_words.specs.{Blocks.{IsBlockIn, IsFirstOf}, Slots.{offer_wing}}
+use Rattle.ulfm_steps.specs.Blocks.{HoldsFirst, HoldsHalf, block_at, next_in_block}
+use Rattle.ulfm_steps.proofs.KnownBlocks.{spread_later}
 use Rattle.ulfm_model.specs.Terms.{comm_of}
 use Rattle.ulfm_model.specs.Records.{moment}
-use Rattle.ulfm_words.specs.Steps.{view_of, IsView, Name, Sight}
+use Rattle.ulfm_words.specs.Steps.{IsView, Over as Named, Sight, view_at}
 use Rattle.ulfm_words.proofs.Trails.{did_prefix, did_wait}
 use Rattle.ulfm_steps.specs.declared.{append.Append.{Append}, mark_all.MarkAll.{MarkAll}, blocks.Peek.{Peek}, blocks.ReadBlocks.{ReadBlocks}}
 use Rattle.ulfm_steps.specs.declared.blocks.RoundBlocks.{RoundBlocks}
@@ -18,7 +22,7 @@ use Rattle.ulfm_comm.specs.{Look.{HasLooked, Looked}, Spawning.{HasReadMask, IsS
 use Rattle.ulfm_comm.proofs.{Known.{reads_on}, Polls.{polls_it}}
 use Rattle.ulfm_comm.specs.Phase.{Stands, StandsAt, UnderWay, Waits}
 use Rattle.ulfm_comm.specs.declared.phases.phase.Phase.{Phase}
-use Rattle.ulfm_comm.specs.declared.phases.phase.Phase.TheVariants.{Over, Begun, Looking, Settling, Arriving, Revoking, Asking, Peeking, Marking, Reading}
+use Rattle.ulfm_comm.specs.declared.phases.phase.Phase.TheVariants.{Over, Begun, Looking, Spreading, Settling, Arriving, Revoking, Asking, Peeking, Marking, Reading}
 use Rattle.ulfm_comm.specs.declared.phases.phase.Phase.TheVariants.{ReadingOn, Spawning, Waiting, Checking}
 use Rattle.ulfm_comm.specs.Local.{frame, local}
 use Rattle.ulfm_comm.specs.Requests.{polled_round}
@@ -95,7 +99,7 @@ module _ {P : Type 0} (meld : P → P → P) (limits : Limits) (alone : Bool) (o
         legal = legal;
       }
 
-  pub reading_lasts : (c : ℕ) (shrinks : Bool) (reading : ReadBlocks P) → IsReading (frame meld limits alone) c shrinks reading (moment old before) (moment own now)
+  abbrev pub reading_lasts : (c : ℕ) (shrinks : Bool) (reading : ReadBlocks P) → IsReading (frame meld limits alone) c shrinks reading (moment old before) (moment own now)
       → IsReading (frame meld limits alone) c shrinks reading (moment old before) (moment own later)
   reading_lasts c shrinks reading p =
       record {
@@ -158,15 +162,41 @@ module _ {P : Type 0} (meld : P → P → P) (limits : Limits) (alone : Bool) (o
     waited = did_wait alone [] p.look now later p.waited did;
   }
 
-module _ {P : Type 0} (meld : P → P → P) (alone : Bool) (name : Name) (asked : Call P) (old : Record) (before : Sight P) (group : List ℕ) (own : Record)
-    (now later : Sight P) (did : Did alone [] now.seen later.seen) (of : IsView meld (view_of name later)) where
-  at_lasts : (phase : Phase P) → StandsAt meld alone asked (local old (view_of name before)) phase group (local own (view_of name now)) → StandsAt meld alone asked (local old (view_of name before)) phase group (local own (view_of name later))
+-- what is held of one of two words stays so
+module _ {P : Type 0} (name : Named P) (now later : Sight P) (begins : IsPrefix now.seen later.seen) (keeps : IsPrefix now.cached later.cached) where
+  first_lasts : (meld : P → P → P) (peek : Peek P) → HoldsFirst meld (view_at name now) peek → HoldsFirst meld (view_at name later) peek
+  first_lasts meld peek = go peek.first
+    where
+      b : Block
+      b = block_at peek.comm peek.round peek.side
+
+      go : (o : Option ℕ) → IfSome o (λ w. IsBlockIn meld name.pack (view_at name now) b w × (has_block now.cached b ≡ true)) → IfSome o (λ w. IsBlockIn meld name.pack (view_at name later) b w × (has_block later.cached b ≡ true))
+      go None is = tt
+      go (Some w) is = (block_stays meld name.pack name.limits.ranks now.seen later.seen b w begins is.0, has_block_stays now.cached later.cached b keeps is.1)
+
+  half_lasts : (group : List ℕ) (reading : ReadBlocks P) → HoldsHalf (view_at name now) group reading → HoldsHalf (view_at name later) group reading
+  half_lasts group reading half = record {
+    first = go reading.first half.first;
+    more = half.more;
+    winged = λ set. spread_later (view_at name now) (view_at name later) (block_at reading.comm reading.round reading.side) keeps (half.winged set);
+  }
+    where
+      go : (o : Option ℕ) → IfSome o (IsFirstOf name.pack (slot now.seen reading.comm reading.round (next_in_block group reading))) → IfSome o (IsFirstOf name.pack (slot later.seen reading.comm reading.round (next_in_block group reading)))
+      go None is = tt
+      go (Some w) is = (is.0, slot_stays now.seen later.seen reading.comm reading.round (next_in_block group reading) (Slot.Given is.0) begins is.1, is.2)
+
+module _ {P : Type 0} (meld : P → P → P) (alone : Bool) (name : Named P) (asked : Call P) (old : Record) (before : Sight P) (group : List ℕ) (own : Record)
+    (now later : Sight P) (did : Did alone [] now.seen later.seen) (keeps : IsPrefix now.cached later.cached) (of : IsView meld (view_at name later)) where
+  at_lasts : (phase : Phase P) → StandsAt meld alone asked (local old (view_at name before)) phase group (local own (view_at name now)) → StandsAt meld alone asked (local old (view_at name before)) phase group (local own (view_at name later))
   at_lasts Over p = (p.0, p.1, did_wait alone [] before.seen now.seen later.seen p.2 did)
   at_lasts Begun p = (p.0, p.1, did_wait alone [] before.seen now.seen later.seen p.2 did)
   at_lasts Looking p =
       let more = failures_begin now.seen later.seen (did_prefix alone [] now.seen later.seen did) in
       (p.0, p.1, did_wait alone [] before.seen now.seen later.seen p.2 did, (prefix_trans own.seen (failures now.seen) (failures later.seen) p.3.0 more, p.3.1))
-  at_lasts (Settling request offer) p = (looked_lasts meld name.limits alone old before.seen own now.seen later.seen did of.legal asked p.0, p.1)
+  at_lasts (Spreading request offer) p = (looked_lasts meld name.limits alone old before.seen own now.seen later.seen did of.legal asked p.0, p.1)
+  at_lasts (Settling request offer) p =
+      let wing = Wing.Slot p.0.x.comm p.0.x.next_agreement own.number in
+      (looked_lasts meld name.limits alone old before.seen own now.seen later.seen did of.legal asked p.0, p.1, has_wing_stays now.cached later.cached wing (offer_wing name.pack offer) keeps p.2)
   at_lasts (Arriving round) p = (looked_lasts meld name.limits alone old before.seen own now.seen later.seen did of.legal asked p.0, p.1, p.2)
   at_lasts Revoking p = (looked_lasts meld name.limits alone old before.seen own now.seen later.seen did of.legal asked p.0, p.1)
   at_lasts Asking p = (looked_lasts meld name.limits alone old before.seen own now.seen later.seen did of.legal asked p.0, p.1)
@@ -175,6 +205,7 @@ module _ {P : Type 0} (meld : P → P → P) (alone : Bool) (name : Name) (asked
     peeking_lasts meld name.limits alone old before.seen own now.seen later.seen did of.legal
         (comm_of asked) shrinks peek p.1,
     p.2,
+    first_lasts name now later (did_prefix alone [] now.seen later.seen did) keeps meld peek p.3,
   )
   at_lasts (Marking marks blocks shrinks) p = (
     p.0,
@@ -186,6 +217,7 @@ module _ {P : Type 0} (meld : P → P → P) (alone : Bool) (name : Name) (asked
     p.0,
     reading_lasts meld name.limits alone old before.seen own now.seen later.seen did of.legal
         (comm_of asked) shrinks reading p.1,
+    half_lasts name now later (did_prefix alone [] now.seen later.seen did) keeps p.1.x.group reading p.2,
   )
   at_lasts (ReadingOn on made) p = (
     p.0,
@@ -212,19 +244,19 @@ module _ {P : Type 0} (meld : P → P → P) (alone : Bool) (name : Name) (asked
       (p.0, p.1, record { x = i.x; k = i.k; waits = i.waits; are = i.are; legal = i.legal; waited = did_wait alone [] p.1 now.seen later.seen i.waited did })
 
 -- the call stands
-pub stands_lasts : {P : Type 0} (meld : P → P → P) (alone : Bool) (name : Name) (old : Record) (before : Sight P) (doing : UnderWay P) (own : Record)
-    (now later : Sight P) → Stands meld alone (local old (view_of name before)) doing (local own (view_of name now)) → Waits alone now later
-    → IsView meld (view_of name later) → Stands meld alone (local old (view_of name before)) doing (local own (view_of name later))
+pub stands_lasts : {P : Type 0} (meld : P → P → P) (alone : Bool) (name : Named P) (old : Record) (before : Sight P) (doing : UnderWay P) (own : Record)
+    (now later : Sight P) → Stands meld alone (local old (view_at name before)) doing (local own (view_at name now)) → Waits alone now later
+    → IsView meld (view_at name later) → Stands meld alone (local old (view_at name before)) doing (local own (view_at name later))
 stands_lasts meld alone name old before doing own now later u waits of =
     record {
       fits = u.fits;
       mine = u.mine;
       onward = omega (arith, u.onward, waits.onward);
-      at = at_lasts meld alone name doing.asked old before doing.group own now later waits.did of doing.phase u.at;
+      at = at_lasts meld alone name doing.asked old before doing.group own now later waits.did waits.cached of doing.phase u.at;
     }
 
 -- a call that is under way has changed nothing of its rank's record but what it has seen
-module _ {P : Type 0} (meld : P → P → P) (alone : Bool) (name : Name) (asked : Call P) (old : Record) (before : Sight P) (group : List ℕ) (own : Record)
+module _ {P : Type 0} (meld : P → P → P) (alone : Bool) (name : Named P) (asked : Call P) (old : Record) (before : Sight P) (group : List ℕ) (own : Record)
     (now : Sight P) where
   by_same : own ≡ old → own ≡ record old { seen = own.seen }
   by_same is = is ∙ ap (λ (w : Record). record old { seen = w.seen }) (sym is)
@@ -236,10 +268,11 @@ module _ {P : Type 0} (meld : P → P → P) (alone : Bool) (name : Name) (asked
       → own ≡ record old { seen = own.seen }
   by_looked mid look looked is = is ∙ ap (λ (w : Record). record w { seen = own.seen }) looked.record_is
 
-  pub stands_own : (phase : Phase P) → StandsAt meld alone asked (local old (view_of name before)) phase group (local own (view_of name now)) → own ≡ record old { seen = own.seen }
+  pub stands_own : (phase : Phase P) → StandsAt meld alone asked (local old (view_at name before)) phase group (local own (view_at name now)) → own ≡ record old { seen = own.seen }
   stands_own Over p = by_same p.1
   stands_own Begun p = by_same p.1
   stands_own Looking p = p.1
+  stands_own (Spreading request offer) p = by_seen _ p.0.looked.record_is
   stands_own (Settling request offer) p = by_seen _ p.0.looked.record_is
   stands_own (Arriving round) p = by_seen _ p.0.looked.record_is
   stands_own Revoking p = by_seen _ p.0.looked.record_is
@@ -253,7 +286,7 @@ module _ {P : Type 0} (meld : P → P → P) (alone : Bool) (name : Name) (asked
   stands_own (Checking missing) p = by_seen _ p.2.waits.looked.record_is
 
   -- one that reads on polls a shrink
-  pub stands_shrinks : (phase : Phase P) → reads_on phase ≡ true → StandsAt meld alone asked (local old (view_of name before)) phase group (local own (view_of name now))
+  pub stands_shrinks : (phase : Phase P) → reads_on phase ≡ true → StandsAt meld alone asked (local old (view_at name before)) phase group (local own (view_at name now))
       → IsTrue (is_shrink (polled_by own asked))
   stands_shrinks (ReadingOn on made) reads p =
       let d = p.2 in
@@ -265,6 +298,7 @@ module _ {P : Type 0} (meld : P → P → P) (alone : Bool) (name : Name) (asked
   stands_shrinks Over reads p = absurd (cc reads)
   stands_shrinks Begun reads p = absurd (cc reads)
   stands_shrinks Looking reads p = absurd (cc reads)
+  stands_shrinks (Spreading request offer) reads p = absurd (cc reads)
   stands_shrinks (Settling request offer) reads p = absurd (cc reads)
   stands_shrinks (Arriving round) reads p = absurd (cc reads)
   stands_shrinks Revoking reads p = absurd (cc reads)

@@ -2,6 +2,7 @@
 use Rattle.std.specs.List.{slice_index}
 use Rattle.std.proofs.Common.{◌≡◌, ℕ, ◌<◌, length, Bool, true, false, List, [], ◌∷◌, Option, Some, Result, Ok, Err, refl, ap, sym, ◌∙◌, subst, inl, inr, IsTrue}
 use Rattle.std.proofs.Common.{MatchBool}
+use Rattle.ulfm_words.specs.declared.sets.Settled.{Settled}
 use Rattle.ulfm_model.specs.declared.call.Call.TheVariants as call
 use Rattle.ulfm_model.specs.declared.{call.Call.{Call}, call.Request.{Request}, contribution.Contribution.{Contribution}, contribution.MarkCount.{MarkCount}}
 use Rattle.ulfm_model.specs.declared.{contribution.Offer.{Offer}, contribution.Slot.{Slot}, contribution.Slot.TheVariants.{Given, Mark as Marked}}
@@ -10,7 +11,7 @@ use Rattle.ulfm_model.specs.declared.{limits.Limits.{Limits}, reply.Reply.{Reply
 use Rattle.ulfm_model.specs.{Answers.{CallAdds, MarksDeclared, PollAdds, traits_of}, History.{History, IsLegal, entries_by, failures, has}}
 use Rattle.ulfm_model.specs.{Records.{Fits, Held, Record, held_at}, Runs.{Did}}
 use Rattle.ulfm_model.specs.Terms.{comm_of}
-use Rattle.ulfm_words.specs.Steps.{view_of, IsAdded, IsView, Name, Sight}
+use Rattle.ulfm_words.specs.Steps.{IsAdded, IsView, Over as Named, Sight, view_at}
 use Rattle.ulfm_model.proofs.Stable.{fits_stays}
 use Rattle.ulfm_model.specs.Records.{moment}
 use Rattle.ulfm_words.proofs.Trails.{did_added, did_prefix, did_wait}
@@ -21,7 +22,7 @@ use Rattle.ulfm_comm.specs.{Calls.{reply_of}, Requests.{agreement}, Step.{Adds, 
 use Rattle.ulfm_comm.specs.Phase.{Stands}
 use Rattle.ulfm_comm.specs.Exchange.{Settles, start_leaves, start_result}
 use Rattle.ulfm_comm.specs.declared.phases.phase.Phase.{Phase}
-use Rattle.ulfm_comm.specs.declared.phases.phase.Phase.TheVariants.{Over, Begun, Looking, Settling, Arriving, Revoking, Asking, Peeking, Marking, Reading}
+use Rattle.ulfm_comm.specs.declared.phases.phase.Phase.TheVariants.{Over, Begun, Looking, Spreading, Settling, Arriving, Revoking, Asking, Peeking, Marking, Reading}
 use Rattle.ulfm_comm.specs.declared.phases.phase.Phase.TheVariants.{ReadingOn, Spawning, Waiting, Checking}
 use Rattle.ulfm_comm.proofs.{Exchange.{fits_now, found_same, is_starting, number_is, passes_tests}, Holding.{comm_is}}
 use Rattle.ulfm_comm.specs.Local.{frame, local}
@@ -37,15 +38,15 @@ module _ {P : Type 0} (quiet : Bool) (look : List ℕ) (own : Record) (asked : C
   adds_one event makes did = record { events = event ∷ []; did = did; few = inr (event, refl, makes) }
 
 -- a start leaves what was seen
-pub start_keeps : {P : Type 0} (own : Record) (c : ℕ) (request : Request) (settled : Result (Unit {0}) (Slot P))
+pub start_keeps : (own : Record) (c : ℕ) (request : Request) (settled : Result (Unit {0}) Settled)
     → (start_leaves own c request settled).seen ≡ own.seen
 start_keeps own c request (Ok done) = refl
-start_keeps own c request (Err (Marked mark)) = refl
-start_keeps own c request (Err (Given given)) = refl
+start_keeps own c request (Err Settled.Marked) = refl
+start_keeps own c request (Err Settled.Contributed) = refl
 
-module _ {P : Type 0} (meld : P → P → P) (quiet : Bool) (name : Name) (asked : Call P) (request : Request) (offer : Offer P) (group : List ℕ) (old : Record)
+module _ {P : Type 0} (meld : P → P → P) (quiet : Bool) (name : Named P) (asked : Call P) (request : Request) (offer : Offer P) (group : List ℕ) (old : Record)
     (before : Sight P) (own : Record) (now : Sight P) (after : History P)
-    (stood : Stands meld false (local old (view_of name before)) (record { asked = asked; phase = Settling request offer; group = group }) (local own (view_of name now))) (x : Held)
+    (stood : Stands meld false (local old (view_at name before)) (record { asked = asked; phase = Settling request offer; group = group }) (local own (view_at name now))) (x : Held)
     (held : held_at own (comm_of asked) ≡ Some x) where
   -- the rank's contribution is one that its call may add
   may_settle : (given : Contribution P) → CallAdds own.seen own.number x asked (Settle x.comm x.next_agreement own.number given)
@@ -59,7 +60,7 @@ module _ {P : Type 0} (meld : P → P → P) (quiet : Bool) (name : Name) (asked
       (sym (number_is meld name.limits false asked old before.seen own now.seen p)) (has.adds own.seen given))
 
   -- the exchange of a contribution
-  pub adds_settled : (settled : Result (Unit {0}) (Slot P)) → Settles quiet now.seen after own x offer settled
+  pub adds_settled : (settled : Result (Unit {0}) Settled) → Settles quiet now.seen after own x offer settled
       → Adds quiet own.seen own asked (Some (reply_of (λ _. Started) (start_result settled))) now.seen after
   adds_settled (Ok done) gave =
       adds_one quiet own.seen own asked (Some Started) now.seen after (Settle x.comm x.next_agreement own.number gave.given) (record {
@@ -109,13 +110,13 @@ module _ {P : Type 0} (meld : P → P → P) (quiet : Bool) (limits : Limits) (a
   adds_revoked rank is false did = adds_none quiet own.seen own asked (Some AlreadyRevoked) now after did
 
 -- the exchange of a mark
-module _ {P : Type 0} (meld : P → P → P) (quiet : Bool) (name : Name) (asked : Call P) (marks : MarkAll) (blocks : RoundBlocks P) (shrinks : Bool)
-    (group : List ℕ) (old : Record) (before : Sight P) (own : Record) (now : Sight P) (after : History P) (of : IsView meld (view_of name now))
-    (stood : Stands meld false (local old (view_of name before)) (record {
+module _ {P : Type 0} (meld : P → P → P) (quiet : Bool) (name : Named P) (asked : Call P) (marks : MarkAll) (blocks : RoundBlocks P) (shrinks : Bool)
+    (group : List ℕ) (old : Record) (before : Sight P) (own : Record) (now : Sight P) (after : History P) (of : IsView meld (view_at name now))
+    (stood : Stands meld false (local old (view_at name before)) (record {
       asked = asked;
       phase = Marking marks blocks shrinks;
       group = group;
-    }) (local own (view_of name now))) (reply : Option (Reply P)) where
+    }) (local own (view_at name now))) (reply : Option (Reply P)) where
   abbrev marking : IsMarking (frame meld name.limits false) (comm_of asked) shrinks marks blocks (moment old before.seen) (moment own now.seen)
   marking = stood.at.1
 
@@ -174,6 +175,7 @@ pub step_did : {P : Type 0} (quiet : Bool) (own : Record) (asked : Call P) (repl
 step_did quiet own asked reply old new Over adds = ([], adds)
 step_did quiet own asked reply old new Begun adds = ([], adds)
 step_did quiet own asked reply old new Looking adds = ([], adds)
+step_did quiet own asked reply old new (Spreading request offer) adds = ([], adds)
 step_did quiet own asked reply old new (Settling request offer) adds = (adds.events, adds.did)
 step_did quiet own asked reply old new (Arriving round) adds = (adds.events, adds.did)
 step_did quiet own asked reply old new Revoking adds = (adds.events, adds.did)

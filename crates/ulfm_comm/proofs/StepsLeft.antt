@@ -70,13 +70,13 @@ module _ {P : Type 0} (limits : Limits) (own : Record) (asked : Call P) where
     pub peeking_after : (k : ℕ) (shrinks : Bool) (peek : Peek P) → x.request ≡ Some (agreement shrinks k) → 0 < length x.group
         → steps_left limits own asked (Peeking peek shrinks) < most
     peeking_after k shrinks peek is_open any =
-        subst (λ g. peeks_left (length g) peek.side + (length (filter (has g) own.seen) + blocks_cost (length g) + after_round limits own shrinks) < most)
+        subst (λ g. peeks_left (length g) peek + (length (filter (has g) own.seen) + blocks_cost (length g) + after_round limits own shrinks) < most)
         (sym (ap group_of held)) (by_kind shrinks is_open)
       where
-        cost : peeks_left (length x.group) peek.side + blocks_cost (length x.group) ≤ 2 * length x.group + 2
-        cost = peek_most (length x.group) peek.side any
+        cost : peeks_left (length x.group) peek + blocks_cost (length x.group) ≤ 4 * length x.group + 4
+        cost = peek_most (length x.group) peek any
 
-        by_kind : (b : Bool) → x.request ≡ Some (agreement b k) → peeks_left (length x.group) peek.side +
+        by_kind : (b : Bool) → x.request ≡ Some (agreement b k) → peeks_left (length x.group) peek +
             (length (filter (has x.group) own.seen) + blocks_cost (length x.group) + after_round limits own b) < most
         by_kind false is_open =
             let all = look_poll passed rank c x (Some (Agree k)) is held is_open in
@@ -131,6 +131,14 @@ module _ {P : Type 0} (limits : Limits) (own : Record) (asked : Call P) (x : Hel
       (subst (λ s. after + rest ≤ now + marks_left members s marks.next) declared_are few) in
       omega (arith, left, few_now)
 
+-- at least one step is left of a reading
+blocks_some : {P : Type 0} (n : ℕ) (reading : ReadBlocks P) → 0 < blocks_left n reading
+blocks_some n reading = let some = one reading.winged in omega (arith, some)
+  where
+    one : (b : Bool) → 0 < (if b then 1 else 2)
+    one true = omega arith
+    one false = omega arith
+
 -- the steps of a peek and of a reading, and what comes after them
 module _ {P : Type 0} (limits : Limits) (own : Record) (asked : Call P) (x : Held) (held : held_at own (comm_of asked) ≡ Some x) (shrinks : Bool)
     (members : List ℕ) (members_are : members ≡ x.group) where
@@ -138,33 +146,33 @@ module _ {P : Type 0} (limits : Limits) (own : Record) (asked : Call P) (x : Hel
   same_length = ap length (members_are ∙ sym (ap group_of held))
 
   -- a peek that goes on
-  pub peeks_on : (peek next : Peek P) (now after : ℕ) → after + peeks_left (length members) next.side ≤ now + peeks_left (length members) peek.side
+  pub peeks_on : (peek next : Peek P) (now after : ℕ) → after + peeks_left (length members) next ≤ now + peeks_left (length members) peek
       → after + steps_left limits own asked (Peeking next shrinks) ≤ now + steps_left limits own asked (Peeking peek shrinks)
   peeks_on peek next now after few =
-      let few_now = subst (λ n. after + peeks_left n next.side ≤ now + peeks_left n peek.side) same_length few in omega (arith, few_now)
+      let few_now = subst (λ n. after + peeks_left n next ≤ now + peeks_left n peek) same_length few in omega (arith, few_now)
 
   -- one that has ended
   pub peeks_past : (peek : Peek P) (rest : ℕ) → rest ≤ after_peek limits own asked shrinks → rest < steps_left limits own asked (Peeking peek shrinks)
-  peeks_past peek rest le = let some = peek_some (length (group_of (held_at own (comm_of asked)))) peek.side in omega (arith, le, some)
+  peeks_past peek rest le = let some = peek_some (length (group_of (held_at own (comm_of asked)))) peek in omega (arith, le, some)
 
-  pub peeks_over : (peek : Peek P) (rest now after : ℕ) → rest ≤ after_peek limits own asked shrinks → after ≤ now + peeks_left (length members) peek.side
+  pub peeks_over : (peek : Peek P) (rest now after : ℕ) → rest ≤ after_peek limits own asked shrinks → after ≤ now + peeks_left (length members) peek
       → after + rest ≤ now + steps_left limits own asked (Peeking peek shrinks)
-  peeks_over peek rest now after le few = let few_now = subst (λ n. after ≤ now + peeks_left n peek.side) same_length few in omega (arith, le, few_now)
+  peeks_over peek rest now after le few = let few_now = subst (λ n. after ≤ now + peeks_left n peek) same_length few in omega (arith, le, few_now)
 
   -- .. or whose round is decided
   pub peeks_fewer : (peek : Peek P) (new : Record) (next : Next P) → FewerLeft (after_round limits own shrinks + 1) limits new asked next
       → FewerLeft (steps_left limits own asked (Peeking peek shrinks)) limits new asked next
   peeks_fewer peek new next fewer =
-      let some = peek_some (length (group_of (held_at own (comm_of asked)))) peek.side in
+      let some = peek_some (length (group_of (held_at own (comm_of asked)))) peek in
       fewer_more limits new asked (after_round limits own shrinks + 1) (steps_left limits own asked (Peeking peek shrinks)) (omega (arith, some)) next fewer
 
-  pub peeks_spend : (peek : Peek P) (new : Record) (next : Next P) (now after : Sight P) → after.steps ≤ now.steps + peeks_left (length members) peek.side
+  pub peeks_spend : (peek : Peek P) (new : Record) (next : Next P) (now after : Sight P) → after.steps ≤ now.steps + peeks_left (length members) peek
       → FewerLeft (after_round limits own shrinks + 1) limits new asked next
       → Spends (steps_left limits own asked (Peeking peek shrinks)) limits new asked next now after
   peeks_spend peek new next now after few fewer = spends next fewer
     where
-      few_now : after.steps ≤ now.steps + peeks_left (length (group_of (held_at own (comm_of asked)))) peek.side
-      few_now = subst (λ n. after.steps ≤ now.steps + peeks_left n peek.side) same_length few
+      few_now : after.steps ≤ now.steps + peeks_left (length (group_of (held_at own (comm_of asked)))) peek
+      few_now = subst (λ n. after.steps ≤ now.steps + peeks_left n peek) same_length few
 
       spends : (next : Next P) → FewerLeft (after_round limits own shrinks + 1) limits new asked next
           → Spends (steps_left limits own asked (Peeking peek shrinks)) limits new asked next now after
@@ -182,8 +190,9 @@ module _ {P : Type 0} (limits : Limits) (own : Record) (asked : Call P) (x : Hel
   -- one whose round is decided, or in which a member is missing
   pub reads_fewer : (reading : ReadBlocks P) (new : Record) (next : Next P) → FewerLeft (after_round limits own shrinks + 1) limits new asked next
       → FewerLeft (steps_left limits own asked (Reading reading shrinks)) limits new asked next
-  reads_fewer reading new next fewer = fewer_more limits new asked (after_round limits own shrinks + 1) (steps_left limits own asked (Reading reading shrinks))
-      (omega arith) next fewer
+  reads_fewer reading new next fewer =
+      let some = blocks_some (length (group_of (held_at own (comm_of asked)))) reading in
+      fewer_more limits new asked (after_round limits own shrinks + 1) (steps_left limits own asked (Reading reading shrinks)) (omega (arith, some)) next fewer
 
   pub reads_spend : (reading : ReadBlocks P) (new : Record) (next : Next P) (now after : Sight P)
       → after.steps ≤ now.steps + blocks_left (length members) reading → FewerLeft (after_round limits own shrinks + 1) limits new asked next
@@ -278,10 +287,10 @@ begun_bound {P} limits own asked in_use more =
 pub passes_none : {P : Type 0} (own : Record) (asked : Call P) → Passes own asked → refusal_of own asked ≡ None
 passes_none own asked p = ap (λ (h : Option Held). refusal_on own h asked) p.held ∙ p.passed
 
--- a call that makes one step after its look has it left
-pub one_left : {P : Type 0} (limits : Limits) (own : Record) (asked : Call P) → Passes own asked → behind_look limits own asked ≡ 1
-    → 1 < with_look limits own asked
-one_left limits own asked p one = omega (arith, after_passed limits own asked (passes_none own asked p), one)
+-- a call that makes so many steps behind its look has them left
+pub behind_left : {P : Type 0} (limits : Limits) (own : Record) (asked : Call P) (left : ℕ) → Passes own asked → behind_look limits own asked ≡ left
+    → left < with_look limits own asked
+behind_left limits own asked left p is = omega (arith, after_passed limits own asked (passes_none own asked p), is)
 
 -- whatever a call does first
 pub first_bound : {P : Type 0} (limits : Limits) (own : Record) (asked : Call P) → length own.seen < limits.ranks

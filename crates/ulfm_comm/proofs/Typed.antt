@@ -9,7 +9,7 @@ use Rattle.ulfm_model.specs.{Answers.{MayOwn, polled_by}, History.{entries_by, f
 use Rattle.ulfm_model.specs.Runs.{IsCall, IsRun}
 use Rattle.ulfm_model.specs.Records.{moment}
 use Rattle.ulfm_model.proofs.Histories.{members_stay}
-use Rattle.ulfm_words.specs.Steps.{view_of, Name, Sight}
+use Rattle.ulfm_words.specs.Steps.{Over, Sight, view_at}
 use Rattle.ulfm_comm.specs.Calls.{Calls, EndsAs, EndsBy, EndsReply, RunsOut, is_out_of_memory, reply_of, wants_memory}
 use Rattle.ulfm_comm.specs.Polls.{Polls, polled}
 use Rattle.ulfm_comm.specs.declared.{calls.polled.Polled.{Polled}, calls.polled.Polled.TheVariants.{Agreed, Done, Pending, Shrunk}}
@@ -17,26 +17,26 @@ use Rattle.ulfm_model.specs.declared.{refusal.Refusal.{Refusal}, refusal.Refusal
 use Rattle.ulfm_comm.proofs.{CallRuns.{called_counts, called_run}, Holding.{exists_is, failed_is}, ReplyKinds.{answered_on}}
 use Rattle.ulfm_comm.specs.Local.{Local, local}
 
-module _ {P : Type 0} (meld : P → P → P) (alone : Bool) (name : Name) (asked : Call P) (old : Record) (before : Sight P) (new : Record) (after : Sight P) where
-  calls_as : (reply : Reply P) (b : Bool) → EndsAs meld alone asked (local old (view_of name before)) reply b (local new (view_of name after)) → is_shrink (polled_by old asked) ≡ false
-      → Calls meld alone asked (local old (view_of name before)) reply (local new (view_of name after))
+module _ {P : Type 0} (meld : P → P → P) (alone : Bool) (name : Over P) (asked : Call P) (old : Record) (before : Sight P) (new : Record) (after : Sight P) where
+  calls_as : (reply : Reply P) (b : Bool) → EndsAs meld alone asked (local old (view_at name before)) reply b (local new (view_at name after)) → is_shrink (polled_by old asked) ≡ false
+      → Calls meld alone asked (local old (view_at name before)) reply (local new (view_at name after))
   calls_as reply true ended other = absurd (cc (ended.1, other))
   calls_as reply false ended other = ended
 
   -- only the poll of a shrink runs out of memory
-  pub ends_calls : (reply : Reply P) → EndsReply meld alone asked (local old (view_of name before)) reply (local new (view_of name after)) → is_shrink (polled_by old asked) ≡ false
-      → Calls meld alone asked (local old (view_of name before)) reply (local new (view_of name after))
+  pub ends_calls : (reply : Reply P) → EndsReply meld alone asked (local old (view_at name before)) reply (local new (view_at name after)) → is_shrink (polled_by old asked) ≡ false
+      → Calls meld alone asked (local old (view_at name before)) reply (local new (view_at name after))
   ends_calls reply ends other = calls_as reply (wants_memory reply) ends other
 
 -- the typed call is of the same rank by another name, and its own reply stands for that of the whole call
-pub typed_calls : {P : Type 0} (meld : P → P → P) (alone : Bool) (name : Name) (asked same : Call P) (old : Record) (before : Sight P) (new : Record)
+pub typed_calls : {P : Type 0} (meld : P → P → P) (alone : Bool) (name : Over P) (asked same : Call P) (old : Record) (before : Sight P) (new : Record)
     (after : Sight P) (reply told : Reply P) → asked ≡ same → told ≡ reply
-    → EndsReply meld alone asked (local old (view_of name before)) reply (local new (view_of name after)) → is_shrink (polled_by old asked) ≡ false
-    → Calls meld alone same (local old (view_of name before)) told (local new (view_of name after))
+    → EndsReply meld alone asked (local old (view_at name before)) reply (local new (view_at name after)) → is_shrink (polled_by old asked) ≡ false
+    → Calls meld alone same (local old (view_at name before)) told (local new (view_at name after))
 typed_calls meld alone name asked same old before new after reply told by_same by_told ends other =
-    subst (λ q. Calls meld alone q (local old (view_of name before)) told (local new (view_of name after))) by_same
+    subst (λ q. Calls meld alone q (local old (view_at name before)) told (local new (view_at name after))) by_same
     (ends_calls meld alone name asked old before new after told
-    (subst (λ r. EndsReply meld alone asked (local old (view_of name before)) r (local new (view_of name after))) (sym by_told) ends) other)
+    (subst (λ r. EndsReply meld alone asked (local old (view_at name before)) r (local new (view_at name after))) (sym by_told) ends) other)
 
 -- a query of the failed group adds nothing
 none_made : {P : Type 0} (look : List ℕ) (old : Record) (rank c : ℕ) (own : List (Event P)) → AllByRecursion (MayOwn look old (call.GetFailed rank c)) own
@@ -45,17 +45,17 @@ none_made look old rank c [] all = refl
 none_made look old rank c (e ∷ own) all = absurd (all.0.adds.2)
 
 -- what a query of the failed group finds, once it counted so many
-pub record HasCounted {P : Type 0} (meld : P → P → P) (alone : Bool) (name : Name) (rank c count : ℕ) (old : Record) (before : Sight P) (new : Record)
+pub record HasCounted {P : Type 0} (meld : P → P → P) (alone : Bool) (name : Over P) (rank c count : ℕ) (old : Record) (before : Sight P) (new : Record)
     (after : Sight P) : Type 0 where
   pub x : Held
   pub held : held_at new c ≡ Some x
   pub group : filter (has x.group) new.seen ≡ failed name.limits.ranks after.seen c
   pub counted : count ≡ length (filter (has x.group) new.seen)
-  pub run_out : RunsOut meld alone (call.GetFailed rank c) (local old (view_of name before)) (local new (view_of name after))
+  pub run_out : RunsOut meld alone (call.GetFailed rank c) (local old (view_at name before)) (local new (view_at name after))
 
-module _ {P : Type 0} (meld : P → P → P) (alone : Bool) (name : Name) (rank c count : ℕ) (old : Record) (before : Sight P) (new : Record) (after : Sight P)
+module _ {P : Type 0} (meld : P → P → P) (alone : Bool) (name : Over P) (rank c count : ℕ) (old : Record) (before : Sight P) (new : Record) (after : Sight P)
     (fits : Fits meld name.limits before.seen old)
-    (called : Calls meld alone (call.GetFailed rank c) (local old (view_of name before)) (FailedGroup count) (local new (view_of name after))) where
+    (called : Calls meld alone (call.GetFailed rank c) (local old (view_at name before)) (FailedGroup count) (local new (view_at name after))) where
   by_run : IsRun meld name.limits alone (moment old before.seen) (call.GetFailed rank c) (FailedGroup count) (moment new after.seen)
       → HasCounted meld alone name rank c count old before new after
   by_run run =
@@ -96,7 +96,7 @@ module _ {P : Type 0} (meld : P → P → P) (alone : Bool) (name : Name) (rank 
               record_is = is;
             };
           };
-          blocks = record { cached = called.blocks.cached; caches = called.blocks.caches; knows = λ _. tt };
+          blocks = record { cached = called.blocks.cached; caches = called.blocks.caches; wings = called.blocks.wings; knows = λ _. tt };
         };
       }
 
@@ -127,7 +127,7 @@ module _ {P : Type 0} (meld : P → P → P) (alone : Bool) (asked : Call P) (ol
     fits = ends.0.ran_out.fits;
     run = subst (λ b. EndsBy meld alone asked old refusal b new) (sym wants) ends.0;
     memory = λ _. ends.1;
-    blocks = record { cached = ends.0.blocks.cached; caches = ends.0.blocks.caches; knows = λ _. ends.0.blocks.knows refl };
+    blocks = record { cached = ends.0.blocks.cached; caches = ends.0.blocks.caches; wings = ends.0.blocks.wings; knows = λ _. ends.0.blocks.knows refl };
   }
   by_refusal refusal false wants ends = record {
     of = ends.linearizes.of;

@@ -1,10 +1,11 @@
 -- A call, put together of its look and of what came after it.
 use Rattle.std.proofs.Common.{◌≡◌, ◌⊎◌, Bool, true, false, List, [], ℕ, Option, Some, None, refl, ap, ap₂, sym, ◌∙◌, subst, append-nil, if◌then◌else◌, inl, inr}
+use Rattle.ulfm_comm.specs.Requests.{contributes}
 use Rattle.std.proofs.Common.{IsTrue, IsFalse}
 use Rattle.std.specs.List.{AllByRecursion}
 use mathlib.Core.List.{IsPrefix}
 use Rattle.ulfm_model.specs.declared.{call.Call.{Call}, event.Caller.TheVariants.{Rank}, event.Event.{Event}, limits.Limits.{Limits}, refusal.Refusal.{Refusal}}
-use Rattle.ulfm_model.specs.declared.{refusal.Refusal.TheVariants.{NoSuchComm, SelfFailed}, reply.Reply.{Reply}, reply.Reply.TheVariants.{Refused}}
+use Rattle.ulfm_model.specs.declared.{refusal.Refusal.TheVariants.{NoSuchComm, SelfFailed, Twice}, reply.Reply.{Reply}, reply.Reply.TheVariants.{Refused}}
 use Rattle.ulfm_model.specs.Answers.{CallAdds, IsReply, IsSelfFailed, MayOwn, Replies, RepliesBy, Sees, AtPoint, left_by, polled_by, refusal_of, refusal_on}
 use Rattle.ulfm_model.specs.Answers.{traits_of}
 use Rattle.ulfm_model.specs.{History.{History, IsLegal, entries_by, failures, has}, Records.{Held, Record, held_at, is_shrink}, Runs.{Did, unsettled_of}}
@@ -27,8 +28,8 @@ sees_later true look after longer seen more sees = (sees.0, prefix_trans seen (f
 
 module _ {P : Type 0} (meld : P → P → P) (limits : Limits) (alone : Bool) (before look : History P) (old : Record) where
   -- what a reply at the end of a call rests on
-  abbrev pub view_at : History P → List (Event P) → AtPoint P
-  view_at after own = record { look = failures look; history = after; own = own }
+  abbrev pub at_point : Bool → History P → List (Event P) → AtPoint P
+  at_point spread after own = record { look = failures look; history = after; own = own; spread = spread }
 
   -- where nobody else steps, the poll of a rank that isn't declared has marked the unsettled declared members
   abbrev pub Marks : Call P → List (Event P) → Type 0
@@ -36,14 +37,14 @@ module _ {P : Type 0} (meld : P → P → P) (limits : Limits) (alone : Bool) (b
       → settled_by own ≡ unsettled_of limits.ranks before (comm_of asked) (polled_by old asked)
 
   -- a call with its point at its end, of a rank that has then seen so much
-  pub run_ends : (after : History P) (own : List (Event P)) (asked : Call P) (reply : Reply P) (new : Record) (seen : List ℕ) → IsFalse old.refused
+  pub run_ends : (spread : Bool) (after : History P) (own : List (Event P)) (asked : Call P) (reply : Reply P) (new : Record) (seen : List ℕ) → IsFalse old.refused
       → Did alone [] before look
       → Did alone (entries_by (Rank old.number) own) look after → IsLegal meld limits after → AllByRecursion (MayOwn (failures look) old asked) own
-      → IsSelfFailed (view_at after own) old asked reply ⊎ IsReply meld limits (view_at after own) old asked reply
+      → IsSelfFailed (at_point spread after own) old asked reply ⊎ IsReply meld limits (at_point spread after own) old asked reply
       → Sees (is_shrink (polled_by old asked)) (failures look) after seen
-      → new ≡ left_by limits.ranks after (record old { seen = seen }) asked reply → Marks asked own
+      → new ≡ left_by limits.ranks after (record old { seen = seen }) asked reply → Marks asked own → (IsTrue spread → (contributes asked ≡ true) × (reply ≡ Refused Twice))
       → IsEndRun meld limits alone (moment old before) asked reply (moment new after)
-  run_ends after own asked reply new seen in_use looked did legal may replies sees is marks =
+  run_ends spread after own asked reply new seen in_use looked did legal may replies sees is marks rests =
       let begins = did_prefix alone (entries_by (Rank old.number) own) look after did in
       let same : new.seen ≡ seen = ap (λ (w : Record). w.seen) is ∙ (left_keeps limits.ranks after (record old { seen = seen }) asked reply).1 in
       record {
@@ -58,6 +59,7 @@ module _ {P : Type 0} (meld : P → P → P) (limits : Limits) (alone : Bool) (b
             point_begins = prefix_trans before look after (did_prefix alone [] before look looked) begins;
             point_ends = ([], append-nil after);
             legal = legal;
+            spread = spread;
           };
           answer = record {
             own = may;
@@ -69,19 +71,20 @@ module _ {P : Type 0} (meld : P → P → P) (limits : Limits) (alone : Bool) (b
           };
         };
         at_end = refl;
+        rests = rests;
         marks = marks;
       }
 
   -- the same, where it has seen what its look found
-  run_at_end : (after : History P) (own : List (Event P)) (asked : Call P) (reply : Reply P) (new : Record) → IsFalse old.refused → Did alone [] before look
+  run_at_end : (spread : Bool) (after : History P) (own : List (Event P)) (asked : Call P) (reply : Reply P) (new : Record) → IsFalse old.refused → Did alone [] before look
       → Did alone (entries_by (Rank old.number) own) look after → IsLegal meld limits after → AllByRecursion (MayOwn (failures look) old asked) own
-      → IsSelfFailed (view_at after own) old asked reply ⊎ IsReply meld limits (view_at after own) old asked reply
-      → new ≡ left_by limits.ranks after (record old { seen = failures look }) asked reply → Marks asked own
+      → IsSelfFailed (at_point spread after own) old asked reply ⊎ IsReply meld limits (at_point spread after own) old asked reply
+      → new ≡ left_by limits.ranks after (record old { seen = failures look }) asked reply → Marks asked own → (IsTrue spread → (contributes asked ≡ true) × (reply ≡ Refused Twice))
       → IsEndRun meld limits alone (moment old before) asked reply (moment new after)
-  run_at_end after own asked reply new in_use looked did legal may replies is marks =
-      run_ends after own asked reply new (failures look) in_use looked did legal may replies
+  run_at_end spread after own asked reply new in_use looked did legal may replies is marks rests =
+      run_ends spread after own asked reply new (failures look) in_use looked did legal may replies
       (sees_look (is_shrink (polled_by old asked)) (failures look) after (failures_begin look after
-      (did_prefix alone (entries_by (Rank old.number) own) look after did))) is marks
+      (did_prefix alone (entries_by (Rank old.number) own) look after did))) is marks rests
 
   -- a rank that is declared at the end, in a call that has added nothing; where nobody else steps, and the call is a poll, it was so at the look
   pub self_failed : (after : History P) (asked : Call P) (new : Record) → IsFalse old.refused → Did alone [] before look → Did alone [] look after
@@ -89,7 +92,7 @@ module _ {P : Type 0} (meld : P → P → P) (limits : Limits) (alone : Bool) (b
       → IsTrue (has (failures after) old.number) → new ≡ record old { seen = failures look; refused = true }
       → IsEndRun meld limits alone (moment old before) asked (Refused SelfFailed) (moment new after)
   self_failed after asked new in_use looked did legal declared is =
-      run_at_end after [] asked (Refused SelfFailed) new in_use looked did legal tt (inl (record {
+      run_at_end false after [] asked (Refused SelfFailed) new in_use looked did legal tt (inl (record {
         reply_is = refl;
         declared = declared;
         adds_nothing = λ x starts. refl;
@@ -97,6 +100,7 @@ module _ {P : Type 0} (meld : P → P → P) (limits : Limits) (alone : Bool) (b
       (λ here polls not_declared.
       let same : after ≡ before = did_quiet alone look after did here ∙ did_quiet alone before look looked here in
       let clash = ap (λ h. has (failures h) old.number) (sym same) in absurd (cc (clash, not_declared, declared)))
+      (λ on. absurd (cc on))
 
 module _ {P : Type 0} (meld : P → P → P) (limits : Limits) (alone : Bool) (before look : History P) (old mid : Record)
     (looked : Looked alone before look old mid) where
@@ -113,14 +117,15 @@ module _ {P : Type 0} (meld : P → P → P) (limits : Limits) (alone : Bool) (b
       → new ≡ left_by limits.ranks look mid asked (Refused refusal)
       → (IsTrue (traits_of asked).polls → polled_by old asked ≡ None) → IsEndRun meld limits alone (moment old before) asked (Refused refusal) (moment new look)
   refused asked refusal new legal is left idle =
-      run_at_end meld limits alone before look old look [] asked (Refused refusal) new looked.in_use looked.did (did_none alone look) legal tt
+      run_at_end meld limits alone before look old false look [] asked (Refused refusal) new looked.in_use looked.did (did_none alone look) legal tt
       (inr (record {
         not_declared = looked.not_declared;
-        replies = subst (RepliesBy {P = P} (λ x. Replies meld limits (view_at meld limits alone before look old look []) old x asked (Refused refusal)) (Refused refusal) (held_at old (comm_of asked)))
+        replies = subst (RepliesBy {P = P} (λ x. Replies meld limits (at_point meld limits alone before look old false look []) old x asked (Refused refusal)) (Refused refusal) (held_at old (comm_of asked)))
             (sym is) refl;
       }))
       (left_is look asked (Refused refusal) new left)
       (λ here polls not_declared. sym (ap (unsettled_of limits.ranks before (comm_of asked)) (idle polls)))
+      (λ on. absurd (cc on))
 
   -- a call on a communicator that the rank doesn't hold
   pub refused_missing : (asked : Call P) (new : Record) → IsLegal meld limits look → held_at mid (comm_of asked) ≡ None → new ≡ mid
@@ -129,15 +134,15 @@ module _ {P : Type 0} (meld : P → P → P) (limits : Limits) (alone : Bool) (b
       refused asked NoSuchComm new legal (ap (λ held. refusal_on old held asked) (held_before (comm_of asked) None missing)) is
       (λ polls. ap₂ (λ (b : Bool) held. if b then request_of held else None) polls (held_before (comm_of asked) None missing))
 
-  -- a call that its record doesn't refuse, with its reply
-  pub replied : (after : History P) (own : List (Event P)) (asked : Call P) (reply : Reply P) (new : Record) (x : Held)
+  -- a call that its record doesn't refuse, with its reply, which may rest on a wing
+  pub replied_with : (spread : Bool) (after : History P) (own : List (Event P)) (asked : Call P) (reply : Reply P) (new : Record) (x : Held)
       → Did alone (entries_by (Rank old.number) own) look after → IsLegal meld limits after
       → held_at old (comm_of asked) ≡ Some x → refusal_of old asked ≡ None → AllByRecursion (CallAdds (failures look) old.number x asked) own
-      → Replies meld limits (record { look = failures look; history = after; own = own }) old x asked reply → new ≡ left_by limits.ranks after mid asked reply
-      → Marks meld limits alone before look old asked own → IsEndRun meld limits alone (moment old before) asked reply (moment new after)
-  replied after own asked reply new x did legal held passed adds replies left marks =
-      let view : AtPoint P = record { look = failures look; history = after; own = own } in
-      run_at_end meld limits alone before look old after own asked reply new looked.in_use looked.did did legal
+      → Replies meld limits (record { look = failures look; history = after; own = own; spread = spread }) old x asked reply → new ≡ left_by limits.ranks after mid asked reply
+      → Marks meld limits alone before look old asked own → (IsTrue spread → (contributes asked ≡ true) × (reply ≡ Refused Twice)) → IsEndRun meld limits alone (moment old before) asked reply (moment new after)
+  replied_with spread after own asked reply new x did legal held passed adds replies left marks rests =
+      let view : AtPoint P = record { look = failures look; history = after; own = own; spread = spread } in
+      run_at_end meld limits alone before look old spread after own asked reply new looked.in_use looked.did did legal
       (each_from (CallAdds (failures look) old.number x asked) (MayOwn (failures look) old asked) (λ e added. record {
         not_declared = looked.not_declared;
         not_refused = passed;
@@ -149,4 +154,12 @@ module _ {P : Type 0} (meld : P → P → P) (limits : Limits) (alone : Bool) (b
             (subst (RepliesBy {P = P} (λ x. Replies meld limits view old x asked reply) reply (Some x)) (sym passed) replies);
       }))
       (left_is after asked reply new left)
-      marks
+      marks rests
+
+  -- .. which rests on none
+  pub replied : (after : History P) (own : List (Event P)) (asked : Call P) (reply : Reply P) (new : Record) (x : Held)
+      → Did alone (entries_by (Rank old.number) own) look after → IsLegal meld limits after
+      → held_at old (comm_of asked) ≡ Some x → refusal_of old asked ≡ None → AllByRecursion (CallAdds (failures look) old.number x asked) own
+      → Replies meld limits (record { look = failures look; history = after; own = own; spread = false }) old x asked reply → new ≡ left_by limits.ranks after mid asked reply
+      → Marks meld limits alone before look old asked own → IsEndRun meld limits alone (moment old before) asked reply (moment new after)
+  replied after own asked reply new x did legal held passed adds replies left marks = replied_with false after own asked reply new x did legal held passed adds replies left marks (λ on. absurd (cc on))

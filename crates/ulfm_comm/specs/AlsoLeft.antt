@@ -1,6 +1,6 @@
 -- How many atomic steps a call makes at most beside a load for each failure that its rank has seen more.
 use Rattle.std.specs.Prelude.{◌≡◌, ℕ, ◌+◌, ◌-◌, ◌*◌, ◌≤◌, Bool, true, false, List, length, Option, Some, None, is_some, if◌then◌else◌, ⊤}
-use Rattle.ulfm_model.specs.declared.{block.Block.{Block}, block.Side.TheVariants.{Front, Back}}
+use Rattle.ulfm_model.specs.declared.{block.Beside.{Beside}, block.Side.TheVariants.{Front, Back}}
 use Rattle.ulfm_model.specs.declared.{call.Call.{Call}, call.Request.{Request}, call.Request.TheVariants.{Agree, Shrink, Barrier}, limits.Limits.{Limits}}
 use Rattle.ulfm_model.specs.{Answers.{refusal_of}, Blocks.{has_block}, Records.{Record, held_at}, Terms.{comm_of, request_of}}
 use Rattle.ulfm_steps.specs.{Blocks.{block_at, has_back, peeks_left}, declared.blocks.Peek.{Peek}}
@@ -13,11 +13,11 @@ abbrev pub also_after_round : Limits → Bool → ℕ
 also_after_round limits false = 0
 also_after_round limits true = 2 * (limits.comms - 1)
 
--- the poll of a request after its look: an agreement loads two blocks
+-- the poll of a request after its look: an agreement loads two blocks and their wings
 abbrev pub also_polling : Limits → ℕ → Option Request → ℕ
 also_polling limits n None = 0
-also_polling limits n (Some (Agree k)) = 2
-also_polling limits n (Some (Shrink k)) = 2 + also_after_round limits true
+also_polling limits n (Some (Agree k)) = 4
+also_polling limits n (Some (Shrink k)) = 4 + also_after_round limits true
 also_polling limits n (Some (Barrier k)) = n + 1
 
 -- a call that goes on behind its look, after it
@@ -35,7 +35,7 @@ abbrev pub also_left : {P : Type 0} → Limits → Record → Call P → Phase P
 also_left limits own asked Begun = reads_again limits.ranks own.seen + 1 + also_after_look limits own asked
 also_left limits own asked Looking = 1 + also_after_look limits own asked
 also_left limits own asked (Peeking peek shrinks) =
-    peeks_left (length (group_of (held_at own (comm_of asked)))) peek.side + also_after_round limits shrinks
+    peeks_left (length (group_of (held_at own (comm_of asked)))) peek + also_after_round limits shrinks
 also_left limits own asked (Marking marks blocks shrinks) = 0
 also_left limits own asked (Reading reading shrinks) = 0
 also_left limits own asked (ReadingOn on made) = also_after_round limits true
@@ -47,20 +47,20 @@ also_in limits own asked (Goes phase) = also_left limits own asked phase
 also_in limits own asked (Ends reply) = 0
 
 -- of the two blocks of its round a peek finds each: those that it hasn't loaded are among these, and the one that it has is known
-pub record FindsAll {P : Type 0} (n : ℕ) (cached : List Block) (peek : Peek P) : Type 0 where
+pub record FindsAll {P : Type 0} (n : ℕ) (cached : List Beside) (peek : Peek P) : Type 0 where
   pub front : peek.side ≡ Front → has_block cached (block_at peek.comm peek.round Front) ≡ true
   pub known : peek.side ≡ Back → is_some peek.blocks.front ≡ true
   pub back : has_back n ≡ true → has_block cached (block_at peek.comm peek.round Back) ≡ true
 
 -- a call that goes on with this phase finds the blocks of its round set, or doesn't load them; of one in its look nothing is asked
-abbrev pub FindsSetIn : {P : Type 0} → Record → Call P → List Block → Phase P → Type 0
+abbrev pub FindsSetIn : {P : Type 0} → Record → Call P → List Beside → Phase P → Type 0
 FindsSetIn own asked cached (Peeking peek shrinks) = FindsAll (length (group_of (held_at own (comm_of asked)))) cached peek
 FindsSetIn own asked cached (Marking marks blocks shrinks) = ⊥
 FindsSetIn own asked cached (Reading reading shrinks) = ⊥
 FindsSetIn own asked cached _ = ⊤
 
 -- .. or has ended
-abbrev pub FindsSetNext : {P : Type 0} → Record → Call P → List Block → Next P → Type 0
+abbrev pub FindsSetNext : {P : Type 0} → Record → Call P → List Beside → Next P → Type 0
 FindsSetNext own asked cached (Goes phase) = FindsSetIn own asked cached phase
 FindsSetNext own asked cached (Ends reply) = ⊤
 
@@ -92,4 +92,4 @@ AlsoTurns limits asked phase old next new =
 pub record AlsoFollows {P : Type 0} (limits : Limits) (asked : Call P) (own : Record) (next : Next P) (new : Record) : Type 0 where
   pub few : also_in limits new asked next ≤ also_after_look limits own asked
   pub sees : new.seen ≡ own.seen
-  pub sets : (cached : List Block) → BlocksStand own asked cached → FindsSetNext new asked cached next
+  pub sets : (cached : List Beside) → BlocksStand own asked cached → FindsSetNext new asked cached next

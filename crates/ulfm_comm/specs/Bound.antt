@@ -11,8 +11,8 @@ use Rattle.ulfm_comm.specs.{Requests.{BlocksStand}, StepsLeft.{group_of}}
 -- has seen v failures. Where no request is open the poll is refused.
 abbrev pub poll_bound : ℕ → ℕ → ℕ → ℕ → Option Request → ℕ
 poll_bound N v n M None = N - v
-poll_bound N v n M (Some (Agree k)) = N - v + 3 * n + 2
-poll_bound N v n M (Some (Shrink k)) = N - v + 3 * n + 2 * M + 1
+poll_bound N v n M (Some (Agree k)) = N - v + 5 * n + 4
+poll_bound N v n M (Some (Shrink k)) = N - v + 5 * n + 2 * M + 3
 poll_bound N v n M (Some (Barrier k)) = N - v + n + 1
 
 -- the same of any call, on a communicator where this request is open; a declaration is no call of a rank
@@ -20,8 +20,8 @@ abbrev pub call_bound : {P : Type 0} → ℕ → ℕ → ℕ → ℕ → Option 
 call_bound N v n M request (call.GetFailed rank c) = N - v
 call_bound N v n M request (call.Ack rank c count) = N - v
 call_bound N v n M request (call.Free rank c) = N - v
-call_bound N v n M request (call.Agree rank c value) = N - v + 1
-call_bound N v n M request (call.Shrink rank c) = N - v + 1
+call_bound N v n M request (call.Agree rank c value) = N - v + 2
+call_bound N v n M request (call.Shrink rank c) = N - v + 2
 call_bound N v n M request (call.Barrier rank c) = N - v + 1
 call_bound N v n M request (call.Revoke rank c) = N - v + 1
 call_bound N v n M request (call.IsRevoked rank c) = N - v + 1
@@ -40,8 +40,8 @@ step_bound limits own asked =
 -- a shrink's poll, which reads on in the list of failures, one more for each load that it makes there.
 abbrev pub also_poll_bound : ℕ → ℕ → ℕ → Option Request → ℕ
 also_poll_bound f n M None = f + 1
-also_poll_bound f n M (Some (Agree k)) = f + 3
-also_poll_bound f n M (Some (Shrink k)) = f + 2 * M + 1
+also_poll_bound f n M (Some (Agree k)) = f + 5
+also_poll_bound f n M (Some (Shrink k)) = f + 2 * M + 3
 also_poll_bound f n M (Some (Barrier k)) = f + n + 2
 
 -- the second bound of any call, likewise
@@ -49,8 +49,8 @@ abbrev pub also_call_bound : {P : Type 0} → ℕ → ℕ → ℕ → Option Req
 also_call_bound f n M request (call.GetFailed rank c) = f + 1
 also_call_bound f n M request (call.Ack rank c count) = f + 1
 also_call_bound f n M request (call.Free rank c) = f + 1
-also_call_bound f n M request (call.Agree rank c value) = f + 2
-also_call_bound f n M request (call.Shrink rank c) = f + 2
+also_call_bound f n M request (call.Agree rank c value) = f + 3
+also_call_bound f n M request (call.Shrink rank c) = f + 3
 also_call_bound f n M request (call.Barrier rank c) = f + 2
 also_call_bound f n M request (call.Revoke rank c) = f + 2
 also_call_bound f n M request (call.IsRevoked rank c) = f + 2

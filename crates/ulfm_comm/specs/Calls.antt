@@ -5,41 +5,53 @@ use mathlib.Core.List.{IsPrefix}
 use Rattle.ulfm_laws.specs.declared.{summary.Body.TheVariants.{Ctx as OfIds}, ctx_mask.CtxMask.{CtxMask}}
 use Rattle.ulfm_model.specs.declared.{call.Request.{Request}, call.Request.TheVariants.{Agree, Shrink, Barrier}}
 use Rattle.ulfm_model.specs.declared.{call.Call.{Call}, event.Caller.TheVariants.{Rank}, limits.Limits.{Limits}, refusal.Refusal.{Refusal}, reply.Reply.{Reply}}
-use Rattle.ulfm_model.specs.declared.{refusal.Refusal.TheVariants.{OutOfMemory}, reply.Reply.TheVariants.{FailedGroup, Refused}}
-use Rattle.ulfm_model.specs.{Answers.{MayOwn, Sees, polled_by, printed, refusal_of}, History.{History, decision, entries_by, failures, has, is_decided, spawns}}
-use Rattle.ulfm_model.specs.{Records.{Fits, Moment, is_shrink}, Runs.{IsSpan}}
+use Rattle.ulfm_model.specs.declared.{refusal.Refusal.TheVariants.{OutOfMemory, Twice}, reply.Reply.TheVariants.{FailedGroup, Refused}}
+use Rattle.ulfm_model.specs.{Answers.{MayOwn, Sees, polled_by, printed, refusal_of}, History.{History, decision, entries_by, failures, has, is_decided, slot, spawns}}
+use Rattle.ulfm_model.specs.{Records.{Fits, Held, Moment, Record, held_at, is_shrink}, Runs.{IsSpan}}
 use Rattle.ulfm_model.specs.Terms.{comm_of}
-use Rattle.ulfm_words.specs.Steps.{IsView}
-use Rattle.ulfm_comm.specs.{Ends.{IsEarlyRun, IsEndRun, IsRefusedAgain}, Local.{Local, moment_of}, Requests.{LeavesSet, may_cache}}
+use Rattle.ulfm_model.specs.declared.{contribution.Contribution.{Contribution}, contribution.Slot.{Slot}}
+use Rattle.ulfm_words.specs.Steps.{IsView, TriesFurther, View}
+use Rattle.ulfm_steps.specs.Settles.{WingStands}
+use Rattle.ulfm_comm.specs.{Ends.{IsEarlyRun, IsEndRun, IsRefusedAgain}, Local.{Local, moment_of}, Requests.{LeavesSet, contributes}, Wings.{MayTry, WingsSettled}}
 
 -- the reply that a call's Rust result stands for
 abbrev pub reply_of : {P X : Type 0} → (X → Reply P) → Result X Refusal → Reply P
 reply_of reply (Ok x) = reply x
 reply_of reply (Err refusal) = Refused refusal
 
+-- the start of an agreement that is answered `twice` has found a contribution at its rank's place, or tried to set its wing, which stood
+abbrev pub FindsTwice : {P : Type 0} → Call P → Record → View P → Type 0
+FindsTwice {P} asked own view =
+    contributes asked ≡ true → (x : Held) → held_at own (comm_of asked) ≡ Some x
+    → ((given : Contribution P) × (slot view.pass.seen x.comm x.next_agreement own.number ≡ Some (Slot.Given given)))
+    ⊎ WingStands view x.comm x.next_agreement own.number
+
 -- A call of a rank, whole or step by step, linearizes: among the steps of others its reply is one answer of the sequential object, with its
 -- linearization point at the call's end (of a barrier's poll that found somebody missing: when that was found). A rank that was refused for good
--- is refused again without a step; the pass is of these words still, its steps were counted onward, and the record fits what it has seen.
+-- is refused again without a step; the pass is of these words still, its steps were counted onward, and the record fits what it has seen. A start
+-- that is answered `twice` has seen why.
 pub record Linearizes {P : Type 0} (meld : P → P → P) (alone : Bool) (asked : Call P) (old : Local P) (reply : Reply P) (new : Local P) : Type 0 where
   pub of : IsView meld new.view
   pub onward : old.view.pass.steps ≤ new.view.pass.steps
   pub fits : Fits meld new.view.words.limits new.view.pass.seen new.own
+  pub twice : reply ≡ Refused Twice → FindsTwice asked old.own new.view
   pub ends : (IsRefusedAgain old.own reply new.own × (new.view.pass ≡ old.view.pass))
       ⊎ (IsEndRun meld new.view.words.limits alone (moment_of old) asked reply (moment_of new)
       ⊎ IsEarlyRun meld new.view.words.limits alone (moment_of old) asked reply (moment_of new))
 
--- What a whole call with this reply leaves of the blocks that its pass knows to be set: those known before still are, and only the poll of an open
--- agree or shrink exchanges a block's word. A poll whose reply rests on its whole round (agreed, shrunk, mismatch, no context, no room, out of
--- memory) leaves all blocks of that round known.
-pub record LeavesBlocks {P : Type 0} (asked : Call P) (old : Local P) (reply : Reply P) (new : Local P) : Type 0 where
+-- What a whole call with this reply leaves of the words that no event sets: those known to be set still are, and it tries to set no others than it
+-- may: a start its own wing, the poll of an open agreement blocks' words. Where nobody else steps, no wing is left without its place. A poll whose
+-- reply rests on its whole round (agreed, shrunk, mismatch, no context, no room, out of memory) leaves all blocks of that round known.
+pub record LeavesBlocks {P : Type 0} (alone : Bool) (asked : Call P) (old : Local P) (reply : Reply P) (new : Local P) : Type 0 where
   pub cached : IsPrefix old.view.pass.cached new.view.pass.cached
-  pub caches : may_cache old.own asked ≡ false → new.view.pass.caches ≡ old.view.pass.caches
+  pub caches : TriesFurther (MayTry old.own asked) old.view.pass.caches new.view.pass.caches
+  pub wings : IsTrue alone → WingsSettled old.view → WingsSettled new.view
   pub knows : LeavesSet old.own asked reply new.view.pass.cached
 
 -- a whole call of a rank: it linearizes, and leaves the known blocks as `LeavesBlocks` says
 pub record Calls {P : Type 0} (meld : P → P → P) (alone : Bool) (asked : Call P) (old : Local P) (reply : Reply P) (new : Local P) : Type 0 where
   pub linearizes : Linearizes meld alone asked old reply new
-  pub blocks : LeavesBlocks asked old reply new
+  pub blocks : LeavesBlocks alone asked old reply new
 
 -- a shrink's round is decided, and rank r goes on from it: some context id is free at every contributor, and the rank isn't in its failed group
 pub record IsDecidedFor {P : Type 0} (meld : P → P → P) (limits : Limits) (h : History P) (r c k : ℕ) : Type 0 where
@@ -80,7 +92,7 @@ pub record RanOut {P : Type 0} (meld : P → P → P) (alone : Bool) (asked : Ca
 -- a whole call that ran out of memory, with what it leaves of the known blocks
 pub record RunsOut {P : Type 0} (meld : P → P → P) (alone : Bool) (asked : Call P) (old new : Local P) : Type 0 where
   pub ran_out : RanOut meld alone asked old new
-  pub blocks : LeavesBlocks asked old (Refused OutOfMemory) new
+  pub blocks : LeavesBlocks alone asked old (Refused OutOfMemory) new
 
 -- whether a call ran out of memory, by the refusal's number
 abbrev pub is_out_of_memory : Refusal → Bool

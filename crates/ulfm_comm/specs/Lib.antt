@@ -1,5 +1,6 @@
 pub mod Local
 pub mod Requests
+pub mod Wings
 pub mod Look
 pub mod Ends
 pub mod Ranks

@@ -3,7 +3,7 @@ use Rattle.std.specs.Prelude.{◌≡◌, Bool, IsTrue, ⊤}
 use Rattle.ulfm_model.specs.declared.call.Call.TheVariants as call
 use Rattle.ulfm_model.specs.declared.reply.Reply.{Reply}
 use Rattle.ulfm_model.specs.{History.{History}, Records.{Fits, Record, moment}, Terms.{comm_of}}
-use Rattle.ulfm_words.specs.Steps.{Sight, view_of}
+use Rattle.ulfm_words.specs.Steps.{Sight, view_at}
 use Rattle.ulfm_steps.specs.declared.arrivals.Missing.{Missing}
 use Rattle.ulfm_comm.specs.Local.{Local, frame_of, local, moment_of}
 use Rattle.ulfm_comm.specs.{Barrier.{AnswersEarly, IsChecking}, Phase.{Stands, UnderWay}}
@@ -22,7 +22,7 @@ midway doing rank = record { doing = doing; rank = rank }
 abbrev pub FindsMissing : {P : Type 0} → (P → P → P) → Bool → Midway P → Local P → Missing → Type 0
 FindsMissing {P} meld quiet at new missing =
     (alone : Bool) → (IsTrue alone → IsTrue quiet) → (old : Record) → (before : Sight P)
-    → Stands meld alone (local old (view_of at.rank.view.words before)) at.doing at.rank
+    → Stands meld alone (local old (view_at at.rank.view.words before)) at.doing at.rank
     → IsChecking (frame_of meld alone at.rank) (comm_of at.doing.asked) missing new.view.pass.seen (moment old before.seen) (moment_of new)
 
 -- so a step does that ends the reading of a barrier's arrivals; of any other nothing is said

@@ -1,18 +1,19 @@
 -- Where a call of a rank stands between two steps.
-use Rattle.std.specs.Prelude.{◌≡◌, ◌⊎◌, ℕ, ◌<◌, ◌≤◌, Bool, true, false, List, [], Some, None, Option, length, nat_lt, IsTrue, IsFalse, if◌then◌else◌, ⊤}
+use Rattle.std.specs.Prelude.{◌≡◌, ◌⊎◌, ℕ, ◌<◌, ◌≤◌, Bool, true, false, List, [], Some, None, Option, length, nat_lt, is_some, IsTrue, IsFalse, if◌then◌else◌, ⊤}
 use Rattle.std.specs.Prelude.{MatchOption}
+use mathlib.Core.List.{IsPrefix}
 use Rattle.ulfm_model.specs.declared.call.Call.TheVariants as call
 use Rattle.ulfm_model.specs.declared.{call.Call.{Call}, event.Caller.TheVariants.{Rank}, reply.Reply.{Reply}}
 use Rattle.ulfm_model.specs.{Answers.{traits_of}, History.{History, failures}, Records.{Fits, Held, Record}, Runs.{Did}, Terms.{comm_of}}
 use Rattle.ulfm_model.specs.Blocks.{IsSide}
-use Rattle.ulfm_words.specs.Steps.{Sight, view_of}
-use Rattle.ulfm_steps.specs.{Arriving.{AtArrival}, Looks.{LookIs}, ReadsOn.{AtFailure}}
+use Rattle.ulfm_words.specs.Steps.{Sight, view_at}
+use Rattle.ulfm_steps.specs.{Arriving.{AtArrival}, Blocks.{HoldsFirst, HoldsHalf}, Looks.{LookIs}, ReadsOn.{AtFailure}, Settles.{IsSpreadIn}}
 use Rattle.ulfm_comm.specs.Local.{Local, frame_of, local, moment_of}
 use Rattle.ulfm_comm.specs.{Calls.{HasReplied}, Ends.{IsRefusedAgain}, Polls.{PendsIn}, Look.{HasLooked}, Exchange.{StartsWith}}
 use Rattle.ulfm_comm.specs.{Agreement.{IsMarking, IsPeeking, IsReading}, Spawning.{HasReadMask, IsSpawning, sought}, Barrier.{IsWaiting, IsChecking}}
 use Rattle.ulfm_comm.specs.declared.{phases.phase.Next.{Next}, phases.phase.Next.TheVariants.{Goes, Ends}, phases.phase.Phase.{Phase}}
 use Rattle.ulfm_model.specs.declared.step_name.StepName.{StepName}
-use Rattle.ulfm_comm.specs.declared.phases.phase.Phase.TheVariants.{Over, Begun, Looking, Settling, Arriving, Revoking, Asking, Peeking, Marking}
+use Rattle.ulfm_comm.specs.declared.phases.phase.Phase.TheVariants.{Over, Begun, Looking, Spreading, Settling, Arriving, Revoking, Asking, Peeking, Marking}
 use Rattle.ulfm_comm.specs.declared.phases.phase.Phase.TheVariants.{Reading, ReadingOn, Spawning, Waiting, Checking}
 use Rattle.ulfm_model.specs.declared.step_name.StepName.TheVariants as step
 
@@ -30,13 +31,16 @@ abbrev pub next_step : {P : Type 0} → Phase P → Option StepName
 next_step Over = None
 next_step Begun = Some step.List
 next_step Looking = Some step.List
+next_step (Spreading request offer) = Some step.Wing
 next_step (Settling request offer) = Some step.Settle
 next_step (Arriving round) = Some step.Arrive
 next_step Revoking = Some step.Revoke
 next_step Asking = Some step.Revocation
-next_step (Peeking peek shrinks) = Some step.Block
+next_step (Peeking peek shrinks) = Some (if is_some peek.first then step.Wing else step.Block)
 next_step (Marking marks blocks shrinks) = Some step.Mark
-next_step (Reading reading shrinks) = Some (if nat_lt reading.read reading.width then step.Slot else step.Cache)
+next_step (Reading reading shrinks) =
+    Some (if nat_lt reading.read reading.width then (if is_some reading.first then step.Wing else step.Slot)
+    else (if reading.winged then step.Cache else step.Wing))
 next_step (ReadingOn on made) = Some step.List
 next_step (Spawning append context reach) = Some (if append.empty then step.Spawn else step.Comm)
 next_step (Waiting arrivals) = Some step.Arrival
@@ -58,6 +62,7 @@ abbrev pub left : {P : Type 0} → Phase P → ℕ
 left Over = 0
 left Begun = 9
 left Looking = 8
+left (Spreading request offer) = 2
 left (Settling request offer) = 1
 left (Arriving round) = 1
 left Revoking = 1
@@ -129,8 +134,11 @@ StandsAt meld alone asked start Begun group now =
 StandsAt meld alone asked start Looking group now =
     IsFalse start.own.refused × (now.own ≡ record start.own { seen = now.own.seen }) × Did alone [] start.view.pass.seen now.view.pass.seen
     × LookIs start.view.words.limits false now.own.seen now.view.pass.seen
+StandsAt meld alone asked start (Spreading request offer) group now =
+    (p : HasLooked (frame_of meld alone start) asked (moment_of start) (moment_of now)) × StartsWith asked start.own p.x request offer
 StandsAt meld alone asked start (Settling request offer) group now =
     (p : HasLooked (frame_of meld alone start) asked (moment_of start) (moment_of now)) × StartsWith asked start.own p.x request offer
+    × IsSpreadIn now.view p.x.comm p.x.next_agreement now.own.number offer
 StandsAt meld alone asked start (Arriving round) group now =
     (p : HasLooked (frame_of meld alone start) asked (moment_of start) (moment_of now))
     × (asked ≡ call.Barrier start.own.number (comm_of asked)) × (round ≡ p.x.next_barrier)
@@ -141,13 +149,15 @@ StandsAt meld alone asked start Asking group now =
 StandsAt meld alone asked start (Peeking peek shrinks) group now =
     (asked ≡ call.Poll start.own.number (comm_of asked))
     × (p : IsPeeking (frame_of meld alone start) (comm_of asked) shrinks peek (moment_of start) (moment_of now)) × IsSide peek.side p.x.group
+    × HoldsFirst meld now.view peek
 StandsAt meld alone asked start (Marking marks blocks shrinks) group now =
     (asked ≡ call.Poll start.own.number (comm_of asked))
     × (p : IsMarking (frame_of meld alone start) (comm_of asked) shrinks marks blocks (moment_of start) (moment_of now))
     × (marks.next < length (failures p.look))
 StandsAt meld alone asked start (Reading reading shrinks) group now =
     (asked ≡ call.Poll start.own.number (comm_of asked))
-    × IsReading (frame_of meld alone start) (comm_of asked) shrinks reading (moment_of start) (moment_of now)
+    × (p : IsReading (frame_of meld alone start) (comm_of asked) shrinks reading (moment_of start) (moment_of now))
+    × HoldsHalf now.view p.x.group reading
 StandsAt meld alone asked start (ReadingOn on made) group now =
     (asked ≡ call.Poll start.own.number (comm_of asked)) × (x : Held)
     × HasReadMask (frame_of meld alone start) (comm_of asked) made x (moment_of start) (moment_of now)
@@ -171,14 +181,20 @@ pub record Stands {P : Type 0} (meld : P → P → P) (alone : Bool) (start : Lo
   pub at : StandsAt meld alone doing.asked start doing.phase doing.group now
 
 -- since then there were others' events alone
+pub record Idles {P : Type 0} (alone : Bool) (old new : Sight P) : Type 0 where
+  pub did : Did alone [] old.seen new.seen
+  pub onward : old.steps ≤ new.steps
+
+-- .. and what was known to be set still is
 pub record Waits {P : Type 0} (alone : Bool) (old new : Sight P) : Type 0 where
   pub did : Did alone [] old.seen new.seen
+  pub cached : IsPrefix old.cached new.cached
   pub onward : old.steps ≤ new.steps
 
 -- A call's reply: of a rank that was refused for good before; or as the sequential object answers, or for want of memory. A
 -- pending agreement ends in a load that found a member missing.
 pub record Answered {P : Type 0} (meld : P → P → P) (alone : Bool) (asked : Call P) (start : Local P) (reply : Reply P) (new : Local P) : Type 0 where
-  pub ends : (IsRefusedAgain start.own reply new.own × Waits alone start.view.pass new.view.pass) ⊎ HasReplied meld alone asked start reply new
+  pub ends : (IsRefusedAgain start.own reply new.own × Idles alone start.view.pass new.view.pass) ⊎ HasReplied meld alone asked start reply new
   pub pending : PendsIn meld alone asked start reply new
 
 -- what comes next: further steps, or the reply
@@ -190,23 +206,23 @@ NextIs meld alone asked start (Ends reply) group now = Answered meld alone asked
 abbrev pub Turns : {P : Type 0} → (P → P → P) → Bool → UnderWay P → Local P → Next P → List ℕ → Local P → Type 0
 Turns {P} meld quiet doing now next left new =
     (alone : Bool) → (IsTrue alone → IsTrue quiet) → (old : Record) → (before : Sight P)
-    → Stands meld alone (local old (view_of now.view.words before)) doing now
-    → NextIs meld alone doing.asked (local old (view_of now.view.words before)) next left new
+    → Stands meld alone (local old (view_at now.view.words before)) doing now
+    → NextIs meld alone doing.asked (local old (view_at now.view.words before)) next left new
 
 -- a call stands so, whenever it began
 abbrev pub StillStands : {P : Type 0} → (P → P → P) → UnderWay P → Local P → Type 0
-StillStands {P} meld doing now = (old : Record) × (before : Sight P) × Stands meld false (local old (view_of now.view.words before)) doing now
+StillStands {P} meld doing now = (old : Record) × (before : Sight P) × Stands meld false (local old (view_at now.view.words before)) doing now
 
 -- a call may take its next step: it began at some time, stood on its way at some later one, and since then there were others' events alone
 abbrev pub MayStep : {P : Type 0} → (P → P → P) → UnderWay P → Local P → Type 0
 MayStep {P} meld doing now =
     (old : Record) × (before : Sight P) × (stood : Sight P)
-    × Stands meld false (local old (view_of now.view.words before)) doing (local now.own (view_of now.view.words stood)) × Waits false stood now.view.pass
+    × Stands meld false (local old (view_at now.view.words before)) doing (local now.own (view_at now.view.words stood)) × Waits false stood now.view.pass
 
 -- what comes of a step, whenever its call began and wherever it stood since: it stands on its way still, or is answered
 abbrev pub StandsOrEnds : {P : Type 0} → (P → P → P) → Bool → UnderWay P → Local P → Option (Reply P) → UnderWay P → Local P → Type 0
 StandsOrEnds {P} meld quiet was now reply is new =
     (alone : Bool) → (IsTrue alone → IsTrue quiet) → (old : Record) → (before : Sight P) → (stood : Sight P)
-    → Stands meld alone (local old (view_of now.view.words before)) was (local now.own (view_of now.view.words stood)) → Waits alone stood now.view.pass
-    → MatchOption reply (Stands meld alone (local old (view_of now.view.words before)) is new)
-    (λ answer. Answered meld alone was.asked (local old (view_of now.view.words before)) answer new)
+    → Stands meld alone (local old (view_at now.view.words before)) was (local now.own (view_at now.view.words stood)) → Waits alone stood now.view.pass
+    → MatchOption reply (Stands meld alone (local old (view_at now.view.words before)) is new)
+    (λ answer. Answered meld alone was.asked (local old (view_at now.view.words before)) answer new)

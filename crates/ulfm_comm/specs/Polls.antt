@@ -42,7 +42,7 @@ pub record Polls {P : Type 0} (meld : P → P → P) (alone : Bool) (asked : Cal
   pub fits : Fits meld new.view.words.limits new.view.pass.seen new.own
   pub run : PollIs meld alone asked old result new
   pub memory : result ≡ Err OutOfMemory → IsTrue (is_shrink (polled_by old.own asked))
-  pub blocks : LeavesBlocks asked old (reply_of polled result) new
+  pub blocks : LeavesBlocks alone asked old (reply_of polled result) new
 
 -- A poll under way: it has looked, and then made the marks that were lacking, so that in the round of its open request each member that the look
 -- found declared is settled. After that only others' events came.

@@ -1,16 +1,17 @@
 -- What a rank keeps beside its record.
 use Rattle.std.specs.Prelude.{ℕ, ◌<◌, ◌≤◌, List, map, nat_eq}
 use Rattle.std.specs.List.{AllByRecursion, IsDistinct}
+use Rattle.ulfm_laws.specs.Ranges.{payload_bits}
 use Rattle.ulfm_model.specs.declared.limits.Limits.{Limits}
 use Rattle.ulfm_model.specs.{Records.{Held}, Words.{MayOpen}}
 
 -- All ranks can be declared without a growth of what was seen, which has this capacity. The communicators that are held have distinct
--- context ids, each below 32, and stand in a vector that has room for as many as there are ids.
+-- context ids, each one of a mask's bits, and stand in a vector that has room for as many as there are ids.
 pub record HasRoom (limits : Limits) (capacity places : ℕ) (held : List Held) : Type 0 where
   pub may_open : MayOpen limits
   pub room : limits.ranks ≤ capacity
-  pub enough : 32 ≤ places
-  pub ids : AllByRecursion (λ i. i < 32) (map (λ x. x.context) held)
+  pub enough : payload_bits ≤ places
+  pub ids : AllByRecursion (λ i. i < payload_bits) (map (λ x. x.context) held)
   pub contexts : IsDistinct nat_eq (map (λ x. x.context) held)
 
 -- its number is that of one of the world's ranks, and it has that room

@@ -2,6 +2,7 @@
 use Rattle.std.specs.Prelude.{◌≡◌, ◌⊎◌, ℕ, ◌<◌, ◌≤◌, Bool, true, false, List, [], ◌∷◌, Some, length, take, IsFalse, ◌+◌, ◌^◌, ◌-◌, not, ◌++◌, nat_eq, slice_get}
 use mathlib.Core.List.{IsPrefix}
 use Rattle.ulfm_laws.specs.declared.{summary.Body.TheVariants.{Ctx as OfIds}, ctx_mask.CtxMask.{CtxMask}, summary.Summary.{Summary}}
+use Rattle.ulfm_laws.specs.Ranges.{payload_bits}
 use Rattle.ulfm_model.specs.declared.call.Call.TheVariants as call
 use Rattle.ulfm_model.specs.declared.{call.Call.{Call}, event.Caller.TheVariants.{Rank}, event.Event.{Event}, limits.Limits.{Limits}, event.Caller.{Caller}}
 use Rattle.ulfm_model.specs.declared.{event.Event.TheVariants.{Spawn}, place.Place.TheVariants.{Comm as CommAt}}
@@ -27,12 +28,12 @@ pub record MayGoSpawning {P : Type 0} (meld : P → P → P) (limits : Limits) (
   pub passed : Passed seen (OfComm c k) append.index
   pub more : append.index < limits.comms - 1
 
--- the rank may hold a communicator more, with this context id, of 0 to 31, which it doesn't hold yet, and so many members
+-- the rank may hold a communicator more, with this context id, which it doesn't hold yet, and so many members
 pub record MayHold (own : Record) (c context size : ℕ) : Type 0 where
   pub x : Held
   pub held : held_at own c ≡ Some x
   pub few : size < 2 ^ 16
-  pub id : context < 32
+  pub id : context < payload_bits
   pub fresh : AllByRecursion (λ i. nat_eq i context ≡ false) (contexts_of own.held)
 
 -- communicator j was made of the round, by this call or before; no block was cached

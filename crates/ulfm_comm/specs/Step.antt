@@ -1,17 +1,18 @@
 -- What one step of a call does.
 use Rattle.std.specs.Prelude.{◌≡◌, ◌⊎◌, ℕ, ◌+◌, ◌-◌, ◌<◌, ◌≤◌, Bool, true, false, List, [], ◌∷◌, Some, Option, IsTrue, length, max, ⊤}
 use mathlib.Core.List.{IsPrefix}
-use Rattle.ulfm_model.specs.declared.{block.Block.{Block}, call.Call.{Call}, event.Caller.TheVariants.{Rank}, event.Event.{Event}, limits.Limits.{Limits}}
+use Rattle.ulfm_model.specs.declared.{block.Beside.{Beside}, call.Call.{Call}, event.Caller.TheVariants.{Rank}, event.Event.{Event}, limits.Limits.{Limits}}
 use Rattle.ulfm_model.specs.declared.{refusal.Refusal.TheVariants.{SelfFailed}, reply.Reply.{Reply}, reply.Reply.TheVariants.{Refused, Revoked, Started}}
 use Rattle.ulfm_model.specs.{Answers.{CallAdds, polled_by, traits_of}, History.{History, entries_by, failures, has}}
 use Rattle.ulfm_model.specs.{Records.{Held, Record, held_at, is_shrink}, Runs.{Did}, Terms.{comm_of}}
-use Rattle.ulfm_words.specs.Steps.{IsView, Sight, View, view_of}
+use Rattle.ulfm_words.specs.Steps.{IsView, Sight, TriesFurther, View, view_at, over}
+use Rattle.ulfm_steps.specs.Settles.{WasTried}
 use Rattle.ulfm_comm.specs.{Look.{JustLooked}, StepsLeft.{FewerLeft, MakesStep, Spends, steps_left}}
 use Rattle.ulfm_comm.specs.Missing.{AnsweredNow, AnswersMissing, FindsMissing, FoundNow, midway}
-use Rattle.ulfm_comm.specs.{AlsoLeft.{AlsoTurns, FindsSetIn, also_left}, Known.{KnowsIn, KnowsNext}, Requests.{BlocksStand, LeavesSet, may_cache}}
+use Rattle.ulfm_comm.specs.{AlsoLeft.{AlsoTurns, FindsSetIn, also_left}, Known.{KnowsIn, KnowsNext}, Requests.{BlocksStand, LeavesSet}, Wings.{IsOwnPlace, IsPlaceSet, MayTry, WingsSettled}}
 use Rattle.ulfm_comm.specs.Local.{Local, local, stance_of}
 use Rattle.ulfm_comm.specs.Phase.{Answered, UnderWay, under_way, is_looking, next_step, IsFurther, IsPast, LeadsTo, NextIs, reply_in, Stands, Turns}
-use Rattle.ulfm_comm.specs.declared.{phases.phase.Next.{Next}, phases.phase.Next.TheVariants.{Ends}, phases.phase.Phase.{Phase}}
+use Rattle.ulfm_comm.specs.declared.{phases.phase.Next.{Next}, phases.phase.Next.TheVariants.{Ends, Goes}, phases.phase.Phase.{Phase}}
 use Rattle.ulfm_comm.specs.declared.phases.phase.Phase.TheVariants.{Over, Begun, Looking, Settling, Arriving, Revoking, Marking, ReadingOn}
 use Rattle.ulfm_comm.specs.declared.phases.phase.Phase.TheVariants.{Spawning}
 
@@ -33,13 +34,13 @@ pub record Makes {P : Type 0} (look : List ℕ) (own : Record) (asked : Call P) 
 
 -- the look of a call has just ended, whenever the call began
 abbrev pub HasJustLooked : {P : Type 0} → (P → P → P) → Call P → Local P → Type 0
-HasJustLooked {P} meld asked now = (old : Record) × (before : Sight P) × JustLooked meld false asked (local old (view_of now.view.words before)) now
+HasJustLooked {P} meld asked now = (old : Record) × (before : Sight P) × JustLooked meld false asked (local old (view_at now.view.words before)) now
 
 -- what comes next leads on from the end of the look, also where nobody else steps
 abbrev pub FollowsLook : {P : Type 0} → (P → P → P) → Call P → Local P → Next P → Record → Type 0
 FollowsLook {P} meld asked now next new =
-    (group : List ℕ) (alone : Bool) (old : Record) (before : Sight P) → JustLooked meld alone asked (local old (view_of now.view.words before)) now
-    → NextIs meld alone asked (local old (view_of now.view.words before)) next group (local new now.view)
+    (group : List ℕ) (alone : Bool) (old : Record) (before : Sight P) → JustLooked meld alone asked (local old (view_at now.view.words before)) now
+    → NextIs meld alone asked (local old (view_at now.view.words before)) next group (local new now.view)
 
 -- nothing happened but others' events, or one event of the call's own after them
 pub record Adds {P : Type 0} (quiet : Bool) (look : List ℕ) (own : Record) (asked : Call P) (reply : Option (Reply P)) (old new : History P) : Type 0 where
@@ -80,7 +81,7 @@ pub record Stepped {P : Type 0} (meld : P → P → P) (quiet : Bool) (was : Und
   pub of : IsView meld new.view
   pub onward : old.view.pass.steps ≤ new.view.pass.steps
   pub cached : IsPrefix old.view.pass.cached new.view.pass.cached
-  pub caches : may_cache old.own was.asked ≡ false → new.view.pass.caches ≡ old.view.pass.caches
+  pub caches : TriesFurther (MayTry old.own was.asked) old.view.pass.caches new.view.pass.caches
   pub named : MakesStep (next_step was.phase) old.own.number (comm_of was.asked) old.view.pass new.view.pass
   pub nearer : FewerLeft (steps_left new.view.words.limits old.own was.asked was.phase) new.view.words.limits new.own was.asked next
   pub also : AlsoTurns new.view.words.limits was.asked was.phase (stance_of old) next (stance_of new)
@@ -92,6 +93,22 @@ pub record Stepped {P : Type 0} (meld : P → P → P) (quiet : Bool) (was : Und
   pub leads : LeadsTo was.phase next
   pub checks : FoundNow (FindsMissing meld quiet (midway was old) new) was.phase next
   pub early : AnsweredNow (AnswersMissing meld quiet (midway was old) new.own) was.phase next
+
+-- in a phase no wing stands without its place, but between the two words of a contribution, where the call's own may
+abbrev pub WingsIn : {P : Type 0} → Record → Call P → Phase P → View P → Type 0
+WingsIn own asked (Settling request offer) view = (c k r : ℕ) → WasTried view c k r → IsPlaceSet view c k r ⊎ IsOwnPlace own asked c k r
+WingsIn own asked _ view = WingsSettled view
+
+-- .. in what comes next
+abbrev pub WingsNext : {P : Type 0} → Record → Call P → Next P → View P → Type 0
+WingsNext own asked (Goes phase) view = WingsIn own asked phase view
+WingsNext own asked (Ends reply) view = WingsSettled view
+
+-- what a call's turn leaves of the words that no event sets: it tries to set no others than it may, and where nobody else steps, no wing without its
+-- place, but between the two words of its contribution
+pub record TriesTurn {P : Type 0} (quiet : Bool) (was : UnderWay P) (old : Local P) (next : Next P) (new : Local P) : Type 0 where
+  pub caches : TriesFurther (MayTry old.own was.asked) old.view.pass.caches new.view.pass.caches
+  pub wings : IsTrue quiet → WingsIn old.own was.asked was.phase old.view → WingsNext new.own was.asked next new.view
 
 -- what comes next, and the members of a communicator that the call makes
 pub record Coming (P : Type 0) : Type 0 where
@@ -107,7 +124,7 @@ coming next group = record { next = next; group = group }
 pub record TakesTurn {P : Type 0} (meld : P → P → P) (quiet whole : Bool) (was : UnderWay P) (old : Local P) (comes : Coming P) (new : Local P)
     : Type 0 where
   pub walks : Walks meld quiet old.own.number old.view new.view
-  pub caches : may_cache old.own was.asked ≡ false → new.view.pass.caches ≡ old.view.pass.caches
+  pub beside : TriesTurn quiet was old comes.next new
   pub named : whole ≡ false → MakesStep (next_step was.phase) old.own.number (comm_of was.asked) old.view.pass new.view.pass
   pub nearer : whole ≡ false
       → FewerLeft (steps_left new.view.words.limits old.own was.asked was.phase) new.view.words.limits new.own was.asked comes.next
@@ -132,7 +149,7 @@ pub record GoesOn {P : Type 0} (meld : P → P → P) (quiet whole : Bool) (was 
   pub early : AnsweredNow (AnswersMissing meld quiet (midway was old) new.own) was.phase comes.next
 
 -- The poll of a shrink has read on in the list of failures, behind what its look found. All blocks of its round are known to be set then.
-pub record HasReadOn {P : Type 0} (old : Record) (asked : Call P) (found seen : List ℕ) (cached : List Block) : Type 0 where
+pub record HasReadOn {P : Type 0} (old : Record) (asked : Call P) (found seen : List ℕ) (cached : List Beside) : Type 0 where
   pub shrinks : IsTrue (is_shrink (polled_by old asked))
   pub goes_on : IsPrefix found seen
   pub known : BlocksStand old asked cached
@@ -144,7 +161,7 @@ pub record RunsOn {P : Type 0} (meld : P → P → P) (alone : Bool) (asked : Ca
   pub of : IsView meld new.view
   pub begins : IsPrefix old.view.pass.seen new.view.pass.seen
   pub cached : IsPrefix old.view.pass.cached new.view.pass.cached
-  pub caches : may_cache old.own asked ≡ false → new.view.pass.caches ≡ old.view.pass.caches
+  pub beside : TriesTurn alone (under_way asked phase []) old (Ends reply) new
   pub onward : old.view.pass.steps ≤ new.view.pass.steps
   pub spends : new.view.pass.steps ≤ old.view.pass.steps + steps_left new.view.words.limits old.own asked phase
   pub also : FindsSetIn old.own asked old.view.pass.cached phase
@@ -152,8 +169,8 @@ pub record RunsOn {P : Type 0} (meld : P → P → P) (alone : Bool) (asked : Ca
   pub sees : KnowsIn old.own asked old.view.pass.cached phase
       → (new.own.seen ≡ old.own.seen) ⊎ HasReadOn old.own asked old.own.seen new.own.seen new.view.pass.cached
   pub knows : KnowsIn old.own asked old.view.pass.cached phase → LeavesSet old.own asked reply new.view.pass.cached
-  pub turns : (own : Record) → (before : Sight P) → Stands meld alone (local own (view_of old.view.words before)) (under_way asked phase []) old
-      → Answered meld alone asked (local own (view_of old.view.words before)) reply new
+  pub turns : (own : Record) → (before : Sight P) → Stands meld alone (local own (view_at old.view.words before)) (under_way asked phase []) old
+      → Answered meld alone asked (local own (view_at old.view.words before)) reply new
 
 -- a phase of one step ends its call, with this reply
 abbrev pub EndsTurn : {P : Type 0} → (P → P → P) → Bool → Call P → Phase P → Local P → Reply P → Local P → Type 0

@@ -3,7 +3,7 @@ use Rattle.std.specs.Prelude.{◌≡◌, ℕ, ◌+◌, ◌-◌, ◌*◌, ◌<◌
 use Rattle.ulfm_model.specs.declared.call.Call.TheVariants as call
 use Rattle.ulfm_model.specs.declared.{call.Call.{Call}, call.Request.{Request}, call.Request.TheVariants.{Agree, Shrink, Barrier}, limits.Limits.{Limits}}
 use Rattle.ulfm_model.specs.declared.place.Place.TheVariants.{List as ListAt, Comm as CommAt, Revoked as RevokedAt, Slot as SlotAt, Arrival as ArrivalAt}
-use Rattle.ulfm_model.specs.declared.block.Side.{Side}
+use Rattle.ulfm_model.specs.declared.{block.Side.{Side}, block.Wing.{Wing}}
 use Rattle.ulfm_model.specs.{Answers.{refusal_of}, History.{has}, Records.{Held, Record, held_at}}
 use Rattle.ulfm_model.specs.Terms.{comm_of, request_of}
 use Rattle.ulfm_words.specs.{Steps.{Sight}, declared.step.Site.{Site}}
@@ -11,15 +11,21 @@ use Rattle.ulfm_steps.specs.{Appends.{turns_left}, Arriving.{arrivals_left}, Blo
 use Rattle.ulfm_steps.specs.{Marks.{marks_left}, Turns.{IsOneStep, IsStepAt}}
 use Rattle.ulfm_comm.specs.declared.{phases.phase.Next.{Next}, phases.phase.Next.TheVariants.{Goes, Ends}, phases.phase.Phase.{Phase}}
 use Rattle.ulfm_model.specs.declared.step_name.StepName.{StepName}
-use Rattle.ulfm_comm.specs.declared.phases.phase.Phase.TheVariants.{Over, Begun, Looking, Settling, Arriving, Revoking, Asking, Peeking, Marking}
+use Rattle.ulfm_comm.specs.declared.phases.phase.Phase.TheVariants.{Over, Begun, Looking, Spreading, Settling, Arriving, Revoking, Asking, Peeking, Marking}
 use Rattle.ulfm_comm.specs.declared.phases.phase.Phase.TheVariants.{Reading, ReadingOn, Spawning, Waiting, Checking}
 use Rattle.ulfm_model.specs.declared.step_name.StepName.TheVariants as step
+
+-- A wing of communicator c: of a member's place, or of a block. A member's is set by the member alone.
+abbrev pub IsWingOf : ℕ → ℕ → Bool → Wing → Type 0
+IsWingOf c r load (Wing.Slot comm k member) = (comm ≡ c) × (load ≡ false → member ≡ r)
+IsWingOf c r load (Wing.Block b) = b.comm ≡ c
 
 -- one atomic step of this name, of rank r on communicator c: where it is made, and whether it is a load
 abbrev pub IsStepOf : {P : Type 0} → StepName → ℕ → ℕ → Sight P → Sight P → Type 0
 IsStepOf step.List r c old new = (i : ℕ) × IsOneStep (ListAt i) true old new
 IsStepOf step.Settle r c old new = (k : ℕ) × IsOneStep (SlotAt c k r) false old new
 IsStepOf step.Block r c old new = (k : ℕ) × (side : Side) × IsStepAt (Site.Block (block_at c k side)) true old new
+IsStepOf step.Wing r c old new = (wing : Wing) × (load : Bool) × IsWingOf c r load wing × IsStepAt (Site.Wing wing) load old new
 IsStepOf step.Mark r c old new = (k member : ℕ) × IsOneStep (SlotAt c k member) false old new
 IsStepOf step.Slot r c old new = (k member : ℕ) × IsOneStep (SlotAt c k member) true old new
 IsStepOf step.Cache r c old new = (k : ℕ) × (side : Side) × IsStepAt (Site.Block (block_at c k side)) false old new
@@ -43,8 +49,8 @@ group_of (Some x) = x.group
 -- how many steps the poll of a request makes after its look, at most, where the communicator has n members
 abbrev pub polling : Limits → ℕ → Option Request → ℕ
 polling limits n None = 0
-polling limits n (Some (Agree k)) = 3 * n + 2
-polling limits n (Some (Shrink k)) = 3 * n + 2 * limits.comms + 1
+polling limits n (Some (Agree k)) = 5 * n + 4
+polling limits n (Some (Shrink k)) = 5 * n + 2 * limits.comms + 3
 polling limits n (Some (Barrier k)) = n + 1
 
 -- how many a call makes after its look that goes on behind it, where a poll makes so many
@@ -52,8 +58,8 @@ abbrev pub behind : {P : Type 0} → ℕ → Call P → ℕ
 behind polls (call.Fail rank) = 0
 behind polls (call.GetFailed rank c) = 0
 behind polls (call.Ack rank c count) = 0
-behind polls (call.Agree rank c value) = 1
-behind polls (call.Shrink rank c) = 1
+behind polls (call.Agree rank c value) = 2
+behind polls (call.Shrink rank c) = 2
 behind polls (call.Barrier rank c) = 1
 behind polls (call.Poll rank c) = polls
 behind polls (call.Revoke rank c) = 1
@@ -89,12 +95,13 @@ abbrev pub steps_left : {P : Type 0} → Limits → Record → Call P → Phase 
 steps_left limits own asked Over = 0
 steps_left limits own asked Begun = max 1 (limits.ranks - length own.seen) + after_look limits own asked
 steps_left limits own asked Looking = limits.ranks - length own.seen + after_look limits own asked
+steps_left limits own asked (Spreading request offer) = 2
 steps_left limits own asked (Settling request offer) = 1
 steps_left limits own asked (Arriving round) = 1
 steps_left limits own asked Revoking = 1
 steps_left limits own asked Asking = 1
 steps_left limits own asked (Peeking peek shrinks) =
-    peeks_left (length (group_of (held_at own (comm_of asked)))) peek.side + after_peek limits own asked shrinks
+    peeks_left (length (group_of (held_at own (comm_of asked)))) peek + after_peek limits own asked shrinks
 steps_left limits own asked (Marking marks blocks shrinks) =
     let group = group_of (held_at own (comm_of asked)) in
     marks_left group own.seen marks.next + unread_cost blocks (length group) + after_round limits own shrinks

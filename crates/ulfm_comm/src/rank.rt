@@ -32,7 +32,7 @@ use ulfm_words::Words;
 
 // The communicators that a rank has room for: as many as there are context ids, of which no two that it holds have the same. So it
 // never takes memory to hold one more.
-const ROOM: usize = 32;
+const ROOM: usize = CtxMask::COUNT as usize;
 
 // What a rank keeps of its calls. Contracts see it as its record.
 #[derive(Drop)]
@@ -205,11 +205,11 @@ impl<P: Packed, A: Allocator> LocalState<P, A> {
         pass: &mut W::Pass,
         whole: bool,
     ) -> bool
-        requires of { IsView P.meld (view_of (W.name words.now) (W.sight pass.old)) }
+        requires of { IsView P.meld (view_of P.pack (W.name words.now) (W.sight pass.old)) }
         requires limits { self.old.limits ≡ (W.name words.now).limits }
         requires look { LookIs (W.name words.now).limits false self.old.seen (W.sight pass.old).seen }
-        ensures goes { Goes P.meld W.alone false (W.name words.now).limits.ranks (view_of (W.name words.now) (W.sight pass.old))
-            (view_of (W.name words.now) (W.sight pass.new)) }
+        ensures goes { Goes P.meld W.alone false (W.name words.now).limits.ranks (view_of P.pack (W.name words.now) (W.sight pass.old))
+            (view_of P.pack (W.name words.now) (W.sight pass.new)) }
         ensures takes { LookTakes whole (W.name words.now).limits self.old.seen result self.new.seen (W.sight pass.old) (W.sight pass.new) }
         ensures kept { self.new ≡ record self.old { seen = self.new.seen } }
         ensures look { LookIs (W.name words.now).limits result self.new.seen (W.sight pass.new).seen }
@@ -231,13 +231,13 @@ impl<P: Packed, A: Allocator> LocalState<P, A> {
         count: u16,
         whole: bool,
     )
-        requires of { IsView P.meld (view_of (W.name words.now) (W.sight pass.old)) }
+        requires of { IsView P.meld (view_of P.pack (W.name words.now) (W.sight pass.old)) }
         requires limits { self.old.limits ≡ (W.name words.now).limits }
         requires may { (x : Held) × (held_at self.old comm ≡ Some x) × MayReadOn x.group count self.old.seen (failures (W.sight pass.old).seen)
             × AtFailure x.group count on.old self.old.seen }
         requires more { on.old.found < count }
-        ensures goes { Goes P.meld W.alone false (W.name words.now).limits.ranks (view_of (W.name words.now) (W.sight pass.old))
-            (view_of (W.name words.now) (W.sight pass.new)) }
+        ensures goes { Goes P.meld W.alone false (W.name words.now).limits.ranks (view_of P.pack (W.name words.now) (W.sight pass.old))
+            (view_of P.pack (W.name words.now) (W.sight pass.new)) }
         ensures takes { ReadOnTakes whole (W.name words.now).limits self.old.seen self.new.seen (W.sight pass.old) (W.sight pass.new) }
         ensures further { (W.sight pass.new).steps + length self.old.seen ≡ (W.sight pass.old).steps + length self.new.seen }
         ensures kept { self.new ≡ record self.old { seen = self.new.seen } }
@@ -299,13 +299,13 @@ impl<P: Packed, A: Allocator + Copy> LocalState<P, A> {
         whole: bool,
         group: &mut Vec<u16, A>,
     ) -> Spawned
-        requires of { IsView P.meld (view_of (W.name words.now) (W.sight pass.old)) }
+        requires of { IsView P.meld (view_of P.pack (W.name words.now) (W.sight pass.old)) }
         requires may { (k : ℕ) × MayGoSpawning P.meld (W.name words.now).limits (W.sight pass.old).seen comm k append.old }
         requires holds { MayHold self.old comm context (length group.old.items) }
         ensures spawns { (k : ℕ) → append.old.item ≡ OfComm comm k
             → SpawnIs P.meld W.alone (target comm k context group.old.items) (seeking append.old
-            (local self.old (view_of (W.name words.now) (W.sight pass.old)))) result (seeking append.new
-            (local self.new (view_of (W.name words.now) (W.sight pass.new)))) }
+            (local self.old (view_of P.pack (W.name words.now) (W.sight pass.old)))) result (seeking append.new
+            (local self.new (view_of P.pack (W.name words.now) (W.sight pass.new)))) }
         ensures takes { SpawnTakes whole (W.name words.now).limits append.old result append.new (W.sight pass.old) (W.sight pass.new) }
         ensures kept { result ≡ Unknown → group.new.items ≡ group.old.items }
         ensures done { whole ≡ true → result ≢ Unknown }
@@ -408,7 +408,7 @@ impl<P: Packed, A: Allocator> Rank<P, A> {
         Some(&x.group)
     }
 
-    /// The context id of a communicator, 0 to 31; `None` where the rank doesn't hold the communicator. No two communicators that it holds
+    /// The context id of a communicator, 0 to 63; `None` where the rank doesn't hold the communicator. No two communicators that it holds
     /// have the same id. It makes no atomic step.
     ///
     /// ```

@@ -98,7 +98,7 @@ where
     /// assert!(rt; world.fail(&mut pass, 1) == Ok(true));
     /// ```
     pub fn pass(&self, alloc: A) -> Result<W::Pass, AllocError>
-        ensures { IfOk result (λ p. IsNew P.meld (view_of self.now (W.sight p))) }
+        ensures { IfOk result (λ p. IsNew P.meld (view_of P.pack self.now (W.sight p))) }
     {
         self.words.pass(alloc)
     }
@@ -112,8 +112,8 @@ where
     /// world.learn(&mut other, &world.told(&pass));
     /// ```
     pub fn told(&self, pass: &W::Pass) -> W::Told
-        requires of { IsView P.meld (view_of self.now (W.sight pass.now)) }
-        ensures { Tells W.tells_all (view_of self.now (W.sight pass.now)) (W.heard result) }
+        requires of { IsView P.meld (view_of P.pack self.now (W.sight pass.now)) }
+        ensures { Tells W.tells_all (view_of P.pack self.now (W.sight pass.now)) (W.heard result) }
     {
         self.words.told(pass)
     }
@@ -128,10 +128,10 @@ where
     /// world.learn(&mut other, &told);
     /// ```
     pub fn learn(&self, pass: &mut W::Pass, told: &W::Told)
-        requires of { IsView P.meld (view_of self.now (W.sight pass.old)) }
+        requires of { IsView P.meld (view_of P.pack self.now (W.sight pass.old)) }
         requires told { (W.heard told.now).name ≡ self.now }
-        ensures { Learns P.meld W.alone (W.heard told.now) (view_of self.now (W.sight pass.old))
-            (view_of self.now (W.sight pass.new)) }
+        ensures { Learns P.meld W.alone (W.heard told.now) (view_of P.pack self.now (W.sight pass.old))
+            (view_of P.pack self.now (W.sight pass.new)) }
     {
         self.words.learn(pass, told)
     }

@@ -21,7 +21,7 @@ use ulfm_model::refusal::Refusal;
 use ulfm_model::reply::Reply;
 use ulfm_words::{PlainWords, Step};
 
-pub(crate) fn agreed(bits: u32, failed: u16, raised: bool) -> Reply<FlagAnd> {
+pub(crate) fn agreed(bits: u64, failed: u16, raised: bool) -> Reply<FlagAnd> {
     let value = FlagAnd { bits };
     Reply::Agreed {
         value,
@@ -129,10 +129,13 @@ fn beside_a_flag(
 
 #[test]
 fn own_place_is_taken(rt: HostRuntime) -> Result<(), Fail> {
-    // Just before the exchange: the look makes one load.
+    // Just before the exchange of the wing: the look makes one load.
     let mut first = beside_a_flag(&rt, rt.alloc(), THREE, 0, 1)?;
     let refused = first.iagree(0, FlagAnd { bits: 0x3 });
     assert!(rt; refused == Err(Refusal::Twice));
+    // Just behind it: the other finds the wing set, and doesn't come.
+    let mut first = beside_a_flag(&rt, rt.alloc(), THREE, 0, 2)?;
+    assert!(rt; first.iagree(0, FlagAnd { bits: 0x3 }) == Ok(()));
     Ok(())
 }
 
@@ -151,6 +154,7 @@ fn shrink_offers_free_ids(rt: HostRuntime) -> Result<(), Fail> {
             rank: 0,
         },
         word: 0x01ff_ffff_fc00_000d,
+        half: 0xffff_ffff,
         by: Caller::Rank(0),
     };
     assert!(rt; first.pass().nth(1) == Some(offered));
@@ -265,9 +269,9 @@ fn shrinks_once_memory_is_there(rt: HostRuntime) -> Result<(), Fail> {
 
 #[test]
 fn agree_meets_a_shrink(rt: HostRuntime) -> Result<(), Fail> {
-    // Just before the place of rank 1 is read: the declaration makes two steps, the start of the shrink three, the look one load,
-    // one mark is made, and the first place is read.
-    let mut first = beside_a_flag(&rt, rt.alloc(), THREE_COMMS, 1, 8)?;
+    // Just before the place of rank 1 is read: the declaration makes two steps, the start of the shrink four, the look one load, both
+    // blocks are loaded, one mark is made, and the first place and its wing are read.
+    let mut first = beside_a_flag(&rt, rt.alloc(), THREE_COMMS, 1, 12)?;
     assert!(rt; first.fail(2) == Ok(true));
     assert!(rt; first.ishrink(0) == Ok(()));
     assert!(rt; first.poll(0) == Err(Refusal::Mismatch));

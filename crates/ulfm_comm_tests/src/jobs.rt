@@ -87,9 +87,9 @@ fn disturbed(alloc: Global, steps: u32) -> Result<Disturbed, Fail> {
 }
 
 /// Such a job, in which rank 1 was declared, in two steps, and then the others started a shrink of the world, each in two steps to
-/// look and one to contribute: four events. The other comes after so many further steps.
+/// look and two to contribute: four events. The other comes after so many further steps.
 fn shrinking(rt: &impl Abort, alloc: Global, steps: u32) -> Result<Disturbed, Fail> {
-    let mut job = disturbed(alloc, steps.saturating_add(11))?;
+    let mut job = disturbed(alloc, steps.saturating_add(14))?;
     let mut group = Vec::new(alloc);
     assert!(rt; apply(&mut job, Asked::Fail(1), &mut group)? == Reply::Declared);
     for rank in [3, 0, 2] {
@@ -99,7 +99,7 @@ fn shrinking(rt: &impl Abort, alloc: Global, steps: u32) -> Result<Disturbed, Fa
     Ok(job)
 }
 
-/// The poll of rank 3 takes one step to look, one to load the round's only block, one to mark rank 1, four to read the block and one to
+/// The poll of rank 3 takes one step to look, one to load the round's only block, one to mark rank 1, seven to read the block and two to
 /// cache it, and then a load and an exchange of the first place in the list of communicators. The other comes after so many of them: the
 /// communicator is made in this name, and all ranks have it.
 fn spawn_after(rt: &impl Abort, alloc: Global, steps: u32, by: Caller) -> Result<(), Fail> {
@@ -128,8 +128,8 @@ fn one_spawn(rt: HostRuntime) -> Result<(), Fail> {
     spawn_after(&rt, rt.alloc(), 2, Caller::Rank(3))?;
     spawn_after(&rt, rt.alloc(), 3, Caller::Rank(2))?;
     // Just before the exchange, and just after it.
-    spawn_after(&rt, rt.alloc(), 9, Caller::Rank(2))?;
-    spawn_after(&rt, rt.alloc(), 10, Caller::Rank(3))
+    spawn_after(&rt, rt.alloc(), 13, Caller::Rank(2))?;
+    spawn_after(&rt, rt.alloc(), 14, Caller::Rank(3))
 }
 
 /// Fills a heap, block by block, until it has no more than so many bytes of room. The room comes back with what is
@@ -208,7 +208,7 @@ fn apply_refused<'a>(
 
 #[test]
 fn shrinks_are_refused_memory(rt: HostRuntime) -> Result<(), Fail> {
-    let heap = LocalHeap::new(rt.alloc(), 1 << 14)?;
+    let heap = LocalHeap::new(rt.alloc(), 1 << 15)?;
     let mut job = Job::open(&heap, PlainWords::open(FOUR)?)?;
     // It has no room yet, so that the call's memory and the group's are refused.
     let mut group = Vec::new(&heap);
@@ -248,7 +248,7 @@ fn opens(rt: &impl Abort, heap: &LocalHeap) -> Result<bool, Fail> {
 
 #[test]
 fn opening_is_refused_memory(rt: HostRuntime) -> Result<(), Fail> {
-    for count in 0..1024usize {
+    for count in 0..2048usize {
         let heap = LocalHeap::new(rt.alloc(), count * 16)?;
         if opens(&rt, &heap)? {
             assert!(rt; count > 0);

@@ -100,11 +100,11 @@ fn looks_are_counted(rt: HostRuntime) -> Result<(), Fail> {
 #[test]
 fn polls_are_counted(rt: HostRuntime) -> Result<(), Fail> {
     let moves = [
-        Move::Agree(0, 2),
-        Move::Agree(1, 2),
-        Move::Agree(2, 2),
-        Move::Poll(0, 9),
-        Move::Poll(1, 3),
+        Move::Agree(0, 3),
+        Move::Agree(1, 3),
+        Move::Agree(2, 3),
+        Move::Poll(0, 15),
+        Move::Poll(1, 5),
     ];
     both(&rt, rt.alloc(), 3, &moves)
 }
@@ -113,10 +113,10 @@ fn polls_are_counted(rt: HostRuntime) -> Result<(), Fail> {
 fn marks_are_counted(rt: HostRuntime) -> Result<(), Fail> {
     let moves = [
         Move::Fail(2),
-        Move::Agree(0, 3),
-        Move::Agree(1, 3),
-        Move::Poll(0, 10),
-        Move::Poll(1, 3),
+        Move::Agree(0, 4),
+        Move::Agree(1, 4),
+        Move::Poll(0, 15),
+        Move::Poll(1, 5),
     ];
     both(&rt, rt.alloc(), 3, &moves)
 }
@@ -124,12 +124,12 @@ fn marks_are_counted(rt: HostRuntime) -> Result<(), Fail> {
 #[test]
 fn single_blocks_are_counted(rt: HostRuntime) -> Result<(), Fail> {
     let moves = [
-        Move::Agree(0, 2),
-        Move::Agree(1, 2),
-        Move::Agree(2, 2),
-        Move::Agree(3, 2),
-        Move::Poll(0, 7),
-        Move::Poll(1, 2),
+        Move::Agree(0, 3),
+        Move::Agree(1, 3),
+        Move::Agree(2, 3),
+        Move::Agree(3, 3),
+        Move::Poll(0, 12),
+        Move::Poll(1, 3),
     ];
     both(&rt, rt.alloc(), 4, &moves)
 }

@@ -49,7 +49,7 @@ fn rest_of<'a>(
 /// A call that begins takes no memory, whichever it is.
 #[test]
 fn beginning_takes_no_memory(rt: HostRuntime) -> Result<(), Fail> {
-    let heap = LocalHeap::new(rt.alloc(), 1 << 15)?;
+    let heap = LocalHeap::new(rt.alloc(), 1 << 16)?;
     let mut play = open(&heap, limits(9, 2))?;
     let verbs = [
         Verb::Get,

@@ -4,7 +4,7 @@ ghost use Rattle.std.specs.List.{AllByRecursion};
 ghost use Rattle.ulfm_model.specs.Answers.{traits_of};
 ghost use Rattle.ulfm_model.specs.Records.{Fits};
 ghost use Rattle.ulfm_model.specs.declared.event.Caller.TheVariants.{Rank as OfRank};
-ghost use Rattle.ulfm_words.specs.Steps.{view_of, IsNew, IsView};
+ghost use Rattle.ulfm_words.specs.Steps.{over, view_of, IsNew, IsView};
 ghost use Rattle.ulfm_comm_tests.specs.Playing.{IsPlay, Plays};
 ghost use Rattle.ulfm_comm.specs.{Counts.{records_of}, Phase.{Waits}};
 
@@ -76,9 +76,9 @@ impl<P: Packed, A: Allocator + Copy> Player<P, A> {
         comm: u16,
         verb: Verb<P>,
     ) -> bool
-        requires of { IsView P.meld (view_of world.now (W.sight pass.now)) }
-        requires sits { Plays P.meld world.now (W.sight pass.now) self.old }
-        ensures sits { Plays P.meld world.now (W.sight pass.now) self.new }
+        requires of { IsView P.meld (view_of P.pack world.now (W.sight pass.now)) }
+        requires sits { Plays P.meld (over P.pack world.now) (W.sight pass.now) self.old }
+        ensures sits { Plays P.meld (over P.pack world.now) (W.sight pass.now) self.new }
     {
         let _ = world;
         let _ = pass;
@@ -98,11 +98,11 @@ impl<P: Packed, A: Allocator + Copy> Player<P, A> {
         world: &World<W, P, A>,
         pass: &mut W::Pass,
     ) -> Option<Reply<P>>
-        requires of { IsView P.meld (view_of world.now (W.sight pass.old)) }
-        requires sits { Plays P.meld world.now (W.sight pass.old) self.old }
-        ensures of { IsView P.meld (view_of world.now (W.sight pass.new)) }
+        requires of { IsView P.meld (view_of P.pack world.now (W.sight pass.old)) }
+        requires sits { Plays P.meld (over P.pack world.now) (W.sight pass.old) self.old }
+        ensures of { IsView P.meld (view_of P.pack world.now (W.sight pass.new)) }
         ensures waits { Waits false (W.sight pass.old) (W.sight pass.new) }
-        ensures sits { Plays P.meld world.now (W.sight pass.new) self.new }
+        ensures sits { Plays P.meld (over P.pack world.now) (W.sight pass.new) self.new }
     {
         let Some(mut doing) = self.doing.take() else {
             return None;
@@ -125,11 +125,11 @@ impl<P: Packed, A: Allocator + Copy> Player<P, A> {
         pass: &mut W::Pass,
         comm: u16,
     ) -> Option<Result<bool, Refusal>>
-        requires of { IsView P.meld (view_of world.now (W.sight pass.old)) }
-        requires sits { Plays P.meld world.now (W.sight pass.old) self.old }
-        ensures of { IsView P.meld (view_of world.now (W.sight pass.new)) }
+        requires of { IsView P.meld (view_of P.pack world.now (W.sight pass.old)) }
+        requires sits { Plays P.meld (over P.pack world.now) (W.sight pass.old) self.old }
+        ensures of { IsView P.meld (view_of P.pack world.now (W.sight pass.new)) }
         ensures waits { Waits false (W.sight pass.old) (W.sight pass.new) }
-        ensures sits { Plays P.meld world.now (W.sight pass.new) self.new }
+        ensures sits { Plays P.meld (over P.pack world.now) (W.sight pass.new) self.new }
     {
         match self.doing {
             Some(_) => None,
@@ -145,9 +145,9 @@ fn seats_of<P: Packed, A: Allocator + Copy, W: Words<P, A>>(
     pass: &W::Pass,
     ranks: Vec<Rank<P, A>, A>,
 ) -> Result<Vec<Player<P, A>, A>, AllocError>
-    requires new { IsNew P.meld (view_of world.now (W.sight pass.now)) }
+    requires new { IsNew P.meld (view_of P.pack world.now (W.sight pass.now)) }
     requires fits { AllByRecursion (Fits P.meld world.now.limits []) (records_of ranks.items) }
-    ensures { IfOk result (λ seats. IsPlay P.meld world.now (W.sight pass.now) seats.items) }
+    ensures { IfOk result (λ seats. IsPlay P.meld (over P.pack world.now) (W.sight pass.now) seats.items) }
 {
     let _ = world;
     let _ = pass;
@@ -168,14 +168,14 @@ pub(crate) struct Play<W: Words<P, A>, P: Packed, A: Allocator> {
 }
 
 impl<W: Words<P, A>, P: Packed, A: Allocator> Model for Play<W, P, A> {
-    ghost use Rattle.ulfm_words.specs.Steps.{Name};
+    ghost use Rattle.ulfm_words.specs.Steps.{Name, over};
     ghost use Rattle.ulfm_comm_tests.specs.Playing.{IsPlay};
 
     ghost Value = { Name };
 
     ghost view = { λ a. a.world };
 
-    ghost invariant = { λ a. IsPlay P.meld a.world (W.sight a.pass) a.seats.items };
+    ghost invariant = { λ a. IsPlay P.meld (over P.pack a.world) (W.sight a.pass) a.seats.items };
 }
 
 impl<W, P: Packed, A: Allocator + Copy> Play<W, P, A>

@@ -15,6 +15,7 @@ use ulfm_model::refusal::Refusal;
 use ulfm_model::reply::Reply;
 use ulfm_model::step_name::StepName::{
     self, Arrival, Arrive, Block, Cache, Comm, List, Mark, Revocation, Revoke, Settle, Slot, Spawn,
+    Wing,
 };
 use ulfm_words::{PlainWords, Words};
 
@@ -48,7 +49,7 @@ fn open(alloc: Global, limits: Limits) -> Result<Plain, Fail> {
     Play::open(alloc, PlainWords::open(limits)?)
 }
 
-fn agree(bits: u32) -> Verb<FlagAnd> {
+fn agree(bits: u64) -> Verb<FlagAnd> {
     Verb::Agree(FlagAnd { bits })
 }
 
@@ -200,7 +201,7 @@ fn late_arrival(rt: HostRuntime) -> Result<(), Fail> {
 #[test]
 fn reads_on_after_its_look(rt: HostRuntime) -> Result<(), Fail> {
     let moves = [
-        Move::Call(0, 0, Verb::Shrink, &[List, Settle], Reply::Started),
+        Move::Call(0, 0, Verb::Shrink, &[List, Wing, Settle], Reply::Started),
         Move::Begin(0, 0, Verb::Poll),
         // The look makes one load, and both blocks are loaded.
         Move::Before(0, Slot, 3),
@@ -210,7 +211,13 @@ fn reads_on_after_its_look(rt: HostRuntime) -> Result<(), Fail> {
         // Rank 1 marks rank 2, so that the round is decided, and makes the communicator.
         Move::Begin(1, 0, Verb::Poll),
         Move::Finish(1, PAIR),
-        Move::FinishBy(0, &[Slot, Slot, Cache, Slot, Slot, Cache, List, Comm], PAIR),
+        Move::FinishBy(
+            0,
+            &[
+                Slot, Wing, Slot, Wing, Wing, Cache, Slot, Wing, Slot, Wing, Cache, List, Comm,
+            ],
+            PAIR,
+        ),
     ];
     let mut play = open(rt.alloc(), limits(3, 2, 2))?;
     goes(&rt, rt.alloc(), &mut play, &moves)
@@ -220,12 +227,13 @@ fn reads_on_after_its_look(rt: HostRuntime) -> Result<(), Fail> {
 fn names_in_order(rt: HostRuntime) -> Result<(), Fail> {
     let group = Reply::FailedGroup { count: 2 };
     // The first look finds two, and each later one begins behind them.
-    let settles = &[List, Settle];
+    let settles = &[List, Wing, Settle];
     let reads = &[
-        List, Block, Block, Mark, Mark, Slot, Slot, Cache, Slot, Slot, Cache,
+        List, Block, Block, Mark, Mark, Slot, Wing, Slot, Wing, Cache, Slot, Slot, Wing, Cache,
     ];
     let spawns = &[
-        List, Block, Block, Mark, Mark, Slot, Slot, Cache, Slot, Slot, Cache, Comm, Spawn,
+        List, Block, Block, Mark, Mark, Slot, Wing, Slot, Wing, Cache, Slot, Slot, Wing, Cache,
+        Comm, Spawn,
     ];
     let arrives = &[List, Arrive];
     let waits = &[List, Arrival, Revocation];
@@ -252,14 +260,19 @@ fn names_in_order(rt: HostRuntime) -> Result<(), Fail> {
 
 #[test]
 fn cached_rounds(rt: HostRuntime) -> Result<(), Fail> {
-    let both = &[List, Block, Block, Slot, Slot, Cache, Slot, Slot, Cache];
+    let both = &[
+        List, Block, Block, Slot, Wing, Slot, Wing, Wing, Cache, Slot, Wing, Slot, Wing, Wing,
+        Cache,
+    ];
     let of_three = [
-        Move::Call(0, 0, agree(0x3), &[List, Settle], Reply::Started),
-        Move::Call(1, 0, agree(0x6), &[List, Settle], Reply::Started),
-        Move::Call(2, 0, agree(0x7), &[List, Settle], Reply::Started),
+        Move::Call(0, 0, agree(0x3), &[List, Wing, Settle], Reply::Started),
+        Move::Call(1, 0, agree(0x6), &[List, Wing, Settle], Reply::Started),
+        Move::Call(2, 0, agree(0x7), &[List, Wing, Settle], Reply::Started),
         Move::Call(0, 0, Verb::Poll, both, agreed(0x2, 0, false)),
-        // The round is cached: its poll ends after three steps.
+        // The round is cached: its poll ends after five steps.
         Move::Begin(1, 0, Verb::Poll),
+        Move::Step(1, None),
+        Move::Step(1, None),
         Move::Step(1, None),
         Move::Step(1, None),
         Move::Step(1, Some(agreed(0x2, 0, false))),
@@ -267,14 +280,22 @@ fn cached_rounds(rt: HostRuntime) -> Result<(), Fail> {
     let mut play = open(rt.alloc(), limits(3, 1, 2))?;
     goes(&rt, rt.alloc(), &mut play, &of_three)?;
     // All four members are in the only block.
-    let one = &[List, Block, Slot, Slot, Slot, Slot, Cache];
+    let one = &[
+        List, Block, Slot, Wing, Slot, Wing, Slot, Wing, Slot, Wing, Wing, Cache,
+    ];
     let of_four = [
-        Move::Call(0, 0, agree(0x3), &[List, Settle], Reply::Started),
-        Move::Call(1, 0, agree(0x6), &[List, Settle], Reply::Started),
-        Move::Call(2, 0, agree(0x7), &[List, Settle], Reply::Started),
-        Move::Call(3, 0, agree(0xf), &[List, Settle], Reply::Started),
+        Move::Call(0, 0, agree(0x3), &[List, Wing, Settle], Reply::Started),
+        Move::Call(1, 0, agree(0x6), &[List, Wing, Settle], Reply::Started),
+        Move::Call(2, 0, agree(0x7), &[List, Wing, Settle], Reply::Started),
+        Move::Call(3, 0, agree(0xf), &[List, Wing, Settle], Reply::Started),
         Move::Call(0, 0, Verb::Poll, one, agreed(0x2, 0, false)),
-        Move::Call(1, 0, Verb::Poll, &[List, Block], agreed(0x2, 0, false)),
+        Move::Call(
+            1,
+            0,
+            Verb::Poll,
+            &[List, Block, Wing],
+            agreed(0x2, 0, false),
+        ),
     ];
     let mut play = open(rt.alloc(), limits(4, 1, 2))?;
     goes(&rt, rt.alloc(), &mut play, &of_four)
@@ -380,7 +401,7 @@ fn agreements_as_whole(rt: HostRuntime) -> Result<(), Fail> {
             Reply::FailedGroup { count: 0 },
             1,
         ),
-        (Line::Ask(2, 0, agree(0x5)), Reply::Started, 2),
+        (Line::Ask(2, 0, agree(0x5)), Reply::Started, 3),
         (Line::Fail(2), Reply::Declared, 0),
         (Line::Fail(2), Reply::AlreadyFailed, 0),
         (
@@ -389,12 +410,12 @@ fn agreements_as_whole(rt: HostRuntime) -> Result<(), Fail> {
             2,
         ),
         (Line::Ask(0, 0, Verb::Ack(9)), Reply::Acked { count: 1 }, 1),
-        (Line::Ask(0, 0, agree(0xf)), Reply::Started, 2),
+        (Line::Ask(0, 0, agree(0xf)), Reply::Started, 3),
         refused(Line::Ask(0, 0, agree(0xf)), Refusal::Busy, 1),
-        (Line::Ask(0, 0, Verb::Poll), Reply::Pending, 6),
-        (Line::Ask(1, 0, agree(0x7)), Reply::Started, 3),
-        (Line::Ask(0, 0, Verb::Poll), agreed(0x5, 1, true), 10),
-        (Line::Ask(1, 0, Verb::Poll), agreed(0x5, 1, true), 3),
+        (Line::Ask(0, 0, Verb::Poll), Reply::Pending, 7),
+        (Line::Ask(1, 0, agree(0x7)), Reply::Started, 4),
+        (Line::Ask(0, 0, Verb::Poll), agreed(0x5, 1, true), 16),
+        (Line::Ask(1, 0, Verb::Poll), agreed(0x5, 1, true), 5),
         refused(Line::Ask(1, 0, Verb::Poll), Refusal::Idle, 1),
         refused(Line::Ask(0, 1, Verb::Get), Refusal::NoSuchComm, 1),
         (Line::Ask(2, 0, Verb::Poll), FAILED, 2),
@@ -440,17 +461,17 @@ fn barriers_as_whole(rt: HostRuntime) -> Result<(), Fail> {
 fn shrinks_as_whole(rt: HostRuntime) -> Result<(), Fail> {
     let script = [
         (Line::Fail(2), Reply::Declared, 0),
-        (Line::Ask(0, 0, Verb::Shrink), Reply::Started, 3),
-        (Line::Ask(0, 0, Verb::Poll), Reply::Pending, 6),
-        (Line::Ask(1, 0, Verb::Shrink), Reply::Started, 3),
-        (Line::Ask(0, 0, Verb::Poll), PAIR, 12),
-        (Line::Ask(1, 0, Verb::Poll), PAIR, 4),
-        (Line::Ask(0, 1, Verb::Shrink), Reply::Started, 2),
+        (Line::Ask(0, 0, Verb::Shrink), Reply::Started, 4),
+        (Line::Ask(0, 0, Verb::Poll), Reply::Pending, 7),
+        (Line::Ask(1, 0, Verb::Shrink), Reply::Started, 4),
+        (Line::Ask(0, 0, Verb::Poll), PAIR, 17),
+        (Line::Ask(1, 0, Verb::Poll), PAIR, 6),
+        (Line::Ask(0, 1, Verb::Shrink), Reply::Started, 3),
         refused(Line::Ask(0, 0, Verb::Shrink), Refusal::ShrinkOpen, 1),
-        (Line::Ask(0, 0, agree(0x1)), Reply::Started, 2),
-        (Line::Ask(1, 0, Verb::Shrink), Reply::Started, 2),
-        refused(Line::Ask(0, 0, Verb::Poll), Refusal::Mismatch, 10),
-        refused(Line::Ask(1, 0, Verb::Poll), Refusal::Mismatch, 3),
+        (Line::Ask(0, 0, agree(0x1)), Reply::Started, 3),
+        (Line::Ask(1, 0, Verb::Shrink), Reply::Started, 3),
+        refused(Line::Ask(0, 0, Verb::Poll), Refusal::Mismatch, 15),
+        refused(Line::Ask(1, 0, Verb::Poll), Refusal::Mismatch, 5),
         (Line::Ask(1, 1, Verb::Free), Reply::Freed, 1),
         refused(Line::Ask(1, 1, Verb::Free), Refusal::NoSuchComm, 1),
         refused(Line::Ask(1, 0, Verb::Free), Refusal::WorldKept, 1),
@@ -492,9 +513,27 @@ fn counts_stand_for_groups(rt: HostRuntime) -> Result<(), Fail> {
     let three = Reply::FailedGroup { count: 3 };
     let moves = [
         Move::Fail(3),
-        Move::Call(0, 0, Verb::Shrink, &[List, List, Settle], Reply::Started),
-        Move::Call(1, 0, Verb::Shrink, &[List, List, Settle], Reply::Started),
-        Move::Call(2, 0, Verb::Shrink, &[List, List, Settle], Reply::Started),
+        Move::Call(
+            0,
+            0,
+            Verb::Shrink,
+            &[List, List, Wing, Settle],
+            Reply::Started,
+        ),
+        Move::Call(
+            1,
+            0,
+            Verb::Shrink,
+            &[List, List, Wing, Settle],
+            Reply::Started,
+        ),
+        Move::Call(
+            2,
+            0,
+            Verb::Shrink,
+            &[List, List, Wing, Settle],
+            Reply::Started,
+        ),
         Move::Begin(0, 0, Verb::Poll),
         Move::Finish(0, made),
         Move::Fail(1),

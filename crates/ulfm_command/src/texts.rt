@@ -57,8 +57,9 @@ A call that can't be made is answered 'refused NUMBER NAME', and the script goes
   13 no-such-rank
 
 N is at most 9999, a rank at most 1023, a communicator at most 255, each in decimal without
-leading zeros. F is a flag of eight lower case hexadecimal digits. A line has at most 64
-bytes without its newline, and a script at most 100000 lines.
+leading zeros. F is a flag of eight or sixteen lower case hexadecimal digits; it is printed
+with eight where its upper half is 0. A line has at most 64 bytes without its newline, and a
+script at most 100000 lines.
 
 With --steps a script of single atomic steps is run, and its trace is printed. The first
 line is 'ulfm-steps 1 RANKS COMMS ROUNDS', and each further line is one of these:
@@ -69,8 +70,8 @@ line is 'ulfm-steps 1 RANKS COMMS ROUNDS', and each further line is one of these
   finish R        all steps of R's call
   fail R          rank R is declared failed, whole
 
-K is one of list, settle, arrive, revoke, revocation, block, mark, slot, cache, comm, spawn,
-arrival.
+K is one of list, settle, arrive, revoke, revocation, block, mark, slot, cache, wing, comm,
+spawn, arrival.
 
 With --echo each line is 'CALL -> REPLY', the call as the script spells it. A trace has its calls,
 so that --steps prints the same with --echo.
@@ -223,7 +224,7 @@ Exit statuses, and what standard error says:
 /// What help of `ulfm race` shows behind its options.
 pub(crate) const RACE_HELP: &str =
     "N is 1 to 64, K is 1 to 1000, and R is a rank, from 0, below N. In round k rank r contributes
-all ones but bit (r + k) mod 32. A race prints for each round, and for the shrink behind them
+32 ones but bit (r + k) mod 32. A race prints for each round, and for the shrink behind them
 
   round k agreed F failed N clean     the flags combined by AND, the size of the failed group,
   round k agreed F failed N raised    and whether an error was raised

@@ -272,7 +272,7 @@ impl<A: Allocator + Copy + Drop> Table<'_, A> {
         self.clear_cells()?;
         let at = self.place(row.lane);
         match row.line {
-            Line::Called(_) => {
+            Line::Called { .. } => {
                 self.set(at, b'+');
                 self.note_open(row.lane, true);
             }

@@ -9,7 +9,7 @@ use ulfm_model::call::{Call, comm_of};
 use ulfm_model::contribution::{Contribution, Offer};
 use ulfm_model::event::Event;
 use ulfm_model::reply::Reply;
-use ulfm_script::words::flag_digits;
+use ulfm_script::flag_digits;
 use ulfm_story::Row;
 use ulfm_trace_model::Line;
 
@@ -18,7 +18,7 @@ pub fn put_label<A: Allocator>(label: &mut Vec<u8, A>, row: &Row) -> Result<(), 
     ensures { OnOk result (Appends label.old.items label.new.items) }
 {
     match row.line {
-        Line::Called(asked) => label_call(label, &asked),
+        Line::Called { call: asked, .. } => label_call(label, &asked),
         Line::Looked { failures, .. } => say_counted(label, b"sees ", failures),
         Line::Happened {
             event: Some(event),
@@ -84,7 +84,7 @@ fn label_event<A: Allocator>(
     match *event {
         Event::Fail { .. } => say(label, &[Part::Text(b"declared")]),
         Event::Settle { given, .. } => match given.offer {
-            Offer::Flag(flag) => say(label, &[Part::Text(&flag_digits(flag))]),
+            Offer::Flag(flag) => say(label, &[Part::Text(flag_digits(flag).text())]),
             Offer::Ctx(_) => say(label, &[Part::Text(b"ids")]),
         },
         Event::Mark { .. } => say(label, &[Part::Text(b"left out")]),
@@ -104,7 +104,10 @@ fn label_reply<A: Allocator>(
     match *reply {
         Reply::Agreed { value, raised, .. } => {
             let word: &[u8] = if raised { b" raised" } else { b"" };
-            say(label, &[Part::Text(&flag_digits(value)), Part::Text(word)])
+            say(
+                label,
+                &[Part::Text(flag_digits(value).text()), Part::Text(word)],
+            )
         }
         Reply::Shrunk { comm, .. } => say_counted(label, b"gets ", comm),
         Reply::FailedGroup { count } => say_counted(label, b"failed ", count),
@@ -173,7 +176,7 @@ fn title_line<A: Allocator>(
     ensures { OnOk result (Appends title.old.items title.new.items) }
 {
     match *told {
-        Line::Called(_) => say(
+        Line::Called { .. } => say(
             title,
             &[Part::Text(b" calls "), Part::Text(behind_words(line, 1))],
         ),
@@ -299,7 +302,7 @@ fn title_given<A: Allocator>(
             )
         }
     };
-    say(title, &[Part::Text(words), Part::Text(&digits)])
+    say(title, &[Part::Text(words), Part::Text(digits.text())])
 }
 
 /// What is known by who contributes.

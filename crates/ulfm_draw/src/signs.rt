@@ -89,7 +89,7 @@ fn draw_sign<A: Allocator + Copy + Drop>(
     let x = drawn.layout.x(drawn.row.lane);
     let y = drawn.layout.y(drawn.index);
     match drawn.row.line {
-        Line::Called(_) => draw_dot(group, x, y),
+        Line::Called { .. } => draw_dot(group, x, y),
         Line::Looked { .. } => {
             let half = drawn.layout.scale.bar() / 2 + 2;
             group.put(Leaf::Across, b"look", &[x - half, y, x + half], b"")

@@ -1,3 +1,2 @@
 pub mod Echoing
-pub mod Spelling
 pub mod Taken

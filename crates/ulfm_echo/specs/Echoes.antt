@@ -1,28 +1,39 @@
 -- What running a script of calls writes where each reply stands behind its call.
-use Rattle.std.specs.Prelude.{◌≡◌, ℕ, List, [], ◌∷◌, ◌++◌, codes}
+use Rattle.std.specs.Prelude.{◌≡◌, ℕ, List, [], ◌∷◌, ◌++◌, codes, Result, Ok}
 use Rattle.ulfm_model.specs.{declared.limits.Limits.{Limits}, Runs.{new_state}}
 use Rattle.ulfm_script.specs.declared.header_kind.HeaderKind.TheVariants.{Calls}
+use Rattle.ulfm_script.specs.declared.line_kind.LineKind.{LineKind}
 use Rattle.ulfm_script.specs.{Calls.{ScriptCall, call_of}, Ends.{EndsAlone, KnownText, RunEnd}, Runs.{PrintsReply, ScriptState}, Scripts.{Language}}
-use Rattle.ulfm_script.specs.Spelling.{call_text}
+use Rattle.ulfm_script.specs.Steps.{◌>>=◌}
 
--- the line of a reply, behind its call's line and an arrow
-abbrev pub echoed_line : ScriptCall → List ℕ → List ℕ
-echoed_line call line = call_text call ++ (codes " -> " ++ line)
+-- a line, and the call that it asks for
+pub record Asked : Type 0 where
+  pub line : List ℕ
+  pub call : ScriptCall
+
+-- a line with its call, or its first fault
+abbrev pub with_line : List ℕ → Result ScriptCall LineKind → Result Asked LineKind
+with_line line read = read >>= λ call. Ok (record { line = line; call = call })
+
+-- the line of a reply, behind its call's own line and an arrow
+abbrev pub echoed_line : List ℕ → List ℕ → List ℕ
+echoed_line asking line = asking ++ (codes " -> " ++ line)
 
 -- calls one after another go from one state to another, and print these lines, each behind its call; without the calls these
-abbrev pub EchoesFrom : ScriptState → List ScriptCall → List ℕ → List ℕ → ScriptState → Type 0
+abbrev pub EchoesFrom : ScriptState → List Asked → List ℕ → List ℕ → ScriptState → Type 0
 EchoesFrom old [] out plain new = (out ≡ []) × (plain ≡ []) × (new ≡ old)
-EchoesFrom old (call ∷ calls) out plain new =
-    (next : ScriptState) × (line : List ℕ) × (more : List ℕ) × (rest : List ℕ) × PrintsReply old call next line
-    × (out ≡ echoed_line call line ++ more) × (plain ≡ line ++ rest) × EchoesFrom next calls more rest new
+EchoesFrom old (asked ∷ rest_asked) out plain new =
+    (next : ScriptState) × (line : List ℕ) × (more : List ℕ) × (rest : List ℕ) × PrintsReply old asked.call next line
+    × (out ≡ echoed_line asked.line line ++ more) × (plain ≡ line ++ rest) × EchoesFrom next rest_asked more rest new
 
 -- the lines of these calls on a new object of these limits, each behind its call
-abbrev pub PrintsEchoes : Limits → List ScriptCall → List ℕ → Type 0
+abbrev pub PrintsEchoes : Limits → List Asked → List ℕ → Type 0
 PrintsEchoes limits calls out = (plain : List ℕ) × (last : ScriptState) × EchoesFrom (new_state limits) calls out plain last
 
 -- scripts of calls, whose replies are printed behind their calls
 abbrev pub echo_scripts : Language
-echo_scripts = record { Item = ScriptCall; kind = Calls; read = call_of; Prints = PrintsEchoes; Finds = λ limits calls number kind out. ⊥ }
+echo_scripts =
+    record { Item = Asked; kind = Calls; read = λ line. with_line line (call_of line); Prints = PrintsEchoes; Finds = λ limits calls number kind out. ⊥ }
 
 -- a run through a buffer of its own, which reads at most 8192 bytes ahead: what the reader had and has left, what the writer had and has
 abbrev pub RunsEchoed : KnownText → KnownText → KnownText → KnownText → RunEnd → Type 0

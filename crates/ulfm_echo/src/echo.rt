@@ -10,8 +10,8 @@ use std::io::{Read, Write};
 use ulfm_laws::FlagAnd;
 use ulfm_model::{Call, Limits};
 use ulfm_script::{
-    HeaderKind, Interpreter, LastGroup, LineKind, Machine, RunFault, end_of, print_call,
-    print_reply, read_call, run_text,
+    HeaderKind, Interpreter, LastGroup, LineKind, Machine, RunFault, end_of, print_reply,
+    read_call, run_text,
 };
 
 /// The bytes of most calls with their replies.
@@ -72,6 +72,7 @@ impl<M: Machine<A>, A: Allocator + Copy> Interpreter<A> for EchoLines<M, A> {
             Ok(call) => {
                 answer(
                     &mut self.machine,
+                    line,
                     &call,
                     &mut self.group,
                     &mut self.last,
@@ -90,21 +91,22 @@ impl<M: Machine<A>, A: Allocator + Copy> Interpreter<A> for EchoLines<M, A> {
     ghost prints = { λ plan it limits calls out ran. (ran.0, M.state it.machine, ran.1) };
 }
 
-/// Answers a call by the machine, and makes the line that it prints, with the call before.
+/// Answers a line's call by the machine, and makes the line that it prints, with its own line before.
 fn answer<M: Machine<A>, A: Allocator>(
     machine: &mut M,
+    line: &[u8],
     call: &Call<FlagAnd>,
     group: &mut Vec<u16, A>,
     last: &mut LastGroup<A>,
     text: &mut Vec<u8, A>,
 ) -> Result<(), AllocError>
     requires { IsSpelled call.now }
-    ensures { OnOk result ((line : List ℕ) × PrintsReply (M.state machine.old) call.now (M.state machine.new) line
-        × (text.new.items ≡ echoed_line call.now line)) }
+    ensures { OnOk result ((told : List ℕ) × PrintsReply (M.state machine.old) call.now (M.state machine.new) told
+        × (text.new.items ≡ echoed_line line.now told)) }
 {
     let reply = machine.apply(call, group)?;
     text.clear();
-    print_call(text, call)?;
+    text.extend_from_slice(line)?;
     text.extend_from_slice(b" -> ")?;
     print_reply(text, &reply, group, last)?;
     text.push(b'\n')?;

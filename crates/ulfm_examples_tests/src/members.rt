@@ -366,8 +366,8 @@ fn in_turn_poll_in_turn(rt: HostRuntime) -> Result<(), Fail> {
     };
     let polled = ulfm_member::poll_in_turn(&mut first, &mut second, 0);
     assert!(rt; polled == (Ok(agreed), Ok(agreed)));
-    // With two members a round has one block: a load of the list of failures, and one of that block.
-    assert!(rt; second.last_steps() == 2);
+    // With two members a round has one block: a load of the list of failures, and two of that block.
+    assert!(rt; second.last_steps() == 3);
 
     Ok(())
 }

@@ -7,7 +7,7 @@ use ulfm_laws::{Acked, FlagAnd, Known};
 use ulfm_model::{
     Caller, Contribution, Limits, Offer, OpenFault, Place, Refusal, Slot, refusal_number,
 };
-use ulfm_words::{PlainWords, read_slot, slot_word};
+use ulfm_words::{PlainWords, read_slot, slot_words};
 
 #[test]
 fn plain_words_open(rt: HostRuntime) -> Result<(), Fail> {
@@ -39,7 +39,7 @@ fn plain_pass_nth(rt: HostRuntime) -> Result<(), Fail> {
 }
 
 #[test]
-fn summaries_slot_word(rt: HostRuntime) -> Result<(), Fail> {
+fn summaries_slot_words(rt: HostRuntime) -> Result<(), Fail> {
     let offer = Offer::Flag(FlagAnd { bits: 0x0f });
     let known = Known { count: 2 };
     let acked = Acked { count: 1 };
@@ -49,8 +49,8 @@ fn summaries_slot_word(rt: HostRuntime) -> Result<(), Fail> {
         known,
         acked,
     });
-    let word = slot_word(&slot);
-    assert!(rt; word == 0x0f << 25 | 1 << 14 | 2 << 3 | 1 << 1 | 1);
+    let words = slot_words(&slot);
+    assert!(rt; words == (0x0f << 25 | 1 << 14 | 2 << 3 | 1 << 1 | 1, 1));
 
     Ok(())
 }
@@ -60,7 +60,7 @@ fn summaries_read_slot(rt: HostRuntime) -> Result<(), Fail> {
     let known = Known { count: 2 };
     let acked = Acked { count: 1 };
 
-    let slot: Option<Slot<FlagAnd>> = read_slot(0x0f << 25 | 1 << 14 | 2 << 3 | 1 << 1 | 1);
+    let slot: Option<Slot<FlagAnd>> = read_slot(0x0f << 25 | 1 << 14 | 2 << 3 | 1 << 1 | 1, 1);
     let offer = Offer::Flag(FlagAnd { bits: 0x0f });
     assert!(rt;
         slot == Some(Slot::Given(Contribution {
@@ -70,7 +70,7 @@ fn summaries_read_slot(rt: HostRuntime) -> Result<(), Fail> {
         }))
     );
 
-    let none: Option<Slot<FlagAnd>> = read_slot(0);
+    let none: Option<Slot<FlagAnd>> = read_slot(0, 0);
     assert!(rt; none.is_none());
 
     Ok(())
@@ -131,7 +131,7 @@ fn meld_all_meld_all(rt: HostRuntime) -> Result<(), Fail> {
 
     let flags = [FlagAnd { bits: 0x0f }, FlagAnd { bits: 0x3c }];
     assert!(rt; meld_all(&flags) == FlagAnd { bits: 0x0c });
-    assert!(rt; meld_all(&none) == FlagAnd { bits: 0xffff_ffff });
+    assert!(rt; meld_all(&none) == FlagAnd { bits: u64::MAX });
 
     Ok(())
 }

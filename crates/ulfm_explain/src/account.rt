@@ -140,7 +140,7 @@ fn tell_call<A: Allocator + Copy>(
 ) -> Result<(), AllocError> {
     let by = Part::By(scene.caller);
     match (line, scene.begun) {
-        (Line::Called(_), Some(begun)) => account.note_asked(
+        (Line::Called { .. }, Some(begun)) => account.note_asked(
             &[
                 Part::Words(b"wrong: the call, since "),
                 by,

@@ -68,7 +68,7 @@ pub(crate) fn caller_of(asked: &Call<FlagAnd>) -> Caller {
 /// Whose line it is.
 pub(crate) fn line_caller(line: &Line<FlagAnd>) -> Caller {
     match *line {
-        Line::Called(asked) => caller_of(&asked),
+        Line::Called { call: asked, .. } => caller_of(&asked),
         Line::Looked { rank, .. } => Caller::Rank(rank),
         Line::Happened { by, .. } | Line::Replied { by, .. } => by,
     }
@@ -185,7 +185,7 @@ impl<A: Allocator + Copy> Scene<A> {
     /// Takes in a line.
     fn tell(&mut self, number: u32, line: Line<FlagAnd>) -> Result<(), AllocError> {
         match line {
-            Line::Called(asked) => {
+            Line::Called { call: asked, .. } => {
                 if caller_of(&asked) == self.caller {
                     self.begun = Some(Begun {
                         asked,

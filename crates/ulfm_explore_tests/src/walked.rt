@@ -6,7 +6,7 @@ use ulfm_schedules::walk;
 
 /// Programs that have every call, and every way to be declared.
 const PROGRAMS: [&str; 5] = [
-    "ulfm-explore 1 3 1 3\nmay fail 2\nrank 0 1\nagree 0 0000000f\nwait 0\nget 0\nack 0 2\nagree 0 00000006\nwait 0\nrank 2\nagree 0 00000007\nwait 0\n",
+    "ulfm-explore 1 3 1 3\nmay fail 2\nrank 0 1\nagree 0 f00000000000000f\nwait 0\nget 0\nack 0 2\nagree 0 00000006\nwait 0\nrank 2\nagree 0 3000000000000007\nwait 0\n",
     "ulfm-explore 1 3 3 4\nmay die 1\nmay fail 2\nrank all\nshrink cur\nwait cur\nisrevoked cur\nshrink cur\npoll cur\nwait cur\nfree 1\n",
     "ulfm-explore 1 4 2 3\nmay fail 3\nmost 1\nrank 0 1 2 3\nbarrier 0\nwait 0\nif done go on\nrevoke 0\nat on\nbarrier 0\nwait 0\nshrink 0\nwait 0\nbarrier cur\npoll cur\nwait cur\n",
     "ulfm-explore 1 2 1 2\nrank 0\nagree 0 0000000f\nfail 1\nwait 0\nfail 1\nrank 1\nshrink 0\nwait 0\nfail 0\nget 0\n",

@@ -18,19 +18,20 @@ call poll 2 0
 finish 2
 ";
 
-// Its steps. An agree makes a load for each failure that its rank doesn't know and one more, and an exchange: 2, 3 and 3. The poll by rank 0
-// makes a load, one of each block, the exchange of a mark that comes too late, and for each block a load of its two members and its cache, 10,
-// and that by rank 2 two loads: it is declared.
-const STEPS: u32 = 20;
+// Its steps. An agree makes a load for each failure that its rank doesn't know and one more, and two exchanges, of its wing and of its place: 3, 4
+// and 4. The poll by rank 0 makes a load, one of each block, the exchange of a mark that comes too late, and for each block two loads of each of
+// its two members, its wing's exchange and its cache, 16, and that by rank 2 two loads: it is declared.
+const STEPS: u32 = 29;
 
 // So many lines of its trace stand before a declaration behind each step, from none on.
-const BEFORE: [usize; 21] = [
-    1, 3, 8, 9, 10, 12, 13, 14, 16, 18, 18, 18, 18, 18, 18, 18, 18, 18, 19, 20, 22,
+const BEFORE: [usize; 30] = [
+    1, 3, 3, 8, 9, 10, 10, 12, 13, 14, 14, 16, 18, 18, 18, 18, 18, 18, 18, 18, 18, 18, 18, 18, 18,
+    18, 18, 19, 20, 22,
 ];
 
 // So many events come before it.
-const EVENTS: [u32; 21] = [
-    0, 0, 2, 2, 2, 3, 3, 3, 4, 4, 4, 4, 4, 4, 4, 4, 4, 4, 4, 4, 4,
+const EVENTS: [u32; 30] = [
+    0, 0, 0, 2, 2, 2, 2, 3, 3, 3, 3, 4, 4, 4, 4, 4, 4, 4, 4, 4, 4, 4, 4, 4, 4, 4, 4, 4, 4, 4,
 ];
 
 /// The trace, with what a declaration of a rank that the world doesn't have tells behind so many lines and events.

@@ -110,7 +110,7 @@ fn one_by_one(rt: HostRuntime) -> Result<(), Fail> {
     let mut script = Vec::new(rt.alloc());
     write_all(&mut script, "agree", 0)?;
     write_all(&mut script, "poll", 0)?;
-    declare_everywhere(&rt, rt.alloc(), &script, 70)
+    declare_everywhere(&rt, rt.alloc(), &script, 109)
 }
 
 #[test]
@@ -118,7 +118,7 @@ fn in_turns(rt: HostRuntime) -> Result<(), Fail> {
     let mut script = Vec::new(rt.alloc());
     write_mixed(&mut script, ["agree", "agree", "agree"])?;
     write_mixed(&mut script, ["poll", "poll", "poll"])?;
-    declare_everywhere(&rt, rt.alloc(), &script, 82)
+    declare_everywhere(&rt, rt.alloc(), &script, 129)
 }
 
 #[test]
@@ -129,7 +129,7 @@ fn acknowledged(rt: HostRuntime) -> Result<(), Fail> {
     write_all(&mut script, "ack", 0)?;
     write_mixed(&mut script, ["agree", "agree", "agree"])?;
     write_mixed(&mut script, ["poll", "poll", "poll"])?;
-    declare_everywhere(&rt, rt.alloc(), &script, 71)
+    declare_everywhere(&rt, rt.alloc(), &script, 101)
 }
 
 #[test]
@@ -139,7 +139,7 @@ fn shrunk(rt: HostRuntime) -> Result<(), Fail> {
     write_mixed(&mut script, ["poll", "poll", "poll"])?;
     write_all(&mut script, "agree", 1)?;
     write_all(&mut script, "poll", 1)?;
-    declare_everywhere(&rt, rt.alloc(), &script, 112)
+    declare_everywhere(&rt, rt.alloc(), &script, 172)
 }
 
 #[test]
@@ -148,7 +148,7 @@ fn revoked(rt: HostRuntime) -> Result<(), Fail> {
     write_mixed(&mut script, ["barrier", "barrier", "barrier"])?;
     write_mixed(&mut script, ["poll", "revoke", "poll"])?;
     write_all(&mut script, "isrevoked", 0)?;
-    declare_everywhere(&rt, rt.alloc(), &script, 77)
+    declare_everywhere(&rt, rt.alloc(), &script, 103)
 }
 
 #[test]
@@ -156,5 +156,5 @@ fn mismatched(rt: HostRuntime) -> Result<(), Fail> {
     let mut script = Vec::new(rt.alloc());
     write_mixed(&mut script, ["agree", "shrink", "shrink"])?;
     write_mixed(&mut script, ["poll", "poll", "poll"])?;
-    declare_everywhere(&rt, rt.alloc(), &script, 82)
+    declare_everywhere(&rt, rt.alloc(), &script, 129)
 }

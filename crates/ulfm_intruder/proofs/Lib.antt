@@ -1,2 +1,4 @@
+pub mod Halves
 pub mod Welcome
 pub mod Spawning
+pub mod Noted

@@ -1,8 +1,8 @@
 // Plain words into which another's event comes, for tests.
-ghost use Rattle.std.specs.Prelude.{◌≡◌, ◌<◌, ◌+◌, [], Some, IsTrue, length, false};
+ghost use Rattle.std.specs.Prelude.{◌≡◌, ◌<◌, ◌++◌, ◌∷◌, [], IsTrue, false};
 ghost use mathlib.Core.List.{IsPrefix};
 ghost use Rattle.ulfm_model.specs.Runs.{Did};
-ghost use Rattle.ulfm_words.specs.Pass.{plain_name, last_of};
+ghost use Rattle.ulfm_words.specs.Pass.{plain_name};
 ghost use Rattle.ulfm_words.specs.Steps.{view_of, IsView};
 ghost use Rattle.ulfm_intruder.specs.Intrusions.{is_welcome};
 
@@ -10,7 +10,7 @@ use crate::read_round::ReadRound;
 use std::alloc::{AllocError, Allocator, Global};
 use ulfm_laws::meld::Packed;
 use ulfm_laws::summary::Body;
-use ulfm_model::block::Block;
+use ulfm_model::block::{Block, Wing};
 use ulfm_model::contribution::Slot;
 use ulfm_model::event::{Caller, Entry, Event};
 use ulfm_model::limits::Limits;
@@ -19,7 +19,7 @@ use ulfm_steps::group::first_ranks;
 use ulfm_steps::{Append, Item};
 use ulfm_words::{
     Last, OpenWords, PlainPass, PlainTold, PlainWords, Site, Step, Trail, Words, set_arrival,
-    set_revocation, set_slot,
+    set_revocation, set_slot, slot_wing,
 };
 
 /// Plain words that aren't alone: just before a chosen step of a pass another's event comes, if it hasn't come before.
@@ -62,8 +62,7 @@ impl<P: Packed, A: Allocator> IntruderPass<P, A> {
     // A step of the pass's own.
     fn note(&mut self, at: Site, word: u64, load: bool)
         ensures plain { self.new.plain ≡ self.old.plain }
-        ensures count { length self.new.trail.log.items ≡ length self.old.trail.log.items + 1 }
-        ensures last { last_of self.new.trail.log.items ≡ Some (record { at = at; word = word; load = load }) }
+        ensures log { self.new.trail.log.items ≡ self.old.trail.log.items ++ (record { at = at; word = word; load = load }, load) ∷ [] }
     {
         self.trail = self.trail.and(&Last { at, word, load }, &load);
     }
@@ -72,11 +71,10 @@ impl<P: Packed, A: Allocator> IntruderPass<P, A> {
 impl<P: Packed> Intruder<P> {
     // Lets the event in where it is time.
     fn intrude<A: Allocator + Copy + Drop>(&self, pass: &mut IntruderPass<P, A>)
-        requires of { IsView P.meld (view_of (plain_name self.now.plain.limits) pass.old.plain) }
-        ensures of { IsView P.meld (view_of (plain_name self.now.plain.limits) pass.new.plain) }
+        requires of { IsView P.meld (view_of P.pack (plain_name self.now.plain.limits) pass.old.plain) }
+        ensures of { IsView P.meld (view_of P.pack (plain_name self.now.plain.limits) pass.new.plain) }
         ensures did { Did false [] pass.old.plain.seen pass.new.plain.seen }
         ensures cached { IsPrefix pass.old.plain.cached pass.new.plain.cached }
-        ensures caches { pass.new.plain.caches ≡ pass.old.plain.caches }
         ensures trail { pass.new.trail ≡ pass.old.trail }
     {
         match pass.left {
@@ -100,7 +98,10 @@ impl<P: Packed> Intruder<P> {
                 given,
             } => {
                 let put = Slot::Given(given);
-                let _ = set_slot(&self.plain, plain, by, comm, round, rank, put);
+                let wing = Wing::Slot { comm, round, rank };
+                if self.plain.set_wing(plain, wing, slot_wing(&put)).is_ok() {
+                    let _ = set_slot(&self.plain, plain, by, comm, round, rank, put);
+                }
             }
             Event::Arrive { comm, round, rank } => {
                 let _ = set_arrival(&self.plain, plain, by, comm, round, rank);
@@ -121,13 +122,12 @@ impl<P: Packed> Intruder<P> {
         parent: u16,
         round: u16,
     )
-        requires of { IsView P.meld (view_of (plain_name self.now.plain.limits) pass.old.plain) }
+        requires of { IsView P.meld (view_of P.pack (plain_name self.now.plain.limits) pass.old.plain) }
         requires world { parent ≡ 0 }
         requires round { round < self.now.plain.limits.rounds }
-        ensures of { IsView P.meld (view_of (plain_name self.now.plain.limits) pass.new.plain) }
+        ensures of { IsView P.meld (view_of P.pack (plain_name self.now.plain.limits) pass.new.plain) }
         ensures did { Did false [] pass.old.plain.seen pass.new.plain.seen }
         ensures cached { IsPrefix pass.old.plain.cached pass.new.plain.cached }
-        ensures caches { pass.new.plain.caches ≡ pass.old.plain.caches }
         ensures trail { pass.new.trail ≡ pass.old.trail }
     {
         let Ok(group) = first_ranks(pass.alloc, self.plain.limits.ranks) else {
@@ -147,6 +147,8 @@ impl<P: Packed> Intruder<P> {
 }
 
 impl<P: Packed, A: Allocator + Copy + Drop> Words<P, A> for Intruder<P> {
+    ghost use Rattle.std.specs.Prelude.{length};
+    ghost use Rattle.ulfm_words.specs.Pass.{caches_in, last_of};
     ghost use Rattle.ulfm_words.specs.Steps.{Sight};
 
     type Pass = IntruderPass<P, A>;
@@ -159,7 +161,7 @@ impl<P: Packed, A: Allocator + Copy + Drop> Words<P, A> for Intruder<P> {
       name = p.plain.name;
       seen = p.plain.seen;
       cached = p.plain.cached;
-      caches = p.plain.caches;
+      caches = caches_in p.trail.log.items;
       steps = length p.trail.log.items;
       last = last_of p.trail.log.items;
     } };
@@ -205,6 +207,27 @@ impl<P: Packed, A: Allocator + Copy + Drop> Words<P, A> for Intruder<P> {
             }
             Err(stood) => {
                 pass.note(Site::Block(block), stood, false);
+                Err(stood)
+            }
+        }
+    }
+
+    fn load_wing(&self, pass: &mut IntruderPass<P, A>, wing: Wing) -> u64 {
+        self.intrude(pass);
+        let word = pass.plain.load_wing(wing);
+        pass.note(Site::Wing(wing), word, true);
+        word
+    }
+
+    fn set_wing(&self, pass: &mut IntruderPass<P, A>, wing: Wing, word: u64) -> Result<(), u64> {
+        self.intrude(pass);
+        match pass.plain.set_wing(wing, word) {
+            Ok(()) => {
+                pass.note(Site::Wing(wing), word, false);
+                Ok(())
+            }
+            Err(stood) => {
+                pass.note(Site::Wing(wing), stood, false);
                 Err(stood)
             }
         }

@@ -13,9 +13,12 @@ use Rattle.ulfm_model.specs.declared.refusal.Refusal.TheVariants.{SelfFailed, No
 use Rattle.ulfm_model.specs.declared.refusal.Refusal.TheVariants.{IsRevoked, ProcFailed, WorldKept, NoSuchRank, OutOfMemory, Twice}
 use Rattle.ulfm_model.specs.{Answers.{traits_of}, Records.{Fits, Record, new_record}, Runs.{IsFailRun, IsRankStep, IsStep, State}}
 use Rattle.ulfm_model.proofs.{LeftRuns.{call_legal, call_number, fail_fits, fail_legal, span_begins}, Lists.{each_from}, Stable.{fits_stays}}
-use Rattle.ulfm_words.specs.Steps.{view_of, IsView, Name, Sight}
+use Rattle.ulfm_words.specs.Steps.{IsView, Over, Sight, view_at}
 use Rattle.ulfm_comm.specs.{Calls.{Calls, EndsBy, RunsOut, is_out_of_memory}, Counts.{Ranked, records_of}, Fails.{Fails}}
-use Rattle.ulfm_comm.proofs.CallRuns.{IsAloneCall, called_alone, called_run}
+use Rattle.ulfm_comm.proofs.{CallRuns.{IsAloneCall, called_alone, called_run}, Wings.{wings_stay}}
+use Rattle.ulfm_comm.specs.Wings.{WingsSettled}
+use Rattle.ulfm_words.proofs.Tried.{tries_none}
+use Rattle.ulfm_comm.proofs.Resting.{rests_on_none}
 use Rattle.ulfm_comm.proofs.InOrder.{count_is, each_set, number_at, rank_changed, rank_found, rank_missing}
 use Rattle.ulfm_comm.specs.Local.{local}
 use Rattle.ulfm_job.specs.Jobs.{crew, IsJob, StepsBy, state_seen}
@@ -25,11 +28,11 @@ pub at_error : {X E : Type 0} {Q : Type 0} (result : Result X E) → Q → OnErr
 at_error (Ok x) is = tt
 at_error (Err fault) is = is
 
-module _ {P : Type 0} (meld : P → P → P) (alone : Bool) (name : Name) (before : Sight P) (ranks : List Record) (job : IsJob meld name before ranks) where
+module _ {P : Type 0} (meld : P → P → P) (alone : Bool) (name : Over P) (before : Sight P) (ranks : List Record) (job : IsJob meld alone (view_at name before) ranks) where
   -- the record of a rank has changed
-  job_after : (i : ℕ) (d new : Record) (after : Sight P) → IsView meld (view_of name after) → Fits meld name.limits after.seen new → new.number ≡ (get_or ranks i d).number
-      → IsPrefix before.seen after.seen → IsJob meld name after (set ranks i new)
-  job_after i d new after of fits number begins =
+  job_after : (i : ℕ) (d new : Record) (after : Sight P) → IsView meld (view_at name after) → Fits meld name.limits after.seen new → new.number ≡ (get_or ranks i d).number
+      → IsPrefix before.seen after.seen → (IsTrue alone → WingsSettled (view_at name after)) → IsJob meld alone (view_at name after) (set ranks i new)
+  job_after i d new after of fits number begins wings =
       let still = each_from (Fits meld name.limits before.seen) (Fits meld name.limits after.seen)
       (λ x was. fits_stays meld name.limits before.seen after.seen x begins of.legal was) ranks job.sound.fits in
       record {
@@ -39,12 +42,13 @@ module _ {P : Type 0} (meld : P → P → P) (alone : Bool) (name : Name) (befor
           numbers = map-set_same (λ (x : Record). x.number) ranks i new d number ∙ job.sound.numbers;
           fits = each_set (Fits meld name.limits after.seen) ranks i new still fits;
         };
+        wings = wings;
       }
 
   module _ (i : ℕ) (d : Record) (below : i < length ranks) (new : Record) (after : Sight P) where
     -- where nobody else steps, its call is one step
     step_of : (asked : Call P) (reply : Reply P) → IsAloneCall meld name.limits before.seen after.seen (get_or ranks i d) asked reply new
-        → IsRankStep meld (state_seen name before ranks) i (Some (get_or ranks i d)) asked reply (state_seen name after (set ranks i new))
+        → IsRankStep meld (state_seen (view_at name before) ranks) i (Some (get_or ranks i d)) asked reply (state_seen (view_at name after) (set ranks i new))
     step_of asked reply (inl (refused, same, reply_is, kept)) =
         let with_both : _ → List Record → State P = λ h rs. record { limits = name.limits; history = h; records = rs } in
         inl (refused, reply_is, ap₂ with_both same (ap (set ranks i) kept ∙ set-get_or ranks i d))
@@ -54,36 +58,38 @@ module _ {P : Type 0} (meld : P → P → P) (alone : Bool) (name : Name) (befor
 
     -- a call of a rank
     pub calls_step : (asks : ℕ → Call P) (reply : Reply P) → (traits_of (asks i)).by ≡ Rank i
-        → Calls meld alone (asks (get_or ranks i d).number) (local (get_or ranks i d) (view_of name before)) reply (local new (view_of name after))
-        → StepsBy meld alone (asks i) (crew (view_of name before) ranks) reply (crew (view_of name after) (set ranks i new))
+        → Calls meld alone (asks (get_or ranks i d).number) (local (get_or ranks i d) (view_at name before)) reply (local new (view_at name after))
+        → StepsBy meld alone (asks i) (crew (view_at name before) ranks) reply (crew (view_at name after) (set ranks i new))
     calls_step asks reply by made =
         let asked = asks i in
-        let calls = subst (λ r. Calls meld alone (asks r) (local (get_or ranks i d) (view_of name before)) reply (local new (view_of name after)))
+        let calls = subst (λ r. Calls meld alone (asks r) (local (get_or ranks i d) (view_at name before)) reply (local new (view_at name after)))
         (number_at name.limits.ranks ranks job.sound.numbers i d below) made in
         let run = called_run meld alone name asked (get_or ranks i d) before reply new after calls in
         let begins = (call_legal meld name.limits alone before.seen after.seen (get_or ranks i d) asked reply new job.sound.legal run).0 in
         record {
           job = job_after i d new after calls.linearizes.of calls.linearizes.fits (call_number meld name.limits alone before.seen after.seen (get_or ranks i d) asked reply new run)
-              begins;
+              begins (λ here. calls.blocks.wings here (job.wings here));
           begins = begins;
           step = λ here.
-              subst (λ caller. IsStep meld (state_seen name before ranks) caller asked reply (state_seen name after (set ranks i new))) (sym by)
-              (subst (λ own. IsRankStep meld (state_seen name before ranks) i own asked reply (state_seen name after (set ranks i new)))
+              subst (λ caller. IsStep meld (state_seen (view_at name before) ranks) caller asked reply (state_seen (view_at name after) (set ranks i new))) (sym by)
+              (subst (λ own. IsRankStep meld (state_seen (view_at name before) ranks) i own asked reply (state_seen (view_at name after) (set ranks i new)))
               (sym (rank_found name.limits.ranks ranks job.sound.numbers i d below))
-              (step_of asked reply (called_alone meld alone name asked (get_or ranks i d) before reply new after calls here)));
+              (step_of asked reply (called_alone meld alone name asked (get_or ranks i d) before reply new after calls
+              (rests_on_none meld alone name asked (get_or ranks i d) before reply new after here calls (job.wings here)) here)));
         }
 
     -- a call that ran out of memory
-    pub out_begins : (asked : Call P) → RunsOut meld alone asked (local (get_or ranks i d) (view_of name before)) (local new (view_of name after)) → IsPrefix before.seen after.seen
+    pub out_begins : (asked : Call P) → RunsOut meld alone asked (local (get_or ranks i d) (view_at name before)) (local new (view_at name after)) → IsPrefix before.seen after.seen
     out_begins asked out = span_begins meld name.limits alone before.seen after.seen (Rank (get_or ranks i d).number) out.ran_out.run_out.span
 
-    pub out_job : (asked : Call P) → RunsOut meld alone asked (local (get_or ranks i d) (view_of name before)) (local new (view_of name after)) → IsJob meld name after (set ranks i new)
+    pub out_job : (asked : Call P) → RunsOut meld alone asked (local (get_or ranks i d) (view_at name before)) (local new (view_at name after)) → IsJob meld alone (view_at name after) (set ranks i new)
     out_job asked out = job_after i d new after out.ran_out.of out.ran_out.fits (ap (λ (w : Record). w.number) out.ran_out.run_out.record_is) (out_begins asked out)
+        (λ here. out.blocks.wings here (job.wings here))
 
     -- a call that is refused for any other reason
     pub refused_step : (asks : ℕ → Call P) (refusal : Refusal) → (traits_of (asks i)).by ≡ Rank i → (refusal ≡ OutOfMemory → ⊥)
-        → EndsBy meld alone (asks (get_or ranks i d).number) (local (get_or ranks i d) (view_of name before)) refusal (is_out_of_memory refusal) (local new (view_of name after))
-        → StepsBy meld alone (asks i) (crew (view_of name before) ranks) (Refused refusal) (crew (view_of name after) (set ranks i new))
+        → EndsBy meld alone (asks (get_or ranks i d).number) (local (get_or ranks i d) (view_at name before)) refusal (is_out_of_memory refusal) (local new (view_at name after))
+        → StepsBy meld alone (asks i) (crew (view_at name before) ranks) (Refused refusal) (crew (view_at name after) (set ranks i new))
     refused_step asks SelfFailed by other ends = calls_step asks (Refused SelfFailed) by ends
     refused_step asks NoSuchComm by other ends = calls_step asks (Refused NoSuchComm) by ends
     refused_step asks Busy by other ends = calls_step asks (Refused Busy) by ends
@@ -102,21 +108,21 @@ module _ {P : Type 0} (meld : P → P → P) (alone : Bool) (name : Name) (befor
 
   -- a call of a rank that the world doesn't have
   pub missing_step : (asked : Call P) (i : ℕ) → (traits_of asked).by ≡ Rank i → length ranks ≤ i
-      → StepsBy meld alone asked (crew (view_of name before) ranks) (Refused NoSuchRank) (crew (view_of name before) ranks)
+      → StepsBy meld alone asked (crew (view_at name before) ranks) (Refused NoSuchRank) (crew (view_at name before) ranks)
   missing_step asked i by above =
       let count = count_is name.limits.ranks ranks job.sound.numbers in
       record {
         job = job;
         begins = ([], append-nil before.seen);
         step = λ here.
-            subst (λ caller. IsStep meld (state_seen name before ranks) caller asked (Refused NoSuchRank) (state_seen name before ranks)) (sym by)
-            (subst (λ own. IsRankStep meld (state_seen name before ranks) i own asked (Refused NoSuchRank) (state_seen name before ranks))
+            subst (λ caller. IsStep meld (state_seen (view_at name before) ranks) caller asked (Refused NoSuchRank) (state_seen (view_at name before) ranks)) (sym by)
+            (subst (λ own. IsRankStep meld (state_seen (view_at name before) ranks) i own asked (Refused NoSuchRank) (state_seen (view_at name before) ranks))
             (sym (rank_missing name.limits.ranks ranks job.sound.numbers i (new_record name.limits 0) (omega (arith, above, count)))) (refl, refl));
       }
 
   -- a declaration
-  pub fails_step : (rank : ℕ) (reply : Reply P) (after : Sight P) → Fails meld alone rank (view_of name before) reply (view_of name after)
-      → StepsBy meld alone (Fail rank) (crew (view_of name before) ranks) reply (crew (view_of name after) ranks)
+  pub fails_step : (rank : ℕ) (reply : Reply P) (after : Sight P) → Fails meld alone rank (view_at name before) reply (view_at name after)
+      → StepsBy meld alone (Fail rank) (crew (view_at name before) ranks) reply (crew (view_at name after) ranks)
   fails_step rank reply after fails =
       record {
         job = record {
@@ -127,13 +133,15 @@ module _ {P : Type 0} (meld : P → P → P) (alone : Bool) (name : Name) (befor
             fits = each_from (Fits meld name.limits before.seen) (Fits meld name.limits after.seen)
                 (λ x was. fail_fits meld name.limits alone before.seen after.seen x rank reply fails.run was) ranks job.sound.fits;
           };
+          wings = λ here. wings_stay (view_at name before) (view_at name after) (fail_legal meld name.limits alone before.seen after.seen rank reply fails.run).0 (λ s. ⊥) (λ c k r never. never)
+              (tries_none before.caches after.caches fails.caches) (job.wings here);
         };
         begins = (fail_legal meld name.limits alone before.seen after.seen rank reply fails.run).0;
         step = λ here. by_alone alone here fails.run fails.at_end;
       }
     where
       by_alone : (b : Bool) → IsTrue b → (run : IsFailRun meld name.limits b before.seen after.seen rank reply) → run.span.point ≡ after.seen
-          → IsStep meld (state_seen name before ranks) Outside (Fail rank) reply (state_seen name after ranks)
+          → IsStep meld (state_seen (view_at name before) ranks) Outside (Fail rank) reply (state_seen (view_at name after) ranks)
       by_alone true here run at_end = (rank, refl, after.seen, run, at_end, refl)
       by_alone false here run at_end = absurd (cc here)
 
@@ -144,7 +152,7 @@ holds_at Q (r ∷ ranks) zero d all below = all.0
 holds_at Q (r ∷ ranks) (suc i) d all below = holds_at Q ranks i d all.1 (omega (arith, below))
 
 -- The same of ranks, each with its record and how many steps its last call made.
-module _ {P : Type 0} (meld : P → P → P) (alone : Bool) (name : Name) (before : Sight P) (ranks : List Ranked) (job : IsJob meld name before (records_of ranks))
+module _ {P : Type 0} (meld : P → P → P) (alone : Bool) (name : Over P) (before : Sight P) (ranks : List Ranked) (job : IsJob meld alone (view_at name before) (records_of ranks))
   where
     -- there are as many records
     same_count : length (records_of ranks) ≡ length ranks
@@ -152,7 +160,7 @@ module _ {P : Type 0} (meld : P → P → P) (alone : Bool) (name : Name) (befor
 
     -- a call of a rank that the world doesn't have
     pub ranked_missing : (asked : Call P) (i : ℕ) → (traits_of asked).by ≡ Rank i → length ranks ≤ i
-        → StepsBy meld alone asked (crew (view_of name before) (records_of ranks)) (Refused NoSuchRank) (crew (view_of name before) (records_of ranks))
+        → StepsBy meld alone asked (crew (view_at name before) (records_of ranks)) (Refused NoSuchRank) (crew (view_at name before) (records_of ranks))
     ranked_missing asked i by above = missing_step meld alone name before (records_of ranks) job asked i by (omega (arith, above, same_count))
 
     module _ (i : ℕ) (d : Ranked) (below : i < length ranks) where
@@ -177,32 +185,32 @@ module _ {P : Type 0} (meld : P → P → P) (alone : Bool) (name : Name) (befor
 
         -- a call of it
         pub ranked_step : (asks : ℕ → Call P) (reply : Reply P) → (traits_of (asks i)).by ≡ Rank i
-            → Calls meld alone (asks (get_or ranks i d).own.number) (local (get_or ranks i d).own (view_of name before)) reply (local new.own (view_of name after))
-            → StepsBy meld alone (asks i) (crew (view_of name before) (records_of ranks)) reply (crew (view_of name after) (records_of (set ranks i new)))
+            → Calls meld alone (asks (get_or ranks i d).own.number) (local (get_or ranks i d).own (view_at name before)) reply (local new.own (view_at name after))
+            → StepsBy meld alone (asks i) (crew (view_at name before) (records_of ranks)) reply (crew (view_at name after) (records_of (set ranks i new)))
         ranked_step asks reply by made =
-            subst (λ rs. StepsBy meld alone (asks i) (crew (view_of name before) (records_of ranks)) reply (crew (view_of name after) rs)) ranked_set
+            subst (λ rs. StepsBy meld alone (asks i) (crew (view_at name before) (records_of ranks)) reply (crew (view_at name after) rs)) ranked_set
             (calls_step meld alone name before (records_of ranks) job i d.own ranked_below new.own after asks reply by
-            (subst (λ (own : Record). Calls meld alone (asks own.number) (local own (view_of name before)) reply (local new.own (view_of name after))) (sym ranked_own) made))
+            (subst (λ (own : Record). Calls meld alone (asks own.number) (local own (view_at name before)) reply (local new.own (view_at name after))) (sym ranked_own) made))
 
         -- a call of it that ran out of memory
-        pub ranked_begins : (asked : Call P) → RunsOut meld alone asked (local (get_or ranks i d).own (view_of name before)) (local new.own (view_of name after)) → IsPrefix before.seen after.seen
+        pub ranked_begins : (asked : Call P) → RunsOut meld alone asked (local (get_or ranks i d).own (view_at name before)) (local new.own (view_at name after)) → IsPrefix before.seen after.seen
         ranked_begins asked out =
             out_begins meld alone name before (records_of ranks) job i d.own ranked_below new.own after asked
-            (subst (λ (own : Record). RunsOut meld alone asked (local own (view_of name before)) (local new.own (view_of name after))) (sym ranked_own) out)
+            (subst (λ (own : Record). RunsOut meld alone asked (local own (view_at name before)) (local new.own (view_at name after))) (sym ranked_own) out)
 
-        pub ranked_job : (asked : Call P) → RunsOut meld alone asked (local (get_or ranks i d).own (view_of name before)) (local new.own (view_of name after))
-            → IsJob meld name after (records_of (set ranks i new))
+        pub ranked_job : (asked : Call P) → RunsOut meld alone asked (local (get_or ranks i d).own (view_at name before)) (local new.own (view_at name after))
+            → IsJob meld alone (view_at name after) (records_of (set ranks i new))
         ranked_job asked out =
-            subst (IsJob meld name after) ranked_set
+            subst (IsJob meld alone (view_at name after)) ranked_set
             (out_job meld alone name before (records_of ranks) job i d.own ranked_below new.own after asked
-            (subst (λ (own : Record). RunsOut meld alone asked (local own (view_of name before)) (local new.own (view_of name after))) (sym ranked_own) out))
+            (subst (λ (own : Record). RunsOut meld alone asked (local own (view_at name before)) (local new.own (view_at name after))) (sym ranked_own) out))
 
         -- a call of it that is refused for any other reason
         pub ranked_refused : (asks : ℕ → Call P) (refusal : Refusal) → (traits_of (asks i)).by ≡ Rank i → (refusal ≡ OutOfMemory → ⊥)
-            → EndsBy meld alone (asks (get_or ranks i d).own.number) (local (get_or ranks i d).own (view_of name before)) refusal (is_out_of_memory refusal) (local new.own (view_of name after))
-            → StepsBy meld alone (asks i) (crew (view_of name before) (records_of ranks)) (Refused refusal) (crew (view_of name after) (records_of (set ranks i new)))
+            → EndsBy meld alone (asks (get_or ranks i d).own.number) (local (get_or ranks i d).own (view_at name before)) refusal (is_out_of_memory refusal) (local new.own (view_at name after))
+            → StepsBy meld alone (asks i) (crew (view_at name before) (records_of ranks)) (Refused refusal) (crew (view_at name after) (records_of (set ranks i new)))
         ranked_refused asks refusal by other ends =
-            subst (λ rs. StepsBy meld alone (asks i) (crew (view_of name before) (records_of ranks)) (Refused refusal) (crew (view_of name after) rs)) ranked_set
+            subst (λ rs. StepsBy meld alone (asks i) (crew (view_at name before) (records_of ranks)) (Refused refusal) (crew (view_at name after) rs)) ranked_set
             (refused_step meld alone name before (records_of ranks) job i d.own ranked_below new.own after asks refusal by other
-            (subst (λ (own : Record). EndsBy meld alone (asks own.number) (local own (view_of name before)) refusal (is_out_of_memory refusal) (local new.own (view_of name after)))
+            (subst (λ (own : Record). EndsBy meld alone (asks own.number) (local own (view_at name before)) refusal (is_out_of_memory refusal) (local new.own (view_at name after)))
             (sym ranked_own) ends))

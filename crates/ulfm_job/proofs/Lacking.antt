@@ -7,7 +7,7 @@ use Rattle.std.proofs.lemmas.List.{with_items_is}
 use Rattle.ulfm_model.specs.declared.{call.Call.{Call}}
 use Rattle.ulfm_model.specs.declared.call.Call.TheVariants as call
 use Rattle.ulfm_model.specs.{Answers.{polled_by, rank_of}, Records.{Record, is_shrink}, Runs.{State}}
-use Rattle.ulfm_words.specs.Steps.{Name, Sight}
+use Rattle.ulfm_words.specs.Steps.{Over, Sight, view_at}
 use Rattle.ulfm_comm.specs.Counts.{Ranked, records_of}
 use Rattle.ulfm_comm.proofs.InOrder.{rank_found}
 use Rattle.ulfm_job.specs.Jobs.{IsJob, IsOther, KeepsRecords, MayLack, PollsShrink, state_seen, unseen}
@@ -25,23 +25,23 @@ pub keeps_same : (ranks : List Ranked) (i : ℕ) (d : Ranked) → KeepsRecords (
 keeps_same ranks i d = keeps_set ranks i d (get_or ranks i d) refl
 
 -- the elements that the call was given are the vector's, and those that it left fill the vector
-pub applied_keeps : {P Z : Type 0} (name : Name) (before : Sight P) (old : State P) (v : Vec Ranked Z) (given new : List Ranked) → given ≡ v.items
-    → length new ≡ v.len → state_seen name before (records_of v.items) ≡ old
+pub applied_keeps : {P Z : Type 0} (name : Over P) (before : Sight P) (old : State P) (v : Vec Ranked Z) (given new : List Ranked) → given ≡ v.items
+    → length new ≡ v.len → state_seen (view_at name before) (records_of v.items) ≡ old
     → KeepsRecords (records_of given) (records_of new) → KeepsRecords old.records (records_of (with_items v new).items)
 applied_keeps name before old v given new same fills was keeps =
     subst (λ (s : State _). KeepsRecords s.records (records_of (with_items v new).items)) was
     (subst (λ rs. KeepsRecords (records_of v.items) (records_of rs)) (sym (with_items_is v new fills))
     (subst (λ rs. KeepsRecords (records_of rs) (records_of new)) same keeps))
 
-pub applied_polls : {P Z : Type 0} (name : Name) (before : Sight P) (old : State P) (v : Vec Ranked Z) (given : List Ranked) → given ≡ v.items
-    → state_seen name before (records_of v.items) ≡ old → (rank : ℕ) (asked : Call P)
+pub applied_polls : {P Z : Type 0} (name : Over P) (before : Sight P) (old : State P) (v : Vec Ranked Z) (given : List Ranked) → given ≡ v.items
+    → state_seen (view_at name before) (records_of v.items) ≡ old → (rank : ℕ) (asked : Call P)
     → PollsShrink (records_of given) rank asked → PollsShrink old.records rank asked
 applied_polls name before old v given same was rank asked polls =
     subst (λ (s : State _). PollsShrink s.records rank asked) was (subst (λ rs. PollsShrink (records_of rs) rank asked) same polls)
 
 -- the record of the rank that polls a shrink is found by its number
-pub polls_shrink : {P : Type 0} (meld : P → P → P) (alone : Bool) (name : Name) (before : Sight P) (ranks : List Ranked)
-    (job : IsJob meld name before (records_of ranks)) (asked : Call P) (i : ℕ) (d : Ranked) → i ≡ rank_of asked → i < length ranks
+pub polls_shrink : {P : Type 0} (meld : P → P → P) (alone : Bool) (name : Over P) (before : Sight P) (ranks : List Ranked)
+    (job : IsJob meld alone (view_at name before) (records_of ranks)) (asked : Call P) (i : ℕ) (d : Ranked) → i ≡ rank_of asked → i < length ranks
     → IsTrue (is_shrink (polled_by (get_or ranks i d).own asked)) → PollsShrink (records_of ranks) (rank_of asked) asked
 polls_shrink meld alone name before ranks job asked i d is below shrinks =
     let found = rank_found name.limits.ranks (records_of ranks) job.sound.numbers i d.own (ranked_below meld alone name before ranks job i d below) in

@@ -12,7 +12,7 @@ use Rattle.ulfm_model.specs.History.{Decision, History, decision, has, has_arriv
 use Rattle.ulfm_model.specs.{Records.{Fits, Held, Record, held_at, is_shrink}, Runs.{IsCall, IsRun}, Terms.{rests_on}}
 use Rattle.ulfm_model.specs.Records.{moment}
 use Rattle.ulfm_model.proofs.{Histories.{members_stay}, Lists.{get_prefix, length-filter-le, prefix_trans}, Spawned.{members_of_spawned}, Stable.{spawns_begin}}
-use Rattle.ulfm_words.specs.Steps.{view_of, Name, Sight}
+use Rattle.ulfm_words.specs.Steps.{Over, Sight, view_at}
 use Rattle.ulfm_comm.specs.Calls.{Calls}
 use Rattle.ulfm_comm.proofs.{CallRuns.{called_run}, Holding.{comm_is, exists_is, group_is}, ReplyKinds.{answered_on}}
 use Rattle.ulfm_comm.specs.Local.{local}
@@ -67,8 +67,8 @@ pub record IsOfFew (old : Record) (c : ℕ) (y : Held) : Type 0 where
   pub shrinks : IsTrue (is_shrink x.request)
   pub few : length y.group ≤ length x.group
 
-module _ {P : Type 0} (meld : P → P → P) (alone : Bool) (name : Name) (c : ℕ) (old : Record) (before : Sight P) (j context size : ℕ) (new : Record)
-    (after : Sight P) (calls : Calls meld alone (Poll old.number c) (local old (view_of name before)) (Shrunk j context size) (local new (view_of name after)))
+module _ {P : Type 0} (meld : P → P → P) (alone : Bool) (name : Over P) (c : ℕ) (old : Record) (before : Sight P) (j context size : ℕ) (new : Record)
+    (after : Sight P) (calls : Calls meld alone (Poll old.number c) (local old (view_at name before)) (Shrunk j context size) (local new (view_at name after)))
     (fits : Fits meld name.limits before.seen old) (y : Held) (holds : held_at new j ≡ Some y) where
   by_run : IsRun meld name.limits alone (moment old before.seen) (Poll old.number c) (Shrunk j context size) (moment new after.seen) → IsOfFew old c y
   by_run run =

@@ -10,7 +10,7 @@ use Rattle.ulfm_model.specs.declared.refusal.Refusal.TheVariants.{IsRevoked, Pro
 use Rattle.ulfm_model.specs.{Answers.{rank_of, traits_of}, Records.{Held, Record, held_at}, Runs.{IsCall, State}}
 use Rattle.ulfm_model.specs.Terms.{comm_of, rests_on}
 use Rattle.ulfm_model.specs.Records.{moment}
-use Rattle.ulfm_words.specs.Steps.{Name, Sight, view_of}
+use Rattle.ulfm_words.specs.Steps.{Over, Sight, view_at}
 use Rattle.ulfm_comm.specs.{Calls.{Calls, EndsAs, EndsReply, wants_memory}, Counts.{Ranked, records_of}}
 use Rattle.ulfm_job.specs.Jobs.{crew, IsAbout, IsJob, IsOther, KeepsRecords, PollsShrink, StepsBy, state_seen}
 use Rattle.ulfm_comm.proofs.{CallRuns.{called_run}, ReplyKinds.{IsKind, answered_on, replies_kind}}
@@ -134,7 +134,7 @@ module _ {P : Type 0} where
   about_none state c group Freed made counted = refl
   about_none state c group (Refused refusal) made counted = refl
 
-module _ {P : Type 0} (meld : P → P → P) (alone : Bool) (name : Name) (before : Sight P) (ranks : List Ranked) (job : IsJob meld name before (records_of ranks))
+module _ {P : Type 0} (meld : P → P → P) (alone : Bool) (name : Over P) (before : Sight P) (ranks : List Ranked) (job : IsJob meld alone (view_at name before) (records_of ranks))
     (asked : Call P) (other : IsOther asked) (i : ℕ) (d : Ranked) (is_rank : i ≡ rank_of asked) (below : i < length ranks) where
   abbrev own : Record
   own = (get_or ranks i d).own
@@ -146,19 +146,19 @@ module _ {P : Type 0} (meld : P → P → P) (alone : Bool) (name : Name) (befor
   pub mine : (traits_of asked).by ≡ Rank own.number
   mine = by_it ∙ ap Rank (sym (ranked_number meld alone name before ranks job i d below))
 
-  module _ (left : Ranked) (after : Sight P) (reply : Reply P) (ends : EndsReply meld alone asked (local own (view_of name before)) reply (local left.own (view_of name after))) where
+  module _ (left : Ranked) (after : Sight P) (reply : Reply P) (ends : EndsReply meld alone asked (local own (view_at name before)) reply (local left.own (view_at name after))) where
     abbrev new : Record
     new = left.own
 
     -- it ran out of memory
     module _ (out : reply ≡ Refused OutOfMemory) where
-      ended : EndsReply meld alone asked (local own (view_of name before)) (Refused OutOfMemory) (local new (view_of name after))
-      ended = subst (λ r. EndsReply meld alone asked (local own (view_of name before)) r (local new (view_of name after))) out ends
+      ended : EndsReply meld alone asked (local own (view_at name before)) (Refused OutOfMemory) (local new (view_at name after))
+      ended = subst (λ r. EndsReply meld alone asked (local own (view_at name before)) r (local new (view_at name after))) out ends
 
       pub other_begins : IsPrefix before.seen after.seen
       other_begins = ranked_begins meld alone name before ranks job i d below left after asked ended.0
 
-      pub other_job : IsJob meld name after (records_of (set ranks i left))
+      pub other_job : IsJob meld alone (view_at name after) (records_of (set ranks i left))
       other_job = ranked_job meld alone name before ranks job i d below left after asked ended.0
 
       pub out_polls : PollsShrink (records_of ranks) (rank_of asked) asked
@@ -170,10 +170,10 @@ module _ {P : Type 0} (meld : P → P → P) (alone : Bool) (name : Name) (befor
 
     module _ (kept : reply ≡ Refused OutOfMemory → ⊥) where
       -- it is a call of the sequential object
-      pub other_calls : Calls meld alone asked (local own (view_of name before)) reply (local new (view_of name after))
-      other_calls = subst (λ b. EndsAs meld alone asked (local own (view_of name before)) reply b (local new (view_of name after))) (kept_memory reply kept) ends
+      pub other_calls : Calls meld alone asked (local own (view_at name before)) reply (local new (view_at name after))
+      other_calls = subst (λ b. EndsAs meld alone asked (local own (view_at name before)) reply b (local new (view_at name after))) (kept_memory reply kept) ends
 
-      pub other_step : StepsBy meld alone asked (crew (view_of name before) (records_of ranks)) reply (crew (view_of name after) (records_of (set ranks i left)))
+      pub other_step : StepsBy meld alone asked (crew (view_at name before) (records_of ranks)) reply (crew (view_at name after) (records_of (set ranks i left)))
       other_step = ranked_step meld alone name before ranks job i d below left after (λ _. asked) reply by_it other_calls
 
       -- and its reply is of its kind
@@ -198,14 +198,14 @@ module _ {P : Type 0} (meld : P → P → P) (alone : Bool) (name : Name) (befor
             let number : polled.0 ≡ own.number = cc (subst (λ a. (traits_of a).by ≡ Rank own.number) polled.2 mine) in polled.2
             ∙ ap (λ r. call.Poll r polled.1) number
 
-        poll_made : Calls meld alone (call.Poll own.number polled.1) (local own (view_of name before)) (Shrunk j context size) (local new (view_of name after))
-        poll_made = subst (λ r. Calls meld alone (call.Poll own.number polled.1) (local own (view_of name before)) r (local new (view_of name after))) is
-            (subst (λ a. Calls meld alone a (local own (view_of name before)) reply (local new (view_of name after))) poll_is other_calls)
+        poll_made : Calls meld alone (call.Poll own.number polled.1) (local own (view_at name before)) (Shrunk j context size) (local new (view_at name after))
+        poll_made = subst (λ r. Calls meld alone (call.Poll own.number polled.1) (local own (view_at name before)) r (local new (view_at name after))) is
+            (subst (λ a. Calls meld alone a (local own (view_at name before)) reply (local new (view_at name after))) poll_is other_calls)
 
         -- what the rank holds of the new communicator are its members
         pub other_made : (c : ℕ) (before_it group : List ℕ) → ((x : Held) → held_at new j ≡ Some x → group ≡ x.group)
-            → IsAbout (state_seen name after (records_of (set ranks i left))) c before_it group reply
-        other_made c before_it group has = subst (IsAbout (state_seen name after (records_of (set ranks i left))) c before_it group) (sym is)
+            → IsAbout (state_seen (view_at name after) (records_of (set ranks i left))) c before_it group reply
+        other_made c before_it group has = subst (IsAbout (state_seen (view_at name after) (records_of (set ranks i left))) c before_it group) (sym is)
             (has_members meld alone name polled.1 own before j context size new after poll_made group has)
 
         -- they are no more than those of its parent
@@ -215,6 +215,6 @@ module _ {P : Type 0} (meld : P → P → P) (alone : Bool) (name : Name) (befor
             (ranked_fits meld alone name before ranks job i d below) y holds)
 
       pub other_about : (c : ℕ) (group : List ℕ) → ((j context size : ℕ) → reply ≡ Shrunk j context size → ⊥)
-          → ((refusal : Refusal) → reply ≡ Refused refusal → ⊥) → IsAbout (state_seen name after (records_of (set ranks i left))) c group group reply
-      other_about c group made answers = about_none (state_seen name after (records_of (set ranks i left))) c group reply made
+          → ((refusal : Refusal) → reply ≡ Refused refusal → ⊥) → IsAbout (state_seen (view_at name after) (records_of (set ranks i left))) c group group reply
+      other_about c group made answers = about_none (state_seen (view_at name after) (records_of (set ranks i left))) c group reply made
           (λ count is. counts_none asked count other (subst (IsKind asked) is (other_kind answers)))

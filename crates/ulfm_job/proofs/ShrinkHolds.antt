@@ -5,7 +5,7 @@ use Rattle.std.specs.List.{find}
 use Rattle.ulfm_model.specs.declared.{call.Call.TheVariants.{Poll}, reply.Reply.TheVariants.{Shrunk}}
 use Rattle.ulfm_model.specs.{Answers.{closed}, History.{members}, Records.{Held, Record, held_at}, Runs.{IsCall}}
 use Rattle.ulfm_model.specs.Records.{moment}
-use Rattle.ulfm_words.specs.Steps.{view_of, Name, Sight}
+use Rattle.ulfm_words.specs.Steps.{Over, Sight, view_at}
 use Rattle.ulfm_comm.specs.Calls.{Calls}
 use Rattle.ulfm_comm.proofs.{CallRuns.{called_run}, Holding.{group_is}}
 use Rattle.ulfm_comm.specs.Local.{local}
@@ -17,10 +17,10 @@ found_last p (x ∷ xs) y is =
     let rest = found_last p xs y is in
     elim (p x) as (λ b. (z : Held) × (cond b (Some x) (find p (xs ++ y ∷ [])) ≡ Some z)) [ true ↦ (x, refl) | false ↦ rest ]
 
-module _ {P : Type 0} (meld : P → P → P) (alone : Bool) (name : Name) (c : ℕ) (old : Record) (before : Sight P) (j context size : ℕ) (new : Record)
+module _ {P : Type 0} (meld : P → P → P) (alone : Bool) (name : Over P) (c : ℕ) (old : Record) (before : Sight P) (j context size : ℕ) (new : Record)
     (after : Sight P) where
   -- it holds the communicator that was made
-  holds_made : Calls meld alone (Poll old.number c) (local old (view_of name before)) (Shrunk j context size) (local new (view_of name after)) → (x : Held) × (held_at new j ≡ Some x)
+  holds_made : Calls meld alone (Poll old.number c) (local old (view_at name before)) (Shrunk j context size) (local new (view_at name after)) → (x : Held) × (held_at new j ≡ Some x)
   holds_made calls = by_run (called_run meld alone name (Poll old.number c) old before (Shrunk j context size) new after calls)
     where
       by_run : IsCall meld name.limits alone (moment old before.seen) (Poll old.number c) (Shrunk j context size) (moment new after.seen) → (x : Held) × (held_at new j ≡ Some x)
@@ -41,7 +41,7 @@ module _ {P : Type 0} (meld : P → P → P) (alone : Bool) (name : Name) (c : �
           (last.0, ap (λ (r : Record). held_at r j) is ∙ last.1)
 
   -- and has its members
-  pub has_members : Calls meld alone (Poll old.number c) (local old (view_of name before)) (Shrunk j context size) (local new (view_of name after)) → (group : List ℕ)
+  pub has_members : Calls meld alone (Poll old.number c) (local old (view_at name before)) (Shrunk j context size) (local new (view_at name after)) → (group : List ℕ)
       → ((x : Held) → held_at new j ≡ Some x → group ≡ x.group) → group ≡ members name.limits.ranks after.seen j
   has_members calls group is =
       let held = holds_made calls in

@@ -7,16 +7,19 @@ use Rattle.ulfm_model.specs.declared.call.Call.TheVariants.{Fail, GetFailed, Ack
 use Rattle.ulfm_model.specs.declared.reply.Reply.TheVariants.{Started, Pending, Agreed, Shrunk, Done, FailedGroup, Acked, Declared, AlreadyFailed, Revoked}
 use Rattle.ulfm_model.specs.declared.reply.Reply.TheVariants.{AlreadyRevoked, Standing, Freed, Refused}
 use Rattle.ulfm_model.specs.{Answers.{polled_by, traits_of}, History.{failed, members}, Records.{Record, is_shrink}, Runs.{IsSound, IsStep, State}}
-use Rattle.ulfm_words.specs.Steps.{IsView, Name, Sight, View, view_of}
+use Rattle.ulfm_words.specs.Steps.{IsView, View}
+use Rattle.ulfm_comm.specs.Wings.{WingsSettled}
 
 -- the object's state: what the pass has seen, and the ranks' records
-abbrev pub state_seen : {P : Type 0} → Name → Sight P → List Record → State P
-state_seen name pass ranks = record { limits = name.limits; history = pass.seen; records = ranks }
+abbrev pub state_seen : {P : Type 0} → View P → List Record → State P
+state_seen view ranks = record { limits = view.words.limits; history = view.pass.seen; records = ranks }
 
--- the pass is of these words, and each rank, in order, has a record that fits what the pass has seen
-pub record IsJob {P : Type 0} (meld : P → P → P) (name : Name) (pass : Sight P) (ranks : List Record) : Type 0 where
-  pub of : IsView meld (view_of name pass)
-  pub sound : IsSound meld (state_seen name pass ranks)
+-- The pass is of these words, and each rank, in order, has a record that fits what the pass has seen. Where nobody else steps, no wing stands
+-- without its contribution.
+pub record IsJob {P : Type 0} (meld : P → P → P) (alone : Bool) (view : View P) (ranks : List Record) : Type 0 where
+  pub of : IsView meld view
+  pub sound : IsSound meld (state_seen view ranks)
+  pub wings : IsTrue alone → WingsSettled view
 
 -- all ranks of a world, by their records, and the view that they share
 pub record Crew (P : Type 0) : Type 0 where
@@ -29,10 +32,9 @@ crew view ranks = record { view = view; ranks = ranks }
 -- One call of a rank, or a declaration: what was seen has grown, and where nobody else steps it is one step of the sequential
 -- object.
 pub record StepsBy {P : Type 0} (meld : P → P → P) (alone : Bool) (asked : Call P) (old : Crew P) (reply : Reply P) (new : Crew P) : Type 0 where
-  pub job : IsJob meld new.view.words new.view.pass new.ranks
+  pub job : IsJob meld alone new.view new.ranks
   pub begins : IsPrefix old.view.pass.seen new.view.pass.seen
-  pub step : IsTrue alone → IsStep meld (state_seen old.view.words old.view.pass old.ranks) (traits_of asked).by asked reply
-      (state_seen new.view.words new.view.pass new.ranks)
+  pub step : IsTrue alone → IsStep meld (state_seen old.view old.ranks) (traits_of asked).by asked reply (state_seen new.view new.ranks)
 
 -- What the caller's vector has after a reply to a call on communicator c, by the state then: a failed group, or the members of a new
 -- communicator, where the reply is about them; else what it had.

@@ -44,12 +44,13 @@ where
     ghost use Rattle.ulfm_model.specs.Runs.{State};
     ghost use Rattle.ulfm_comm.specs.Counts.{records_of};
     ghost use Rattle.ulfm_job.specs.Jobs.{IsJob, state_seen};
+    ghost use Rattle.ulfm_words.specs.Steps.{view_of};
 
     ghost Value = { State P };
 
-    ghost view = { λ a. state_seen a.world (W.sight a.pass) (records_of a.ranks.items) };
+    ghost view = { λ a. state_seen (view_of P.pack a.world (W.sight a.pass)) (records_of a.ranks.items) };
 
-    ghost invariant = { λ a. IsJob P.meld a.world (W.sight a.pass) (records_of a.ranks.items) };
+    ghost invariant = { λ a. IsJob P.meld W.alone (view_of P.pack a.world (W.sight a.pass)) (records_of a.ranks.items) };
 }
 
 impl<W, P: Packed, A: Allocator + Copy> Job<W, P, A>
@@ -81,8 +82,8 @@ where
     /// assert!(rt; job.pass().nth(0).is_none());
     /// ```
     pub fn pass(&self) -> &W::Pass
-        ensures of { IsView P.meld (view_of (W.sight result.now).name (W.sight result.now)) }
-        ensures seen { seen_in (view_of (W.sight result.now).name (W.sight result.now)) ≡ self.now.history }
+        ensures of { IsView P.meld (view_of P.pack (W.sight result.now).name (W.sight result.now)) }
+        ensures seen { seen_in (view_of P.pack (W.sight result.now).name (W.sight result.now)) ≡ self.now.history }
     {
         &self.pass
     }
@@ -154,10 +155,10 @@ fn fail_by<P: Packed, A: Allocator + Copy, W: Words<P, A>>(
     ranks: &[Rank<P, A>],
     rank: u16,
 ) -> Reply<P>
-    requires { IsJob P.meld world.now (W.sight pass.old) (records_of ranks.now) }
-    ensures about { (group : List ℕ) → IsAbout (state_seen world.now (W.sight pass.new) (records_of ranks.now)) 0 group group result }
-    ensures step { StepsBy P.meld W.alone (FailAsked rank) (crew (view_of world.now (W.sight pass.old)) (records_of ranks.now)) result
-        (crew (view_of world.now (W.sight pass.new)) (records_of ranks.now)) }
+    requires { IsJob P.meld W.alone (view_of P.pack world.now (W.sight pass.old)) (records_of ranks.now) }
+    ensures about { (group : List ℕ) → IsAbout (state_seen (view_of P.pack world.now (W.sight pass.new)) (records_of ranks.now)) 0 group group result }
+    ensures step { StepsBy P.meld W.alone (FailAsked rank) (crew (view_of P.pack world.now (W.sight pass.old)) (records_of ranks.now)) result
+        (crew (view_of P.pack world.now (W.sight pass.new)) (records_of ranks.now)) }
 {
     let _ = ranks;
     match world.fail(pass, rank) {
@@ -176,13 +177,13 @@ fn get_by<P: Packed, A: Allocator + Copy, W: Words<P, A>>(
     comm: u16,
     found: &mut Vec<u16, A>,
 ) -> Result<Reply<P>, AllocError>
-    requires { IsJob P.meld world.now (W.sight pass.old) (records_of ranks.old) }
+    requires { IsJob P.meld W.alone (view_of P.pack world.now (W.sight pass.old)) (records_of ranks.old) }
     ensures step { IfOk result
-        (λ reply. StepsBy P.meld W.alone (GetAsked rank comm) (crew (view_of world.now (W.sight pass.old)) (records_of ranks.old)) reply
-        (crew (view_of world.now (W.sight pass.new)) (records_of ranks.new))) }
-    ensures job { IsJob P.meld world.now (W.sight pass.new) (records_of ranks.new) }
+        (λ reply. StepsBy P.meld W.alone (GetAsked rank comm) (crew (view_of P.pack world.now (W.sight pass.old)) (records_of ranks.old)) reply
+        (crew (view_of P.pack world.now (W.sight pass.new)) (records_of ranks.new))) }
+    ensures job { IsJob P.meld W.alone (view_of P.pack world.now (W.sight pass.new)) (records_of ranks.new) }
     ensures begins { IsPrefix (W.sight pass.old).seen (W.sight pass.new).seen }
-    ensures about { IfOk result (IsAbout (state_seen world.now (W.sight pass.new) (records_of ranks.new)) comm found.old.items found.new.items) }
+    ensures about { IfOk result (IsAbout (state_seen (view_of P.pack world.now (W.sight pass.new)) (records_of ranks.new)) comm found.old.items found.new.items) }
     ensures memory { OnErr result (vec_capacity found.old < length (failed world.now.limits.ranks (W.sight pass.new).seen comm)) }
     ensures kept { OnErr result (KeepsRecords (records_of ranks.old) (records_of ranks.new)) }
     ensures group { OnErr result (found.new.items ≡ found.old.items) }
@@ -250,13 +251,13 @@ fn call_by<P: Packed, A: Allocator + Copy, W: Words<P, A>>(
     asked: Call<P>,
     found: &mut Vec<u16, A>,
 ) -> Result<Reply<P>, AllocError>
-    requires job { IsJob P.meld world.now (W.sight pass.old) (records_of ranks.old) }
+    requires job { IsJob P.meld W.alone (view_of P.pack world.now (W.sight pass.old)) (records_of ranks.old) }
     requires other { IsOther asked }
-    ensures step { IfOk result (λ reply. StepsBy P.meld W.alone asked (crew (view_of world.now (W.sight pass.old)) (records_of ranks.old)) reply
-        (crew (view_of world.now (W.sight pass.new)) (records_of ranks.new))) }
-    ensures job { IsJob P.meld world.now (W.sight pass.new) (records_of ranks.new) }
+    ensures step { IfOk result (λ reply. StepsBy P.meld W.alone asked (crew (view_of P.pack world.now (W.sight pass.old)) (records_of ranks.old)) reply
+        (crew (view_of P.pack world.now (W.sight pass.new)) (records_of ranks.new))) }
+    ensures job { IsJob P.meld W.alone (view_of P.pack world.now (W.sight pass.new)) (records_of ranks.new) }
     ensures begins { IsPrefix (W.sight pass.old).seen (W.sight pass.new).seen }
-    ensures about { IfOk result (IsAbout (state_seen world.now (W.sight pass.new) (records_of ranks.new)) (comm_of asked)
+    ensures about { IfOk result (IsAbout (state_seen (view_of P.pack world.now (W.sight pass.new)) (records_of ranks.new)) (comm_of asked)
         found.old.items found.new.items) }
     ensures memory { OnErr result (PollsShrink (records_of ranks.old) (rank_in asked) asked) }
     ensures kept { OnErr result (KeepsRecords (records_of ranks.old) (records_of ranks.new)) }

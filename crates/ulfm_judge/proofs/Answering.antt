@@ -20,7 +20,7 @@ use Rattle.ulfm_judge.proofs.Polling.{agree_decides, shrink_decides, start_decid
 use Rattle.ulfm_judge.proofs.Replying.{acked_decides, barrier_decides, barrier_start_decides, fail_decides, freed_decides, group_decides, pending_decides, ranks_decide, refused_decides, revoke_decides, self_failed_decides, standing_decides}
 
 module _ {P : Type 0} (meld : P → P → P) (pack : P → ℕ) (tells : (x y : P) → pack x ≡ pack y → x ≡ y) where
-  module _ (limits : Limits) (view : AtPoint P) (old : Record) where
+  module _ (limits : Limits) (view : AtPoint P) (wing : IsTrue view.spread) (old : Record) where
     abbrev call : CallAt P
     call = call_of limits view old
 
@@ -44,8 +44,8 @@ module _ {P : Type 0} (meld : P → P → P) (pack : P → ℕ) (tells : (x y : 
         Decides-and _ _ (ranks_decide (failures view.history) view.look) (group_decides (length (failed limits.ranks view.history c)) reply)
     replied_decides x (Call.Ack rank c count) reply =
         Decides-and _ _ (ranks_decide (failures view.history) view.look) (acked_decides (max x.acked (min count (length (failed limits.ranks view.history c)))) reply)
-    replied_decides x (Call.Agree rank c value) reply = start_decides pack tells limits view old x (Offer.Flag value) reply
-    replied_decides x (Call.Shrink rank c) reply = start_decides pack tells limits view old x (Offer.Ctx (free_ids old.held)) reply
+    replied_decides x (Call.Agree rank c value) reply = start_decides pack tells limits view wing old x (Offer.Flag value) reply
+    replied_decides x (Call.Shrink rank c) reply = start_decides pack tells limits view wing old x (Offer.Ctx (free_ids old.held)) reply
     replied_decides x (Call.Barrier rank c) reply = barrier_start_decides view old x reply
     replied_decides x (Call.Poll rank c) reply = polled_decides x x.request reply
     replied_decides x (Call.Revoke rank c) reply = revoke_decides view c reply
@@ -75,7 +75,7 @@ module _ {P : Type 0} (meld : P → P → P) (pack : P → ℕ) (tells : (x y : 
   rank_decides now u point reply None = refused_decides Refusal.NoSuchRank reply
   rank_decides now u point reply (Some old) =
       by_test old.refused _ _ _ _ _ (refused_decides Refusal.SelfFailed reply)
-      (Decides-and _ _ (true_decides (is_some u.look)) (looked_decides now.limits (view_at now u point) old u.asked reply))
+      (Decides-and _ _ (true_decides (is_some u.look)) (looked_decides now.limits (view_at now u point) refl old u.asked reply))
 
   call_decides : (now : Traced P) (by : Caller) (u : Under P) (point : ℕ) (reply : Reply P) → Decides (call_test meld pack now by u point reply) (AnswersCall meld now by u point reply)
   call_decides now Caller.Outside u point reply = fail_decides now.limits (view_at now u point) (rank_of u.asked) reply

@@ -15,7 +15,7 @@ use Rattle.ulfm_model.proofs.LowestId.{lowest_is as lowest_of}
 use Rattle.ulfm_model.proofs.OnlySpawned.{lowest_is}
 use Rattle.ulfm_judge.specs.declared.replies.Due.{Due}
 use Rattle.ulfm_judge.specs.CallsAt.{CallAt, call_of}
-use Rattle.ulfm_judge.specs.ReplyTests.{agree_test, clash_test, due_of, flag_test, full_test, given_test, gives_test, is_given, least_test, made_test, no_ids_test, offer_test, same_offer, shrink_test, shrunk_test, stands_test, unmade_test}
+use Rattle.ulfm_judge.specs.ReplyTests.{agree_test, clash_test, due_of, flag_test, full_test, given_test, gives_test, least_test, made_test, no_ids_test, offer_test, same_offer, shrink_test, shrunk_test, stands_test, unmade_test}
 use Rattle.ulfm_judge.proofs.Deciding.{eq_decides, false_decides, ids_decides, lt_decides, never_decides, true_decides}
 use Rattle.ulfm_judge.proofs.Replying.{answer_decides, empty_decides, only_decides, refusal_decides}
 
@@ -34,12 +34,6 @@ IsThat due given = (given.offer ≡ due.offer) × ((given.known.count ≡ due.kn
 same_that : {P : Type 0} (due : Due P) (x y : Contribution P) → IsThat due x → IsThat due y → x ≡ y
 same_that due x y one other =
     same_given x y (one.0 ∙ sym other.0) (same_known x.known y.known (one.1.0 ∙ sym other.1.0)) (same_acked x.acked y.acked (one.1.1 ∙ sym other.1.1))
-
--- a contribution stands there
-given_decides : {P : Type 0} (stood : Option (Slot P)) → Decides (is_given stood) ((given : Contribution P) × (stood ≡ Some (Slot.Given given)))
-given_decides (Some (Slot.Given given)) = (λ e. (given, refl), λ q. refl)
-given_decides (Some (Slot.Mark mark)) = never_decides (λ q. cc (q.1))
-given_decides None = never_decides (λ q. cc (q.1))
 
 -- a communicator was made of this round
 made_decides : (o : Option (ℕ × ℕ)) (c k : ℕ) → Decides (made_test o c k) (o ≡ Some (c, k))
@@ -103,10 +97,10 @@ module _ {P : Type 0} (pack : P → ℕ) (tells : (x y : P) → pack x ≡ pack 
   stands_decides due (Some (Slot.Mark mark)) = never_decides (λ q. cc (q.1))
   stands_decides due None = never_decides (λ q. cc (q.1))
 
-  -- the start of an agree or of a shrink is answered so
-  pub start_decides : (limits : Limits) (view : AtPoint P) (old : Record) (x : Held) (offer : Offer P) (reply : Reply P)
+  -- the start of an agree or of a shrink is answered so, where the wing of its place may be set
+  pub start_decides : (limits : Limits) (view : AtPoint P) → IsTrue view.spread → (old : Record) (x : Held) (offer : Offer P) (reply : Reply P)
       → Decides (offer_test pack (call_of limits view old) x offer reply) (StartReplies view old x offer reply)
-  start_decides limits view old x offer Reply.Started =
+  start_decides limits view wing old x offer Reply.Started =
       let due : Due P = due_of (call_of limits view old) x offer in
       Decides-like _
       (λ p.
@@ -137,11 +131,11 @@ module _ {P : Type 0} (pack : P → ℕ) (tells : (x y : P) → pack x ≡ pack 
       (λ event. (given : Contribution P) × (event ≡ Event.Settle x.comm x.next_agreement old.number given) × IsThat due given)
       (gives_decides x.comm x.next_agreement old.number due) view.own)
       (stands_decides due (slot view.history x.comm x.next_agreement old.number)))
-  start_decides limits view old x offer (Reply.Refused refusal) =
-      Decides-like _ (λ p. inr (ap Reply.Refused p.0, p.1.0, p.1.1))
-      (λ q. elim q [ inl a ↦ absurd (cc (a.0)) | inr b ↦ let same : refusal ≡ Refusal.Twice = cc (b.0) in (same, (b.1, b.2)) ])
-      (Decides-and _ _ (refusal_decides refusal Refusal.Twice) (Decides-and _ _ (empty_decides view.own) (given_decides (slot view.history x.comm x.next_agreement old.number))))
-  start_decides limits view old x offer _ = never_decides (λ q. elim q [ inl a ↦ cc (a.0) | inr b ↦ cc (b.0) ])
+  start_decides limits view wing old x offer (Reply.Refused refusal) =
+      Decides-like _ (λ p. inr (ap Reply.Refused p.0, p.1, inr wing))
+      (λ q. elim q [ inl a ↦ absurd (cc (a.0)) | inr b ↦ let same : refusal ≡ Refusal.Twice = cc (b.0) in (same, b.1) ])
+      (Decides-and _ _ (refusal_decides refusal Refusal.Twice) (empty_decides view.own))
+  start_decides limits view wing old x offer _ = never_decides (λ q. elim q [ inl a ↦ cc (a.0) | inr b ↦ cc (b.0) ])
 
   flag_decides : (body : Body P) (value : P) → Decides (flag_test pack body value) (body ≡ Body.Flag value)
   flag_decides (Body.Flag x) value = Decides-like _ (λ e. ap Body.Flag e) (λ e. cc e) (value_decides x value)

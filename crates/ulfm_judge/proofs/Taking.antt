@@ -46,7 +46,7 @@ module _ {P A : Type 0} (meld : P → P → P) (limits : Limits) (h : History P)
 
   -- a call begins, where there is room for it
   pub begins : (asked : Call P) (roomy : List (OpenCall P A)) (i : ℕ) (y : OpenCall P A) → place_by calls (traits_of asked).by ≡ None → AreCalls roomy us → i ≡ seat_of (traits_of asked).by → i < length roomy
-      → y.is_open ≡ true → under_of y ≡ record { asked = asked; begun = length h; look = None; own = [] } → GoesWith (set roomy i y) (λ next. Takes meld now group (Line.Called asked) (with_calls next)) None
+      → y.is_open ≡ true → under_of y ≡ record { asked = asked; begun = length h; look = None; own = [] } → GoesWith (set roomy i y) (λ next. Takes meld now group (Line.Called asked false) (with_calls next)) None
   begins asked roomy i y at roomy_are seat within holds is =
       let by = (traits_of asked).by in
       let new : Under P = record { asked = asked; begun = length h; look = None; own = [] } in
@@ -54,7 +54,7 @@ module _ {P A : Type 0} (meld : P → P → P) (limits : Limits) (h : History P)
       (us ++ new ∷ [], begun_at roomy us by i y new roomy_are seat within none refl holds is, (none, refl))
 
   -- its caller has one open
-  pub busy : (asked : Call P) (i : ℕ) → place_by calls (traits_of asked).by ≡ Some i → GoesWith calls (λ next. Takes meld now group (Line.Called asked) (with_calls next)) (Some Why.Call)
+  pub busy : (asked : Call P) (i : ℕ) → place_by calls (traits_of asked).by ≡ Some i → GoesWith calls (λ next. Takes meld now group (Line.Called asked false) (with_calls next)) (Some Why.Call)
   busy asked i at = let there = open_somewhere (traits_of asked).by i at in (us, are, ((refl, λ none. absurd (cc (there.1, none))), refl))
 
   -- a look by a rank that has no call open

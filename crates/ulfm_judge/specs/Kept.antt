@@ -23,7 +23,7 @@ seat_of (Caller.Rank r) = r + 1
 
 -- how many places a line needs: up to that of the caller whose call begins
 abbrev pub needed_by : {P : Type 0} → Line P → ℕ
-needed_by (Line.Called asked) = seat_of (traits_of asked).by + 1
+needed_by (Line.Called asked padded) = seat_of (traits_of asked).by + 1
 needed_by _ = 0
 
 -- a call, where it is under way

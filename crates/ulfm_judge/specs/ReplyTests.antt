@@ -86,15 +86,11 @@ abbrev pub stands_test : {P : Type 0} → (P → ℕ) → Due P → Option (Slot
 stands_test pack due (Some (Slot.Given given)) = given_test pack due given
 stands_test pack due _ = false
 
--- whether a contribution stands there
-abbrev pub is_given : {P : Type 0} → Option (Slot P) → Bool
-is_given (Some (Slot.Given given)) = true
-is_given _ = false
-
--- whether the start of an agree or of a shrink is answered so, by the rank's own events, by what stands at its place, and by what is due
+-- whether the start of an agree or of a shrink is answered so, by the rank's own events, by what stands at its place, and by what is due; the wing of
+-- its place may be set at any time, since no line tells of it
 abbrev pub start_test : {P : Type 0} → (P → ℕ) → List (Event P) → Option (Slot P) → ℕ → Held → Due P → Reply P → Bool
 start_test pack own stood r x due Reply.Started = only_test (gives_test pack x.comm x.next_agreement r due) own && stands_test pack due stood
-start_test pack own stood r x due (Reply.Refused refusal) = same_refusal refusal Refusal.Twice && ((length own == 0) && is_given stood)
+start_test pack own stood r x due (Reply.Refused refusal) = same_refusal refusal Refusal.Twice && (length own == 0)
 start_test pack own stood r x due _ = false
 
 -- the contribution that is due of a call which offers this: it knows the failures that the look found on the communicator

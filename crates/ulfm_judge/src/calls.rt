@@ -1,5 +1,5 @@
 //! The calls under way, each at its caller's place: lines that begin one, and looks.
-ghost use Rattle.std.specs.Prelude.{◌≡◌, ◌<◌, ◌≤◌, ◌==◌, IfOk, IfSome, List, OnOk, ℕ, find, length, map, max, position, take};
+ghost use Rattle.std.specs.Prelude.{◌≡◌, ◌<◌, ◌≤◌, ◌==◌, IfOk, IfSome, List, OnOk, ℕ, false, find, length, map, max, position, take};
 ghost use Rattle.ulfm_judge.specs.Kept.{AreCalls, GoesWith, needed_by, place_by, seat_of, traced_of};
 ghost use Rattle.ulfm_judge.specs.Tests.{due_test};
 ghost use Rattle.ulfm_model.specs.Answers.{traits_of};
@@ -88,17 +88,17 @@ fn make_room<P: Meld, A: Allocator + Copy + Drop>(
     Ok(())
 }
 
-/// Takes in that a call begins, after so many events.
+/// Takes in that a call begins, after so many events, however its line spells it.
 pub(crate) fn begin<P: Meld, A: Allocator + Copy + Drop>(
     alloc: A,
     count: u64,
     calls: &mut Vec<OpenCall<P, A>, A>,
     asked: Call<P>,
 ) -> Result<Option<Why>, AllocError>
-    ensures few { length calls.new.items ≤ max (length calls.old.items) (needed_by (Line.Called asked)) }
+    ensures few { length calls.new.items ≤ max (length calls.old.items) (needed_by (Line.Called asked false)) }
     ensures taken { (limits : Limits) (h : History P) (records : List (RankRecord A)) (us : List (Under P)) (group : List ℕ) → count ≡ length h
         → AreCalls calls.old.items us → let old = traced_of limits h records us in
-        IfOk result (GoesWith calls.new.items (λ next. Takes P.meld old group (Line.Called asked) (traced_of limits h records next))) }
+        IfOk result (GoesWith calls.new.items (λ next. Takes P.meld old group (Line.Called asked false) (traced_of limits h records next))) }
 {
     let by = caller_of(&asked);
     if let Some(_) = place_by(calls, by) {

@@ -106,7 +106,7 @@ fn take_line<P: Packed, A: Allocator + Copy + Drop>(
         IfOk result (TellsSome limits numbers.new records.new calls.new.items (Takes P.meld old group.now line.now)) }
 {
     match *line {
-        Line::Called(asked) => begin(alloc, numbers.count, calls, asked),
+        Line::Called { call: asked, .. } => begin(alloc, numbers.count, calls, asked),
         Line::Looked { rank, failures } => {
             Ok(look(limits, &numbers.failures, records, calls, rank, failures))
         }

@@ -3,7 +3,7 @@ ghost use Rattle.std.specs.Prelude.{◌≡◌, ◌==◌, filter, length};
 ghost use Rattle.ulfm_model.specs.History.{has};
 ghost use Rattle.ulfm_judge.specs.Tests.{arrives_test, revokes_test};
 ghost use Rattle.ulfm_judge.specs.ReplyTests.{acked_test, barrier_start_test, fail_test, fails_test, freed_test, given_test, gives_test};
-ghost use Rattle.ulfm_judge.specs.ReplyTests.{group_test, is_given, only_of, only_test, refused_test, revoke_test, same_answer, same_offer};
+ghost use Rattle.ulfm_judge.specs.ReplyTests.{group_test, only_of, only_test, refused_test, revoke_test, same_answer, same_offer};
 ghost use Rattle.ulfm_judge.specs.ReplyTests.{same_ranks, same_refusal, stands_test, standing_test, start_test};
 
 use crate::groups::has_member;
@@ -188,16 +188,6 @@ fn stands<P: Packed>(due: &Due<P>, stood: &Option<Slot<P>>) -> bool
     }
 }
 
-/// Whether a contribution stands there.
-fn is_given<P: Copy>(stood: &Option<Slot<P>>) -> bool
-    ensures { result ≡ is_given stood.now }
-{
-    match *stood {
-        Some(Slot::Given(_)) => true,
-        _ => false,
-    }
-}
-
 /// How many of a group a look found declared.
 pub(crate) fn count_known(look: &[u16], group: &[u16]) -> usize
     ensures { result ≡ length (filter (has group.now) look.now) }
@@ -205,7 +195,8 @@ pub(crate) fn count_known(look: &[u16], group: &[u16]) -> usize
     look.iter().filter(|rank| has_member(group, **rank)).count()
 }
 
-/// Whether the start of an agree or of a shrink is answered so, by what stands at the rank's place.
+/// Whether the start of an agree or of a shrink is answered so, by what stands at the rank's place. Its wing may be set at any time,
+/// since no line tells of it.
 pub(crate) fn is_start_reply<P: Packed, A: Allocator>(
     own: &[Event<P>],
     stood: Option<Slot<P>>,
@@ -226,9 +217,7 @@ pub(crate) fn is_start_reply<P: Packed, A: Allocator>(
         Reply::Started => {
             only_gives(x.comm, x.next_agreement, rank, &due, own) && stands(&due, &stood)
         }
-        Reply::Refused(refusal) => {
-            same_refusal(refusal, Refusal::Twice) && (own.is_empty() && is_given(&stood))
-        }
+        Reply::Refused(refusal) => { same_refusal(refusal, Refusal::Twice) && own.is_empty() }
         _ => false,
     }
 }

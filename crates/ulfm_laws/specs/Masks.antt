@@ -1,16 +1,16 @@
--- Sets of context ids, 0 to 31, as the bits of a word, combined by AND.
+-- Sets of context ids, 0 to 63, as the bits of a word, combined by AND.
 use Rattle.std.specs.Prelude.{◌≡◌, ◌<◌, ◌^◌, bit_and}
 use Rattle.std.specs.Coded.{le_prop}
 use Rattle.std.specs.Int.Bits.{and_self}
 use Rattle.std.proofs.Common.{lit<, lt_of_le_of_lt}
 use Rattle.std.proofs.lemmas.Nat.{and_le_l, and_comm, and_assoc}
 use Rattle.ulfm_laws.specs.Lawful.{IsLawful}
-use Rattle.ulfm_laws.specs.Ranges.{same_by_number, ones-and}
+use Rattle.ulfm_laws.specs.Ranges.{all_ones, ones-and, payload_bits, same_by_number}
 use Rattle.ulfm_laws.specs.declared.ctx_mask.CtxMask.{CtxMask}
 
 -- every id
 abbrev pub mask_unit : CtxMask
-mask_unit = record { bits = 0xffff_ffff; fits = lit< tt }
+mask_unit = record { bits = all_ones; fits = lit< tt }
 
 -- the ids that are in both
 abbrev pub mask_meld : CtxMask → CtxMask → CtxMask
@@ -19,7 +19,7 @@ mask_meld x y = record { bits = bit_and x.bits y.bits; fits = lt_of_le_of_lt (an
 -- masks with the same bits are the same
 pub same_mask : (x y : CtxMask) → x.bits ≡ y.bits → x ≡ y
 same_mask x y =
-    same_by_number (record { Fits = λ n. n < 2 ^ 32; one_way = λ n. le_prop; value = λ n fits. record { bits = n; fits = fits } }) x.fits y.fits
+    same_by_number (record { Fits = λ n. n < 2 ^ payload_bits; one_way = λ n. le_prop; value = λ n fits. record { bits = n; fits = fits } }) x.fits y.fits
 
 pub mask_lawful : IsLawful mask_unit mask_meld
 mask_lawful = record {

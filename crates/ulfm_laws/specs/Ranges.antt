@@ -1,5 +1,5 @@
 -- Numbers that keep a range.
-use Rattle.std.specs.Prelude.{◌≡◌, ℕ, ◌<◌, ◌^◌, Bool, ◌||◌, ◌==◌, nat_le, bit_and}
+use Rattle.std.specs.Prelude.{◌≡◌, ℕ, ◌<◌, ◌^◌, ◌-◌, Bool, ◌||◌, ◌==◌, nat_le, bit_and}
 use Rattle.std.proofs.Common.{ap, subst, ◌∙◌, mod-eq_of_lt}
 use Rattle.std.proofs.lemmas.Nat.{and_comm, and_mask}
 
@@ -19,6 +19,14 @@ same_by_number kind {m} {n} fit fits e =
     let Same : ℕ → Type 0 = λ k. (other : kind.Fits k) → kind.value m fit ≡ kind.value k other in
     subst Same e (λ other. ap (kind.value m) (kind.one_way m fit other)) fits
 
--- a word of 32 bits has no bit but those of ffffffff
-pub ones-and : (word : ℕ) → word < 2 ^ 32 → bit_and 0xffff_ffff word ≡ word
-ones-and word fits = and_comm 0xffff_ffff word ∙ (and_mask word 32 ∙ mod-eq_of_lt fits)
+-- how many bits a payload has: a flag, or a mask of context ids
+abbrev pub payload_bits : ℕ
+payload_bits = 64
+
+-- the word with every bit
+abbrev pub all_ones : ℕ
+all_ones = 2 ^ payload_bits - 1
+
+-- a word of so many bits has no bit but those
+pub ones-and : (word : ℕ) → word < 2 ^ payload_bits → bit_and all_ones word ≡ word
+ones-and word fits = and_comm all_ones word ∙ (and_mask word payload_bits ∙ mod-eq_of_lt fits)

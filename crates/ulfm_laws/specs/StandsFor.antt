@@ -3,14 +3,15 @@ use Rattle.std.specs.Prelude.{◌≡◌, ◌↔◌, ◌⊎◌, ℕ, ◌==◌, Li
 use Rattle.std.specs.Int.{bit_at}
 use Rattle.std.specs.List.{range_with_len}
 use Rattle.ulfm_laws.specs.Combined.{combined}
+use Rattle.ulfm_laws.specs.Ranges.{payload_bits}
 use Rattle.ulfm_laws.specs.declared.counts.Acked.{Acked}
 use Rattle.ulfm_laws.specs.declared.ctx_mask.CtxMask.{CtxMask}
 use Rattle.ulfm_laws.specs.declared.flag_and.FlagAnd.{FlagAnd}
 use Rattle.ulfm_laws.specs.declared.counts.Known.{Known}
 
--- 0 to 31: the places of the bits of a word, and the context ids
+-- the places of the bits of a payload, from 0 on, and the context ids
 unfoldable pub places : List ℕ
-places = range_with_len 0 32
+places = range_with_len 0 payload_bits
 
 -- the places at which a word has a bit
 unfoldable pub bits_of : ℕ → List ℕ

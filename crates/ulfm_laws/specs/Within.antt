@@ -4,11 +4,12 @@ use Rattle.std.proofs.Common.{ap, le_trans, lit<, lit≤, lt_of_le_of_lt}
 use Rattle.std.proofs.Math.Nat.{le-max_left, max-le, min-le_right, sub-le}
 use Rattle.std.proofs.lemmas.Bool.{le-leb}
 use Rattle.ulfm_laws.specs.Ranges.{is_acked_count}
+use Rattle.ulfm_laws.specs.Ranges.{all_ones}
 use Rattle.ulfm_laws.specs.declared.{counts.Acked.{Acked}, ctx_mask.CtxMask.{CtxMask}, counts.Known.{Known}}
 
--- all context ids but i, which is below 32: all bits but bit i
+-- all context ids but i, which is one of them: all bits but bit i
 abbrev pub all_but : ℕ → CtxMask
-all_but i = record { bits = 0xffff_ffff - 2 ^ i; fits = lt_of_le_of_lt (sub-le 0xffff_ffff (2 ^ i)) (lit< tt) }
+all_but i = record { bits = all_ones - 2 ^ i; fits = lt_of_le_of_lt (sub-le all_ones (2 ^ i)) (lit< tt) }
 
 -- n known failures, and at most 1024
 abbrev pub known_at : ℕ → Known

@@ -6,6 +6,7 @@ ghost use Rattle.std.specs.Prelude.{◌≡◌, ◌↔◌, ℕ, ◌<◌, ◌≤�
 ghost use Rattle.std.specs.Prelude.{Contains, IsBitSet};
 ghost use Rattle.ulfm_laws.specs.Combined.{combined};
 ghost use Rattle.ulfm_laws.specs.Lawful.{IsLawful};
+ghost use Rattle.ulfm_laws.specs.Ranges.{payload_bits};
 ghost use Rattle.ulfm_laws.specs.StandsFor.{MeldsToUnion, MeldsToIntersection, places};
 ghost use Rattle.ulfm_laws.specs.StandsFor.{flag_stands_for, mask_stands_for};
 ghost use Rattle.ulfm_laws.specs.StandsFor.{known_stands_for, acked_stands_for};
@@ -17,19 +18,19 @@ ghost use Rattle.ulfm_laws.specs.declared.counts.Known.{Known};
 use crate::meld::{Meld, Packed};
 use crate::{Acked, Body, CtxMask, FlagAnd, Known, Summary};
 
-/// A flag stands for the places of its bits, 0 to 31. The meld of two flags has a bit exactly where both have it,
+/// A flag stands for the places of its bits, 0 to 63. The meld of two flags has a bit exactly where both have it,
 /// that of many where each has it.
 pub fn flags_intersect()
     ensures bits { (x : FlagAnd) (i : ℕ) →
-        Contains (flag_stands_for x) i ↔ ((i < 32) × IsBitSet x.bits i) }
+        Contains (flag_stands_for x) i ↔ ((i < payload_bits) × IsBitSet x.bits i) }
     ensures melds { MeldsToIntersection places
         ⟦<FlagAnd as Meld>⟧.unit ⟦<FlagAnd as Meld>⟧.meld flag_stands_for }
 {}
 
-/// A mask stands for a set of context ids, 0 to 31. The meld of masks stands for the intersection of their sets.
+/// A mask stands for a set of context ids, 0 to 63. The meld of masks stands for the intersection of their sets.
 pub fn masks_intersect()
     ensures ids { (x : CtxMask) (id : ℕ) →
-        Contains (mask_stands_for x) id ↔ ((id < 32) × IsBitSet x.bits id) }
+        Contains (mask_stands_for x) id ↔ ((id < payload_bits) × IsBitSet x.bits id) }
     ensures melds { MeldsToIntersection places
         ⟦<CtxMask as Meld>⟧.unit ⟦<CtxMask as Meld>⟧.meld mask_stands_for }
 {}
@@ -86,8 +87,8 @@ pub fn parts_meld<P: Meld>()
         combined P.unit P.meld xs ≡ combined P.unit P.meld ys }
 {}
 
-/// A value comes back from its word, and the word has 32 bits.
+/// A value comes back from its word, and the word has 64 bits.
 pub fn packing_is_exact<P: Packed>()
     ensures round_trip { (x : P) → P.unpack (P.pack x) ≡ Some x }
-    ensures fits { (x : P) → P.pack x < 2 ^ 32 }
+    ensures fits { (x : P) → P.pack x < 2 ^ payload_bits }
 {}

@@ -1,6 +1,7 @@
 //! What a kind of contribution has to have so that ranks can agree on it: a way to combine two values, with its laws.
 ghost use Rattle.std.specs.Prelude.{◌≡◌, ℕ, ◌<◌, ◌^◌, Option, Some};
 ghost use Rattle.ulfm_laws.specs.Lawful.{IsLawful};
+ghost use Rattle.ulfm_laws.specs.Ranges.{payload_bits};
 
 /// A kind of value that ranks contribute to a round.
 ///
@@ -25,7 +26,7 @@ pub trait Meld: Copy {
     ghost lawful: { IsLawful unit meld };
 }
 
-/// A kind whose values fit into a word of 32 bits.
+/// A kind whose values fit into a word of 64 bits.
 pub trait Packed: Meld {
     /// What `pack` returns.
     ghost pack: { Self → ℕ };
@@ -34,16 +35,16 @@ pub trait Packed: Meld {
     ghost unpack: { ℕ → Option Self };
 
     /// The value's word.
-    fn pack(&self) -> u32
+    fn pack(&self) -> u64
         ensures { result ≡ pack self.now };
 
     /// The value of a word that `pack` gave. Of any other word it is what the kind says, `None` or some value.
-    fn unpack(word: u32) -> Option<Self>
+    fn unpack(word: u64) -> Option<Self>
         ensures { result ≡ unpack word };
 
     /// A value comes back from its word.
     ghost unpack_pack: { (x : Self) → unpack (pack x) ≡ Some x };
 
-    /// A word has 32 bits.
-    ghost pack_fits: { (x : Self) → pack x < 2 ^ 32 };
+    /// A word has 64 bits.
+    ghost pack_fits: { (x : Self) → pack x < 2 ^ payload_bits };
 }

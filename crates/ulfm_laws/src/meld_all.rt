@@ -12,7 +12,7 @@ use crate::meld::Meld;
 /// ```
 /// let flags = [FlagAnd { bits: 0x0f }, FlagAnd { bits: 0x3c }];
 /// assert!(rt; meld_all(&flags) == FlagAnd { bits: 0x0c });
-/// assert!(rt; meld_all(&none) == FlagAnd { bits: 0xffff_ffff });
+/// assert!(rt; meld_all(&none) == FlagAnd { bits: u64::MAX });
 /// ```
 pub fn meld_all<P: Meld>(values: &[P]) -> P
     ensures { result ≡ combined P.unit P.meld values.now }

@@ -1,6 +1,5 @@
 -- Calls that are under way, and whose they are, behind each line of a trace.
-use Rattle.std.proofs.Common.{◌≡◌, ℕ, ◌&&◌, ◌||◌, Bool, true, false, not, List, [], ◌∷◌, ◌++◌, filter, find, Option, is_some, Some, None, refl, ap, sym, ◌∙◌, IsTrue, if◌then◌else◌}
-use Rattle.ulfm_laws.specs.declared.flag_and.FlagAnd.{FlagAnd}
+use Rattle.std.proofs.Common.{◌≡◌, ℕ, ◌&&◌, ◌||◌, Bool, true, false, not, List, [], ◌∷◌, ◌++◌, filter, find, Option, is_some, Some, None, refl, ap, sym, ◌∙◌, if◌then◌else◌}
 use Rattle.ulfm_model.specs.declared.{event.Caller.{Caller}, event.Event.{Event}, reply.Reply.{Reply}}
 use Rattle.ulfm_model.specs.Answers.{traits_of}
 use Rattle.ulfm_trace_model.specs.declared.line.Line.{Line}
@@ -101,7 +100,7 @@ has_changed {P} by other f keeps (x ∷ xs) = go (same_caller (caller_of x) by) 
 
 -- whether rank q has a call under way behind a line, where it has or hasn't before
 abbrev pub opens : {P : Type 0} → ℕ → Line P → Bool → Bool
-opens q (Line.Called asked) was = was || same_caller (traits_of asked).by (Caller.Rank q)
+opens q (Line.Called asked padded) was = was || same_caller (traits_of asked).by (Caller.Rank q)
 opens q (Line.Replied by point (Some reply)) was = not (same_caller by (Caller.Rank q)) && was
 opens q _ was = was
 
@@ -125,7 +124,7 @@ module _ {P : Type 0} (q : ℕ) where
       go (Some u) some false differ = ap is_some (find_kept by (Caller.Rank q) differ now.calls)
 
   line_opens : (now : Traced P) (line : Line P) → is_some (call_by (after now line) (Caller.Rank q)) ≡ opens q line (is_some (call_by now (Caller.Rank q)))
-  line_opens now (Line.Called asked) = has_last (Caller.Rank q) now.calls _
+  line_opens now (Line.Called asked padded) = has_last (Caller.Rank q) now.calls _
   line_opens now (Line.Looked r count) = has_changed (Caller.Rank r) (Caller.Rank q) (λ u. record u { look = Some count }) (λ u. refl) now.calls
   line_opens now (Line.Happened by None) = refl
   line_opens now (Line.Happened by (Some event)) = has_changed by (Caller.Rank q) (with_event event) (keeps_asked event) now.calls
@@ -141,7 +140,7 @@ module _ {P : Type 0} (q : ℕ) where
   opens_append (x ∷ xs) ys was = opens_append xs ys (opens q x.line was)
 
   outside_line : (line : Line P) (was : Bool) → is_of Caller.Outside line ≡ true → opens q line was ≡ was
-  outside_line (Line.Called asked) was is = absurd (cc is)
+  outside_line (Line.Called asked padded) was is = absurd (cc is)
   outside_line (Line.Looked r count) was is = absurd (cc is)
   outside_line (Line.Happened by event) was is = refl
   outside_line (Line.Replied by point None) was is = refl

@@ -1,7 +1,7 @@
 -- An event that a line tells is read from it, and one that is read is told by it.
-use Rattle.std.proofs.Common.{◌≡◌, ◌≢◌, ℕ, ◌<◌, ◌≤◌, List, [], ◌∷◌, ◌++◌, length, Option, Some, None, Result, Ok, Err, Bool, true, false, cond, refl, sym, ap, subst, ◌∙◌, inl, inr, arith, rules}
-use Rattle.std.specs.{Prelude.{◌⊎◌, ⊤, codes, min}, Coded.{le_prop}, Fmt.{decimal}, Str.{bytes_eq}}
-use Rattle.std.proofs.lemmas.{Bool.{cases_lt, lt-leb, le-leb, lt-ltb, le-ltb}, Slice.Eq.{bytes_eq-Decides}}
+use Rattle.std.proofs.Common.{◌≡◌, ℕ, ◌<◌, ◌≤◌, List, ◌∷◌, ◌++◌, Option, Some, None, Result, Ok, Err, refl, sym, ap, subst, ◌∙◌, inl, inr, arith}
+use Rattle.std.specs.{Prelude.{⊤, codes, min}, Coded.{le_prop}, Fmt.{decimal}}
+use Rattle.std.proofs.lemmas.{Bool.{cases_lt, lt-leb, le-leb, lt-ltb, le-ltb}}
 use Rattle.ulfm_laws.specs.{Counts.{same_acked, same_known}, declared.{counts.Acked.{Acked}, flag_and.FlagAnd.{FlagAnd}, counts.Known.{Known}}}
 use Rattle.ulfm_model.specs.declared.{contribution.Contribution.{Contribution}, contribution.MarkCount.{MarkCount}, contribution.Offer.{Offer}, event.Event.TheVariants.{Fail, Settle, Mark, Arrive, Revoke, Spawn}}
 use Rattle.ulfm_model.specs.Computed.{given_at, mark_at}
@@ -10,7 +10,7 @@ use Rattle.ulfm_script.specs.declared.line_kind.LineKind.{LineKind}
 use Rattle.ulfm_script.specs.declared.line_kind.LineKind.TheVariants.{Words}
 use Rattle.ulfm_script.specs.{Steps.{◌>>=◌}, Words.{next_word}}
 use Rattle.ulfm_script.proofs.{Spelled.{verb_found}, WordLemmas.{IsWord, done, joined, next_before, next_found, same_done, step_found}}
-use Rattle.ulfm_lines.specs.{EventReading.{ReadEvent, arrive_event, event_from, event_of, read_fail, mark_event, marked, revoke_event, settle_event, settled, spawn_event}, Fields.{Field, both, comm_field, labelled, number_field, offer_field, place_field, rank_field, whole}, LineTexts.{TraceEvent, event_text, mark_text, offer_text, place_text, settle_text}, Telling.{EventFits, IsForgedMark, IsForgedSettlement, PlaceFits, TellsEvent}}
+use Rattle.ulfm_lines.specs.{EventReading.{ReadEvent, arrive_event, event_from, event_of, read_fail, mark_event, marked, revoke_event, settle_event, settled, spawn_event}, Fields.{Field, both, comm_field, labelled, number_field, offer_field, place_field, rank_field, whole}, LineTexts.{TraceEvent, mark_text, offer_text, place_text, settle_text}, Telling.{IsForgedMark, IsForgedSettlement, PlaceFits, TellsEvent}}
 use Rattle.ulfm_lines.proofs.FieldLemmas.{IsField, both_fields, is_comm, is_labelled, is_number, is_offer, is_place, is_rank, whole_again, whole_found}
 use Rattle.ulfm_lines.proofs.Literals.{literal}
 

@@ -1,13 +1,13 @@
 -- A field that is put into a line is read from it, and one that is read stands in it.
-use Rattle.std.proofs.Common.{◌≡◌, ◌≢◌, ℕ, ◌<◌, List, [], ◌∷◌, ◌++◌, length, Option, Some, None, Result, Ok, Err, Bool, true, false, cond, if◌then◌else◌, refl, sym, ap, subst, ◌∙◌, append_assoc, inl, inr, arith, rules}
+use Rattle.std.proofs.Common.{◌≡◌, ℕ, ◌<◌, List, ◌∷◌, ◌++◌, Option, Some, None, Result, Ok, Err, Bool, true, false, if◌then◌else◌, refl, sym, ap, subst, ◌∙◌, append_assoc, inl, inr, arith}
 use Rattle.std.specs.{Prelude.{◌⊎◌, ⊤, codes}, Fmt.{decimal}, Str.{bytes_eq}}
 use Rattle.std.proofs.lemmas.Slice.Eq.{bytes_eq-Decides}
-use Rattle.ulfm_laws.specs.declared.{ctx_mask.CtxMask.{CtxMask}, flag_and.FlagAnd.{FlagAnd}}
+use Rattle.ulfm_laws.specs.declared.{flag_and.FlagAnd.{FlagAnd}}
 use Rattle.ulfm_model.specs.declared.{contribution.Offer.{Offer}, contribution.Offer.TheVariants.{Flag, Ctx}, event.Caller.{Caller}, event.Caller.TheVariants.{Outside, Rank}}
 use Rattle.ulfm_script.specs.declared.line_kind.LineKind.{LineKind}
 use Rattle.ulfm_script.specs.declared.line_kind.LineKind.TheVariants.{Number, Words}
-use Rattle.ulfm_script.specs.{Digits.{read_comm, read_flag, flag_text, number_in, read_number, number_to, read_point, read_rank}, Steps.{◌>>=◌}, Words.{next_word}}
-use Rattle.ulfm_script.proofs.{Hexadecimal.{flag_again, flag_found}, Numerals.{number_again, number_found, number_to_found, point_again, point_found}, Spelled.{chosen, comm_again, number_is_word, rank_again}, WordLemmas.{IsWord, decimal_is_word, done, flag_is_word, joined, next_alone, next_before, next_found, same_done, step_found}}
+use Rattle.ulfm_script.specs.{Digits.{read_comm, read_printed_flag, flag_text, number_in, read_number, number_to, read_point, read_rank}, Steps.{◌>>=◌}, Words.{next_word}}
+use Rattle.ulfm_script.proofs.{Hexadecimal.{printed_again, printed_found}, Numerals.{number_again, number_found, number_to_found, point_again, point_found}, Spelled.{chosen, comm_again, number_is_word, rank_again}, WordLemmas.{IsWord, decimal_is_word, done, flag_is_word, joined, next_alone, next_before, next_found, same_done, step_found}}
 use Rattle.ulfm_lines.specs.{Fields.{Field, both, caller_field, read_caller, comm_field, error_field, error_of, field_by, flag_field, flag_mask, is_word, label_field, labelled, number_field, offer_field, offer_of, over, place_field, point_field, rank_field, whole}, LineTexts.{caller_text, mask_flag, offer_text, place_text}, Telling.{CallerFits, PlaceFits}}
 use Rattle.ulfm_lines.proofs.Literals.{literal}
 
@@ -110,7 +110,7 @@ is_point = field_of_word read_point decimal (λ n. n < 10000000) (λ n h. decima
 
 pub is_flag : IsField flag_field flag_text (λ flag. ⊤)
 unfolding flag_field
-is_flag = field_of_word read_flag flag_text (λ flag. ⊤) (λ flag h. flag_is_word flag) (λ flag h. flag_again flag) (λ w flag e. (tt, flag_found w flag e))
+is_flag = field_of_word read_printed_flag flag_text (λ flag. ⊤) (λ flag h. flag_is_word flag) (λ flag h. printed_again flag) (λ w flag e. (tt, printed_found w flag e))
 
 caller_is_word : (by : Caller) → CallerFits by → IsWord (caller_text by)
 caller_is_word Outside h = literal _ refl

@@ -1,13 +1,12 @@
 -- A line that tells something is read, and what is read is told by it.
-use Rattle.std.proofs.Common.{◌≡◌, ℕ, ◌+◌, ◌<◌, ◌≤◌, List, [], ◌∷◌, ◌++◌, length, Option, Some, None, Result, Ok, Err, Bool, true, false, cond, refl, sym, ap, subst, ◌∙◌, append_assoc, inl, inr, arith, rules, length-append}
-use Rattle.std.specs.{Prelude.{◌⊎◌, codes}, Fmt.{decimal}, Str.{bytes_eq}}
-use Rattle.std.proofs.lemmas.Slice.Eq.{bytes_eq-Decides}
+use Rattle.std.proofs.Common.{◌≡◌, ℕ, ◌<◌, List, [], ◌∷◌, ◌++◌, length, Option, Some, None, Result, Ok, Err, Bool, cond, refl, sym, ap, subst, ◌∙◌, append_assoc}
+use Rattle.std.specs.{Prelude.{codes}, Fmt.{decimal}, Str.{bytes_eq}}
 use Rattle.ulfm_model.specs.declared.event.Caller.{Caller}
 use Rattle.ulfm_script.specs.declared.line_kind.LineKind.{LineKind}
 use Rattle.ulfm_script.specs.declared.line_kind.LineKind.TheVariants.{Words}
-use Rattle.ulfm_script.specs.{Calls.{ScriptCall, call_of}, Steps.{◌>>=◌}, Words.{first_word}}
-use Rattle.ulfm_script.proofs.{Spelled.{read_is_spelled, spelled_again, verb_found}, WordLemmas.{done, joined, joined_word, same_done, step_found}}
-use Rattle.ulfm_lines.specs.{EventReading.{ReadEvent, event_of}, Fields.{Field, both, caller_field, number_field, point_field, rank_field, whole}, LineReading.{SomeReply, called_line, happened_line, line_from, line_head, line_listing, looked_line, replied_line, some_reply_of, told_listing}, LineTexts.{TraceLine, caller_text, two_text}, Telling.{AreRanks, CallerFits, TellsLine, behind_ranks}}
+use Rattle.ulfm_script.specs.{Calls.{ScriptCall, call_of}, Spelling.{is_padded}, Steps.{◌>>=◌}, Words.{first_word}}
+use Rattle.ulfm_script.proofs.{Spelled.{read_is_spelled, spelled_again, verb_found}, WordLemmas.{joined, joined_word, step_found}}
+use Rattle.ulfm_lines.specs.{EventReading.{ReadEvent, event_of}, Fields.{Field, both, caller_field, number_field, point_field, rank_field, whole}, LineReading.{SomeReply, called_line, happened_line, line_from, line_head, line_listing, looked_line, replied_line, some_reply_of}, LineTexts.{TraceLine, caller_text, two_text}, Telling.{AreRanks, CallerFits, TellsLine, behind_ranks}}
 use Rattle.ulfm_trace_model.specs.declared.line.Line.TheVariants.{Called, Looked, Happened, Replied}
 use Rattle.ulfm_lines.proofs.{EventLemmas.{event_again, event_found}, FieldLemmas.{IsField, both_fields, is_caller, is_number, is_point, is_rank, same_field, whole_again, whole_found}, RankLemmas.{nobody}, ReplyLemmas.{reply_again, reply_found}}
 
@@ -25,9 +24,9 @@ called_found : Reads (codes "call") called_line
 unfolding called_line
 called_found None line rest e g ranks behind = absurd cc
 called_found (Some text) line rest e g ranks behind =
-    let x = step_found (call_of text) (λ asked. with_rest (Called asked) None) (line, rest) e in
-    let same = same_field (Called x.0) line None rest x.2 in
-    subst (λ (l : TraceLine). TellsLine (codes "call" ++ 32 ∷ text) g (line_listing (length g) l)) same.0 (text, refl, read_is_spelled text x.0 x.1, nobody g (behind ∙ sym same.1))
+    let x = step_found (call_of text) (λ asked. with_rest (Called asked (is_padded text asked)) None) (line, rest) e in
+    let same = same_field (Called x.0 (is_padded text x.0)) line None rest x.2 in
+    subst (λ (l : TraceLine). TellsLine (codes "call" ++ 32 ∷ text) g (line_listing (length g) l)) same.0 (text, refl, record { spells = read_is_spelled text x.0 x.1; padded_is = refl }, nobody g (behind ∙ sym same.1))
 
 is_looking : IsField (both rank_field number_field) (λ x. two_text x.0 x.1) (λ x. (x.0 < 1024) × (x.1 < 10000))
 is_looking = both_fields rank_field number_field decimal decimal (λ r. r < 1024) (λ n. n < 10000) is_rank is_number
@@ -120,8 +119,10 @@ looked_again r count h k = ap (λ (x : Result (ℕ × ℕ) LineKind). x >>= λ x
 -- a line that tells something is read
 pub line_again : (text group : List ℕ) (told : TraceLine) → TellsLine text group told → IsLineRead text group told
 unfolding line_head called_line happened_line replied_line
-line_again text group (Called asked) h =
-    alone_read text group (Called asked) h.3 (λ n. refl) (ap line_head h.1 ∙ ap (λ (c : Result ScriptCall LineKind). c >>= λ asked. with_rest (Called asked) None) (spelled_again h.0 asked h.2))
+line_again text group (Called asked padded) h =
+    alone_read text group (Called asked padded) h.3 (λ n. refl)
+    (ap line_head h.1 ∙ ap (λ (c : Result ScriptCall LineKind). c >>= λ asked. with_rest (Called asked (is_padded h.0 asked)) None) (spelled_again h.0 asked h.2.spells)
+    ∙ ap (λ (p : Bool). with_rest (Called asked p) None) (sym h.2.padded_is))
 line_again text group (Looked r count) h = alone_read text group (Looked r count) h.3 (λ n. refl) (ap line_head h.2 ∙ looked_again r count h.0 h.1)
 line_again text group (Happened by event) h =
     alone_read text group (Happened by event) h.4 (λ n. refl)

@@ -1,5 +1,5 @@
 -- Texts that are written out, as words.
-use Rattle.std.proofs.Common.{◌≡◌, ◌≢◌, ℕ, ◌+◌, List, [], ◌∷◌, length, Bool, true, false, ◌&&◌, refl, subst, arith}
+use Rattle.std.proofs.Common.{◌≡◌, ◌≢◌, ℕ, List, [], ◌∷◌, Bool, true, false, ◌&&◌, refl, subst, arith}
 use Rattle.std.specs.{Prelude.{◌==◌, not}, List.{AllByRecursion}}
 use Rattle.ulfm_script.proofs.WordLemmas.{IsWord}
 

@@ -1,11 +1,11 @@
 -- What reading a line of a trace gives.
-use Rattle.std.proofs.Common.{◌≡◌, ℕ, ◌+◌, ◌<◌, ◌≤◌, List, [], ◌∷◌, ◌++◌, length, Option, Some, None, Result, Ok, Err, Bool, true, false, refl, sym, ap, subst, ◌∙◌, arith, length-append}
+use Rattle.std.proofs.Common.{◌≡◌, ℕ, ◌≤◌, List, [], ◌∷◌, ◌++◌, length, Option, Some, None, Ok, Err, Bool, true, false, refl, sym, ap, subst, ◌∙◌, arith, length-append}
 use Rattle.std.specs.{Prelude.{codes}, Fmt.{decimal}}
-use Rattle.ulfm_model.specs.declared.call.Call.TheVariants.{Fail, GetFailed, Ack, Agree, Shrink, Barrier, Poll, Revoke, IsRevoked, Free}
 use Rattle.ulfm_model.specs.declared.reply.Reply.TheVariants as reply
 use Rattle.ulfm_script.specs.declared.line_kind.LineKind.{LineKind}
-use Rattle.ulfm_script.specs.{Calls.{ScriptCall}, Printed.{ranks_text, reply_text, shrunk_text}, Spelling.{Spells, call_text}}
-use Rattle.ulfm_lines.specs.{Fields.{Field}, LineReading.{SomeReply, line_head, line_listing}, LineTexts.{TraceLine, caller_text, event_text, line_text}, Telling.{AreRanks, LineFits, ListsRanks, TextTells, TellsLine, TellsReply, behind_ranks}}
+use Rattle.ulfm_script.specs.{Printed.{ranks_text, reply_text, shrunk_text}, Spelling.{SpellsAs, spelled_text}}
+use Rattle.ulfm_script.proofs.Spelled.{spelled_as}
+use Rattle.ulfm_lines.specs.{Fields.{Field}, LineReading.{SomeReply, line_head, line_listing}, LineTexts.{TraceLine, caller_text, event_text, line_text}, Telling.{LineFits, ListsRanks, TextTells, TellsLine, TellsReply}}
 use Rattle.ulfm_trace_model.specs.declared.line.Line.TheVariants.{Called, Looked, Happened, Replied}
 use Rattle.ulfm_lines.proofs.{FieldLemmas.{same_field}, LineLemmas.{line_again, line_found}, RankLemmas.{ranks_few, ranks_once}}
 
@@ -72,7 +72,7 @@ reply_few text g (Some reply.Freed) h = nobody_few g (length text) h.0
 reply_few text g (Some (reply.Refused refusal)) h = nobody_few g (length text) h.0.1
 
 lists_few : (text g : List ℕ) (told : TraceLine) → TellsLine text g told → length g ≤ length text
-lists_few text g (Called asked) h = nobody_few g (length text) h.3
+lists_few text g (Called asked padded) h = nobody_few g (length text) h.3
 lists_few text g (Looked r count) h = nobody_few g (length text) h.3
 lists_few text g (Happened by event) h = nobody_few g (length text) h.4
 lists_few text g (Replied by point told) h =
@@ -83,21 +83,8 @@ pub few_ranks : (text group : List ℕ) (head : TraceLine) (rest : Option (List 
 few_ranks text group head rest read lists short =
     omega (arith, lists_few text group (line_listing (length group) head) (line_found text head rest read group lists.0 lists.1), short)
 
--- a call that is spelled is spelled by its text
-call_spelled : (text : List ℕ) (asked : ScriptCall) → Spells text asked → text ≡ call_text asked
-call_spelled text (Fail rank) h = h.1
-call_spelled text (GetFailed rank comm) h = h.line_is
-call_spelled text (Ack rank comm count) h = h.1.line_is
-call_spelled text (Agree rank comm flag) h = h.line_is
-call_spelled text (Shrink rank comm) h = h.line_is
-call_spelled text (Barrier rank comm) h = h.line_is
-call_spelled text (Poll rank comm) h = h.line_is
-call_spelled text (Revoke rank comm) h = h.line_is
-call_spelled text (IsRevoked rank comm) h = h.line_is
-call_spelled text (Free rank comm) h = h.line_is
-
 printed_line : (group : List ℕ) (line : TraceLine) → LineFits group line → TellsLine (line_text group line) group line
-printed_line group (Called asked) h = (call_text asked, refl, subst (λ (t : List ℕ). Spells t asked) (call_spelled h.0.0 asked h.0.1) h.0.1, h.1)
+printed_line group (Called asked padded) h = (spelled_text padded asked, refl, subst (λ (t : List ℕ). SpellsAs padded t asked) (spelled_as padded h.0.0 asked h.0.1) h.0.1, h.1)
 printed_line group (Looked r count) h = (h.0, h.1, refl, h.2)
 printed_line group (Happened by None) h = absurd h
 printed_line group (Happened by (Some event)) h = (event_text event, h.0, refl, (h.1, refl), h.2)

@@ -1,7 +1,7 @@
 -- A reply that a line tells is read from it, and one that is read is told by it.
-use Rattle.std.proofs.Common.{◌≡◌, ◌≢◌, ℕ, ◌<◌, ◌≤◌, List, [], ◌∷◌, ◌++◌, length, Option, Some, None, Result, Ok, Err, Bool, true, false, cond, ◌&&◌, refl, sym, ap, subst, ◌∙◌, append_assoc, inl, inr, arith, rules}
-use Rattle.std.specs.{Prelude.{◌⊎◌, ◌==◌, ⊤, codes, nat_lt}, List.{AllByRecursion}, Fmt.{decimal}, Str.{bytes_eq}}
-use Rattle.std.proofs.lemmas.{Bool.{cases_lt, lt-ltb, le-ltb}, Bool.Decides.{nat_tests}, List.{append-nil}, Slice.Eq.{bytes_eq-Decides}}
+use Rattle.std.proofs.Common.{◌≡◌, ◌≢◌, ℕ, ◌<◌, List, [], ◌∷◌, ◌++◌, length, Option, Some, None, Result, Ok, Err, Bool, true, false, cond, ◌&&◌, refl, sym, ap, subst, ◌∙◌, inl, inr, arith}
+use Rattle.std.specs.{Prelude.{◌==◌, ⊤, codes}, Fmt.{decimal}, Str.{bytes_eq}}
+use Rattle.std.proofs.lemmas.{Bool.{cases_lt, lt-ltb, le-ltb}, Bool.Decides.{nat_tests}, Slice.Eq.{bytes_eq-Decides}}
 use Rattle.ulfm_laws.specs.declared.flag_and.FlagAnd.{FlagAnd}
 use Rattle.ulfm_model.specs.declared.{refusal.Refusal.{Refusal}, reply.Reply.{Reply}}
 use Rattle.ulfm_model.specs.declared.refusal.Refusal.TheVariants as refusal
@@ -11,7 +11,7 @@ use Rattle.ulfm_script.specs.declared.line_kind.LineKind.{LineKind}
 use Rattle.ulfm_script.specs.declared.line_kind.LineKind.TheVariants.{Number, Words}
 use Rattle.ulfm_script.specs.{Digits.{flag_text, number_in, number_to}, Printed.{ranks_text, reply_text, shrunk_text}, Steps.{◌>>=◌}, Words.{next_word}}
 use Rattle.ulfm_script.proofs.{Spelled.{chosen, verb_found}, WordLemmas.{IsWord, done, joined, next_found, same_done, step_found}}
-use Rattle.ulfm_lines.specs.{Fields.{Field, both, comm_field, error_field, flag_field, label_field, labelled, number_field, over, rank_field, whole}, LineReading.{SomeReply, acked_reply, read_agreed, alone, failed_reply, listing, made, or_refusal, or_reply, read_plain, refusal_field, read_refusal, refused_reply, reply_from, read_shrunk, some_reply_of, told_listing}, Telling.{AreRanks, IsForgedReply, ReplyFits, TellsReply, behind_ranks}}
+use Rattle.ulfm_lines.specs.{Fields.{Field, both, comm_field, error_field, flag_field, label_field, labelled, number_field, over, rank_field, whole}, LineReading.{SomeReply, acked_reply, read_agreed, alone, failed_reply, listing, made, or_refusal, or_reply, read_plain, refusal_field, read_refusal, refused_reply, reply_from, read_shrunk, some_reply_of, told_listing}, Telling.{AreRanks, ReplyFits, TellsReply, behind_ranks}}
 use Rattle.ulfm_lines.proofs.FieldLemmas.{IsField, both_fields, error_word, two_ways, is_comm, is_error, is_flag, is_label, is_labelled, is_number, joined_more, next_joined, over_found, same_field, whole_again, whole_found}
 use Rattle.ulfm_lines.proofs.RankLemmas.{nobody, rank_again, somebody}
 use Rattle.ulfm_lines.proofs.Literals.{and_true, literal}

@@ -1,6 +1,6 @@
 -- What is read of a line of a step script is spelled so, and what is spelled so is read.
-use Rattle.std.proofs.Common.{◌≡◌, ◌≢◌, ℕ, ◌<◌, List, [], ◌∷◌, ◌++◌, length, Option, Some, None, Result, Ok, Err, Bool, true, false, cond, if◌then◌else◌, refl, sym, ap, subst, ◌∙◌, inl, inr, arith, rules}
-use Rattle.std.specs.{Prelude.{◌⊎◌, ◌==◌, codes, IfOk}, Fmt.{decimal}, Str.{bytes_eq}}
+use Rattle.std.proofs.Common.{◌≡◌, ℕ, ◌<◌, List, ◌∷◌, ◌++◌, length, Option, Some, None, Result, Ok, Err, Bool, true, false, cond, if◌then◌else◌, refl, sym, ap, subst, ◌∙◌, inl, inr, arith}
+use Rattle.std.specs.{Prelude.{◌==◌, codes, IfOk}, Fmt.{decimal}, Str.{bytes_eq}}
 use Rattle.std.proofs.lemmas.{Bool.{eqb-false, ne_eqb}, Slice.Eq.{bytes_eq-Decides}}
 use Rattle.ulfm_model.specs.declared.call.Call.TheVariants.{Fail, GetFailed, Ack, Agree, Shrink, Barrier, Poll, Revoke, IsRevoked, Free}
 use Rattle.ulfm_model.specs.declared.step_name.StepName.{StepName}
@@ -8,9 +8,9 @@ use Rattle.ulfm_model.specs.declared.step_name.StepName.TheVariants as name
 use Rattle.ulfm_trace_model.specs.declared.step_line.StepLine.TheVariants.{Called, Stepped, Before, Finished, Failed}
 use Rattle.ulfm_script.specs.declared.line_kind.LineKind.{LineKind}
 use Rattle.ulfm_script.specs.declared.line_kind.LineKind.TheVariants.{Number, Step, Verb, Words}
-use Rattle.ulfm_script.specs.{Calls.{ScriptCall, call_of}, Digits.{read_number, read_rank}, Spelling.{Spells}, Steps.{◌>>=◌}, Words.{one_of, two_of, first_word}}
+use Rattle.ulfm_script.specs.{Calls.{ScriptCall, call_of}, Digits.{read_number, read_rank}, Spelling.{Spells, SpellsAs, is_padded}, Steps.{◌>>=◌}, Words.{one_of, two_of, first_word}}
 use Rattle.ulfm_script.proofs.{Numerals.{number_again, number_found, number_to_found}, Spelled.{chosen, number_is_word, rank_again, read_is_spelled, spelled_again, verb_found}, WordLemmas.{IsWord, joined, joined_word, one_again, one_found, same_done, step_found, two_again, two_found}}
-use Rattle.ulfm_lines.specs.{StepLines.{IsByRank, ScriptStep, SpellsStep, read_asked_in, read_asked, before_of, read_failed, finished_of, step_from, step_line_of, stepped_of}, StepNames.{read_step_name, or_name, step_text}}
+use Rattle.ulfm_lines.specs.{StepLines.{IsByRank, ScriptStep, SpellsStep, read_asked, before_of, read_failed, finished_of, step_from, step_line_of, stepped_of}, StepNames.{read_step_name, or_name, step_text}}
 use Rattle.ulfm_lines.proofs.Literals.{literal}
 
 -- names
@@ -29,8 +29,8 @@ no_name word found e = absurd cc
 pub name_found : (word : List ℕ) (found : StepName) → read_step_name word ≡ Ok found → word ≡ step_text found
 unfolding read_step_name
 name_found word found e = tested word name.List found _ (tested word name.Settle found _ (tested word name.Block found _ (tested word name.Mark found _ (tested word name.Slot found _
-    (tested word name.Cache found _ (tested word name.Comm found _ (tested word name.Spawn found _ (tested word name.Arrive found _ (tested word name.Arrival found _
-    (tested word name.Revoke found _ (tested word name.Revocation found _ (no_name word found)))))))))))) e
+    (tested word name.Cache found _ (tested word name.Wing found _ (tested word name.Comm found _ (tested word name.Spawn found _ (tested word name.Arrive found _ (tested word name.Arrival found _
+    (tested word name.Revoke found _ (tested word name.Revocation found _ (no_name word found))))))))))))) e
 
 -- the same at a result
 pub names_found : (word : List ℕ) (r : Result StepName LineKind) → r ≡ read_step_name word → IfOk r (λ name. word ≡ step_text name)
@@ -46,6 +46,7 @@ name_again name.Block = refl
 name_again name.Mark = refl
 name_again name.Slot = refl
 name_again name.Cache = refl
+name_again name.Wing = refl
 name_again name.Comm = refl
 name_again name.Spawn = refl
 name_again name.Arrive = refl
@@ -60,6 +61,7 @@ name_is_word name.Block = literal _ refl
 name_is_word name.Mark = literal _ refl
 name_is_word name.Slot = literal _ refl
 name_is_word name.Cache = literal _ refl
+name_is_word name.Wing = literal _ refl
 name_is_word name.Comm = literal _ refl
 name_is_word name.Spawn = literal _ refl
 name_is_word name.Arrive = literal _ refl
@@ -75,7 +77,7 @@ by_rank : (line : List ℕ) (asked : ScriptCall) → Spells line asked → IsByR
 by_rank line (Fail rank) h k = absurd (k rank refl)
 by_rank line (GetFailed rank comm) h k = rw h.line_is (refl, refl)
 by_rank line (Ack rank comm count) h k = rw h.1.line_is (refl, refl)
-by_rank line (Agree rank comm flag) h k = rw h.line_is (refl, refl)
+by_rank line (Agree rank comm flag) h k = rw h.2.line_is (refl, refl)
 by_rank line (Shrink rank comm) h k = rw h.line_is (refl, refl)
 by_rank line (Barrier rank comm) h k = rw h.line_is (refl, refl)
 by_rank line (Poll rank comm) h k = rw h.line_is (refl, refl)
@@ -83,11 +85,11 @@ by_rank line (Revoke rank comm) h k = rw h.line_is (refl, refl)
 by_rank line (IsRevoked rank comm) h k = rw h.line_is (refl, refl)
 by_rank line (Free rank comm) h k = rw h.line_is (refl, refl)
 
-asked_again : (line : List ℕ) (asked : ScriptCall) → Spells line asked → IsByRank asked → read_asked (Some line) ≡ Ok (Called asked)
+asked_again : (line : List ℕ) (asked : ScriptCall) (padded : Bool) → SpellsAs padded line asked → IsByRank asked → read_asked (Some line) ≡ Ok (Called asked padded)
 unfolding read_asked
-asked_again line asked h k =
-    let w = by_rank line asked h k in
-    rw (w.0, w.1, spelled_again line asked h) refl
+asked_again line asked padded h k =
+    let w = by_rank line asked h.spells k in
+    rw (w.0, w.1, spelled_again line asked h.spells) (ap (λ (p : Bool). Ok (Called asked p)) (sym h.padded_is))
 
 nonzero : (n : ℕ) → 0 < n → (n == 0) ≡ false
 nonzero n h = ne_eqb n 0 (λ e. omega (arith, h, e))
@@ -113,7 +115,7 @@ failed_again rank h = rw (one_again (decimal rank) (number_is_word rank (omega (
 -- what is spelled so is read
 pub step_again : (line : List ℕ) (step : ScriptStep) → SpellsStep line step → step_line_of line ≡ Ok step
 unfolding step_line_of
-step_again line (Called asked) h = ap step_line_of h.3 ∙ asked_again h.0 asked h.1 h.2
+step_again line (Called asked padded) h = ap step_line_of h.3 ∙ asked_again h.0 asked padded h.1 h.2
 step_again line (Stepped rank count) h = ap step_line_of h.3 ∙ stepped_again rank count h.0 h.1 h.2
 step_again line (Before rank name) h = ap step_line_of h.1 ∙ before_again rank name h.0
 step_again line (Finished rank) h = ap step_line_of h.1 ∙ finished_again rank h.0
@@ -134,14 +136,14 @@ asked_found : Reads (codes "call") read_asked
 unfolding read_asked
 asked_found None step e = absurd cc
 asked_found (Some text) step e =
-    elim (chosen (length (first_word text).0 == 0) (Err Words) (cond (bytes_eq (first_word text).0 (codes "fail")) (Err Verb) (call_of text >>= λ asked. Ok (Called asked))) (Ok step) e) [
+    elim (chosen (length (first_word text).0 == 0) (Err Words) (cond (bytes_eq (first_word text).0 (codes "fail")) (Err Verb) (call_of text >>= λ asked. Ok (Called asked (is_padded text asked)))) (Ok step) e) [
       | inl none ↦ absurd (let k : (let r : Result ScriptStep LineKind = Err Words in r) ≡ Ok step = none.1 in cc)
-      | inr some ↦ elim (chosen (bytes_eq (first_word text).0 (codes "fail")) (Err Verb) (call_of text >>= λ asked. Ok (Called asked)) (Ok step) some.1) [
+      | inr some ↦ elim (chosen (bytes_eq (first_word text).0 (codes "fail")) (Err Verb) (call_of text >>= λ asked. Ok (Called asked (is_padded text asked))) (Ok step) some.1) [
         | inl fail ↦ absurd (let k : (let r : Result ScriptStep LineKind = Err Verb in r) ≡ Ok step = fail.1 in cc)
         | inr rank ↦ (
-            let x = step_found (call_of text) (λ asked. Ok (Called asked)) step rank.1 in
+            let x = step_found (call_of text) (λ asked. Ok (Called asked (is_padded text asked))) step rank.1 in
             let spelled = read_is_spelled text x.0 x.1 in
-            subst (SpellsStep (joined (codes "call") (Some text))) (same_done (Called x.0) step x.2) (text, spelled, not_fail text x.0 rank.0 spelled, refl)
+            subst (SpellsStep (joined (codes "call") (Some text))) (same_done (Called x.0 (is_padded text x.0)) step x.2) (text, record { spells = spelled; padded_is = refl }, not_fail text x.0 rank.0 spelled, refl)
             )
       ]
     ]

@@ -7,7 +7,7 @@ use Rattle.ulfm_model.specs.declared.{contribution.Offer.{Offer}, contribution.O
 use Rattle.ulfm_model.specs.declared.event.Caller.TheVariants.{Outside, Rank}
 use Rattle.ulfm_script.specs.declared.line_kind.LineKind.{LineKind}
 use Rattle.ulfm_script.specs.declared.line_kind.LineKind.TheVariants.{Words}
-use Rattle.ulfm_script.specs.{Digits.{read_comm, read_flag, read_number, read_point, read_rank}, Steps.{◌>>=◌}, Words.{next_word, rest_at}}
+use Rattle.ulfm_script.specs.{Digits.{read_comm, read_number, read_printed_flag, read_point, read_rank}, Steps.{◌>>=◌}, Words.{next_word, rest_at}}
 
 -- what is read of a field, and the text behind it
 abbrev pub Field : Type 0 → Type 0
@@ -48,7 +48,7 @@ unfoldable pub point_field : Option (List ℕ) → Field ℕ
 point_field text = field_by read_point text
 
 unfoldable pub flag_field : Option (List ℕ) → Field FlagAnd
-flag_field text = field_by read_flag text
+flag_field text = field_by read_printed_flag text
 
 -- a caller, as a line names it
 unfoldable pub read_caller : List ℕ → Result Caller LineKind

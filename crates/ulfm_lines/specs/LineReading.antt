@@ -1,5 +1,5 @@
 -- What the text of a trace's line tells. Where it lists ranks, they stand behind what is read here.
-use Rattle.std.specs.Prelude.{ℕ, nat_lt, ◌&&◌, ◌==◌, Bool, true, false, List, [], codes, Option, Some, None, Result, Ok, Err, if◌then◌else◌}
+use Rattle.std.specs.Prelude.{ℕ, nat_lt, ◌&&◌, ◌==◌, true, false, List, [], codes, Option, Some, None, Result, Ok, Err, if◌then◌else◌}
 use Rattle.std.specs.Str.{bytes_eq}
 use Rattle.ulfm_laws.specs.declared.flag_and.FlagAnd.{FlagAnd}
 use Rattle.ulfm_model.specs.declared.{refusal.Refusal.{Refusal}, reply.Reply.{Reply}}
@@ -8,7 +8,7 @@ use Rattle.ulfm_model.specs.declared.reply.Reply.TheVariants as reply
 use Rattle.ulfm_model.specs.Answers.{printed}
 use Rattle.ulfm_script.specs.declared.line_kind.LineKind.{LineKind}
 use Rattle.ulfm_script.specs.declared.line_kind.LineKind.TheVariants.{Words}
-use Rattle.ulfm_script.specs.{Calls.{call_of}, Printed.{reply_text}, Steps.{◌>>=◌}, Words.{next_word, first_word}}
+use Rattle.ulfm_script.specs.{Calls.{call_of}, Printed.{reply_text}, Spelling.{is_padded}, Steps.{◌>>=◌}, Words.{next_word, first_word}}
 use Rattle.ulfm_lines.specs.EventReading.{event_of}
 use Rattle.ulfm_lines.specs.Fields.{Field, both, caller_field, comm_field, error_field, flag_field, label_field, labelled, number_field, over}
 use Rattle.ulfm_lines.specs.Fields.{point_field, rank_field, whole}
@@ -104,7 +104,7 @@ some_reply_of text = next_word text >>= reply_from
 -- a call that begins
 unfoldable pub called_line : Option (List ℕ) → Field TraceLine
 called_line None = Err Words
-called_line (Some text) = call_of text >>= λ asked. Ok (Called asked, None)
+called_line (Some text) = call_of text >>= λ asked. Ok (Called asked (is_padded text asked), None)
 
 -- a look
 unfoldable pub looked_line : Option (List ℕ) → Field TraceLine

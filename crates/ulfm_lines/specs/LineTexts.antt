@@ -5,7 +5,7 @@ use Rattle.ulfm_laws.specs.declared.{ctx_mask.CtxMask.{CtxMask}, flag_and.FlagAn
 use Rattle.ulfm_model.specs.declared.{contribution.Offer.{Offer}, contribution.Offer.TheVariants.{Flag, Ctx}}
 use Rattle.ulfm_model.specs.declared.{event.Caller.{Caller}, event.Caller.TheVariants.{Outside, Rank}}
 use Rattle.ulfm_model.specs.declared.{event.Event.{Event}, event.Event.TheVariants.{Fail, Settle, Mark, Arrive, Revoke, Spawn}, reply.Reply.{Reply}}
-use Rattle.ulfm_script.specs.{Digits.{flag_text}, Printed.{reply_text}, Spelling.{call_text}}
+use Rattle.ulfm_script.specs.{Digits.{flag_text}, Printed.{reply_text}, Spelling.{spelled_text}}
 use Rattle.ulfm_trace_model.specs.declared.{line.Line.{Line}, line.Line.TheVariants.{Called, Looked, Happened, Replied}}
 use Rattle.ulfm_trace_model.specs.Traces.{Told}
 
@@ -73,7 +73,7 @@ some_reply_text group (Some reply) = reply_text group reply
 
 -- a line with the ranks that it lists, without its newline
 abbrev pub line_text : List ℕ → TraceLine → List ℕ
-line_text group (Called asked) = codes "call " ++ call_text asked
+line_text group (Called asked padded) = codes "call " ++ spelled_text padded asked
 line_text group (Looked r count) = codes "look " ++ two_text r count
 line_text group (Happened by event) = codes "event " ++ (caller_text by ++ 32 ∷ some_event_text event)
 line_text group (Replied by point reply) = codes "reply " ++ (caller_text by ++ 32 ∷ (decimal point ++ 32 ∷ some_reply_text group reply))

@@ -25,7 +25,7 @@ pub record GoesFar (old new : Progress) (r : ℕ) (reach : Reach) (made : ℕ) :
 -- A script's line takes its rank's call as far as it says: then the call is over, or none was under way; or so many steps were made, or the next one
 -- has the name. The line of a call that begins makes no step.
 abbrev pub GoesAsSaid : Progress → Progress → ScriptStep → Type 0
-GoesAsSaid old new (Called asked) = new.steps ≡ old.steps
+GoesAsSaid old new (Called asked padded) = new.steps ≡ old.steps
 GoesAsSaid old new (Stepped r count) = (new.steps ≤ old.steps + count) × ((new.next r ≡ None) ⊎ (new.steps ≡ old.steps + count))
 GoesAsSaid old new (Before r name) = (new.next r ≡ None) ⊎ (new.next r ≡ Some name)
 GoesAsSaid old new (Finished r) = new.next r ≡ None

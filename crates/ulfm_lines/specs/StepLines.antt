@@ -7,7 +7,7 @@ use Rattle.ulfm_trace_model.specs.declared.step_line.StepLine.{StepLine}
 use Rattle.ulfm_trace_model.specs.declared.step_line.StepLine.TheVariants.{Called, Stepped, Before, Finished, Failed}
 use Rattle.ulfm_script.specs.declared.line_kind.LineKind.{LineKind}
 use Rattle.ulfm_script.specs.declared.line_kind.LineKind.TheVariants.{Number, Verb, Words}
-use Rattle.ulfm_script.specs.{Calls.{ScriptCall, call_of}, Digits.{read_number, read_rank}, Spelling.{Spells}, Steps.{◌>>=◌}}
+use Rattle.ulfm_script.specs.{Calls.{ScriptCall, call_of}, Digits.{read_number, read_rank}, Spelling.{SpellsAs, is_padded}, Steps.{◌>>=◌}}
 use Rattle.ulfm_script.specs.Words.{one_of, two_of, first_word}
 use Rattle.ulfm_lines.specs.StepNames.{read_step_name, step_text}
 
@@ -19,7 +19,7 @@ ScriptStep = StepLine FlagAnd
 abbrev pub read_asked_in : List ℕ → Result ScriptStep LineKind
 read_asked_in text =
     if length (first_word text).0 == 0 then Err Words
-    else (if bytes_eq (first_word text).0 (codes "fail") then Err Verb else (call_of text >>= λ asked. Ok (Called asked)))
+    else (if bytes_eq (first_word text).0 (codes "fail") then Err Verb else (call_of text >>= λ asked. Ok (Called asked (is_padded text asked))))
 
 -- the same, where there is one
 unfoldable pub read_asked : Option (List ℕ) → Result ScriptStep LineKind
@@ -75,7 +75,7 @@ IsByRank asked = (rank : ℕ) → asked ≢ call.Fail rank
 
 -- the line spells this; each has at most one spelling
 abbrev pub SpellsStep : List ℕ → ScriptStep → Type 0
-SpellsStep line (Called asked) = (rest : List ℕ) × Spells rest asked × IsByRank asked × (line ≡ codes "call " ++ rest)
+SpellsStep line (Called asked padded) = (rest : List ℕ) × SpellsAs padded rest asked × IsByRank asked × (line ≡ codes "call " ++ rest)
 SpellsStep line (Stepped rank count) = (rank < 1024) × (0 < count) × (count < 10000) × (line ≡ codes "step " ++ (decimal rank ++ 32 ∷ decimal count))
 SpellsStep line (Before rank name) = (rank < 1024) × (line ≡ codes "before " ++ (decimal rank ++ 32 ∷ step_text name))
 SpellsStep line (Finished rank) = (rank < 1024) × (line ≡ codes "finish " ++ decimal rank)

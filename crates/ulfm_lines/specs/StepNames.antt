@@ -14,6 +14,7 @@ step_text name.Block = codes "block"
 step_text name.Mark = codes "mark"
 step_text name.Slot = codes "slot"
 step_text name.Cache = codes "cache"
+step_text name.Wing = codes "wing"
 step_text name.Comm = codes "comm"
 step_text name.Spawn = codes "spawn"
 step_text name.Arrive = codes "arrive"
@@ -29,5 +30,5 @@ or_name word name other = if bytes_eq word (step_text name) then Ok name else ot
 unfoldable pub read_step_name : List ℕ → Result StepName LineKind
 read_step_name word =
     or_name word name.List (or_name word name.Settle (or_name word name.Block (or_name word name.Mark (or_name word name.Slot
-    (or_name word name.Cache (or_name word name.Comm (or_name word name.Spawn (or_name word name.Arrive (or_name word name.Arrival
-    (or_name word name.Revoke (or_name word name.Revocation (Err Step))))))))))))
+    (or_name word name.Cache (or_name word name.Wing (or_name word name.Comm (or_name word name.Spawn (or_name word name.Arrive (or_name word name.Arrival
+    (or_name word name.Revoke (or_name word name.Revocation (Err Step)))))))))))))

@@ -1,5 +1,5 @@
 -- What running one line of a step script tells.
-use Rattle.std.specs.Prelude.{◌≡◌, ℕ, List, [], ◌∷◌, ◌++◌}
+use Rattle.std.specs.Prelude.{◌≡◌, ℕ, Bool, List, [], ◌∷◌, ◌++◌}
 use Rattle.ulfm_laws.specs.{Flags.{flag_meld}, declared.flag_and.FlagAnd.{FlagAnd}}
 use Rattle.ulfm_model.specs.declared.call.Call.{Call}
 use Rattle.ulfm_model.specs.Answers.{traits_of}
@@ -19,7 +19,7 @@ IsSpelledStep step = (line : List ℕ) × SpellsStep line step
 
 -- the script's line begins a call of a rank that has one under way
 abbrev pub IsOpenCall : TraceState → ScriptStep → Type 0
-IsOpenCall now step = (asked : Call FlagAnd) × (step ≡ Called asked) × IsOpen now (traits_of asked).by
+IsOpenCall now step = (asked : Call FlagAnd) × ((padded : Bool) × (step ≡ Called asked padded)) × IsOpen now (traits_of asked).by
 
 -- The script's line was run: its piece of a legal trace was told behind what was told before, and the machine stands for what it says. Or its
 -- call is of a rank that has one under way, and nothing was told.

@@ -7,7 +7,7 @@ use Rattle.ulfm_model.specs.declared.{contribution.Offer.{Offer}, event.Caller.{
 use Rattle.ulfm_model.specs.declared.event.Event.TheVariants.{Fail, Settle, Mark, Arrive, Revoke, Spawn}
 use Rattle.ulfm_model.specs.declared.{refusal.Refusal.TheVariants.{OutOfMemory}, reply.Reply.{Reply}}
 use Rattle.ulfm_model.specs.declared.reply.Reply.TheVariants as reply
-use Rattle.ulfm_script.specs.{Printed.{ranks_text, reply_text, shrunk_text}, Spelling.{IsSpelled, Spells}}
+use Rattle.ulfm_script.specs.{Printed.{ranks_text, reply_text, shrunk_text}, Spelling.{IsSpelledAs, SpellsAs}}
 use Rattle.ulfm_lines.specs.{LineReading.{SomeReply}, LineTexts.{TraceEvent, TraceLine, caller_text, event_text, mark_text, settle_text, two_text}}
 use Rattle.ulfm_trace_model.specs.declared.line.Line.TheVariants.{Called, Looked, Happened, Replied}
 
@@ -100,7 +100,7 @@ TellsReply text group (Some told) = ReplyFits told group × (text ≡ reply_text
 
 -- the words of a line tell this
 abbrev pub TellsLine : List ℕ → List ℕ → TraceLine → Type 0
-TellsLine text group (Called asked) = (rest : List ℕ) × (text ≡ codes "call " ++ rest) × Spells rest asked × (group ≡ [])
+TellsLine text group (Called asked padded) = (rest : List ℕ) × (text ≡ codes "call " ++ rest) × SpellsAs padded rest asked × (group ≡ [])
 TellsLine text group (Looked r count) = (r < 1024) × (count < 10000) × (text ≡ codes "look " ++ two_text r count) × (group ≡ [])
 TellsLine text group (Happened by event) =
     (rest : List ℕ) × CallerFits by × (text ≡ codes "event " ++ (caller_text by ++ 32 ∷ rest)) × TellsEvent rest event × (group ≡ [])
@@ -114,7 +114,7 @@ TextTells text group line = (length text ≤ 8192) × TellsLine text group line
 
 -- a line that can be told, with the ranks that it lists
 abbrev pub LineFits : List ℕ → TraceLine → Type 0
-LineFits group (Called asked) = IsSpelled asked × (group ≡ [])
+LineFits group (Called asked padded) = IsSpelledAs padded asked × (group ≡ [])
 LineFits group (Looked r count) = (r < 1024) × (count < 10000) × (group ≡ [])
 LineFits group (Happened by None) = ⊥
 LineFits group (Happened by (Some event)) = CallerFits by × EventFits event × (group ≡ [])

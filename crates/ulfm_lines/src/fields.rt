@@ -10,7 +10,7 @@ use ulfm_model::contribution::Offer;
 use ulfm_model::event::Caller;
 use ulfm_script::LineKind;
 use ulfm_script::words::{
-    LAST_COMM, LAST_RANK, next_word, read_flag, read_number, read_number_to, read_point,
+    LAST_COMM, LAST_RANK, next_word, read_number, read_number_to, read_point, read_printed_flag,
 };
 
 /// Whether a word is this text.
@@ -56,12 +56,13 @@ pub(crate) fn point_field(text: Option<&[u8]>) -> Result<(u32, Option<&[u8]>), L
     Ok((point, rest))
 }
 
+/// A flag as it is printed.
 #[tactic(auto, unfolding(crate::specs::Fields::flag_field))]
 pub(crate) fn flag_field(text: Option<&[u8]>) -> Result<(FlagAnd, Option<&[u8]>), LineKind>
     ensures { Gives at_field result (flag_field (rest_at text.entry)) }
 {
     let (word, rest) = next_word(text)?;
-    let flag = read_flag(word)?;
+    let flag = read_printed_flag(word)?;
     Ok((flag, rest))
 }
 

@@ -9,8 +9,8 @@ use ulfm_laws::FlagAnd;
 use ulfm_model::Reply;
 use ulfm_model::contribution::{Contribution, Offer};
 use ulfm_model::event::{Caller, Event};
-use ulfm_script::words::flag_digits;
-use ulfm_script::{LastGroup, print_call, print_number, print_point, print_reply};
+use ulfm_script::digits::flag_digits;
+use ulfm_script::{LastGroup, print_number, print_point, print_reply, print_spelled_call};
 use ulfm_trace_model::Line;
 
 /// Appends a line of a trace, without a newline.
@@ -27,9 +27,9 @@ pub fn print_line<A: Allocator>(
     ensures ok { OnOk result (text.new.items ≡ text.old.items ++ line_text group.now line.now) }
 {
     match *line {
-        Line::Called(call) => {
+        Line::Called { call, padded } => {
             text.extend_from_slice(b"call ")?;
-            print_call(text, &call)
+            print_spelled_call(text, &call, padded)
         }
         Line::Looked { rank, failures } => {
             print_labelled(text, b"look ", rank)?;
@@ -205,5 +205,6 @@ fn print_flag<A: Allocator>(
     ensures { OnOk result (text.new.items ≡ text.old.items ++ (label.now ++ flag_text flag)) }
 {
     text.extend_from_slice(label)?;
-    text.extend_from_slice(&flag_digits(flag))
+    let digits = flag_digits(flag);
+    text.extend_from_slice(digits.text())
 }

@@ -7,7 +7,7 @@ use crate::fields::is_word;
 use crate::step_name::read_step_name;
 use ulfm_laws::FlagAnd;
 use ulfm_script::words::{LAST_RANK, one_word, read_number, read_number_to, split_word, two_words};
-use ulfm_script::{LineKind, read_call};
+use ulfm_script::{LineKind, is_padded, read_call};
 use ulfm_trace_model::StepLine;
 
 /// What one line of a step script asks for, without its newline, or the first fault in it from `verb` on.
@@ -60,7 +60,8 @@ fn read_asked(fields: Option<&[u8]>) -> Result<StepLine<FlagAnd>, LineKind>
         return Err(LineKind::Verb);
     }
     let call = read_call(text)?;
-    Ok(StepLine::Called(call))
+    let padded = is_padded(text, &call);
+    Ok(StepLine::Called { call, padded })
 }
 
 #[tactic(auto, unfolding(crate::specs::StepLines::stepped_of))]

@@ -13,7 +13,7 @@ use std::alloc::{AllocError, Allocator};
 use ulfm_laws::FlagAnd;
 use ulfm_model::Reply;
 use ulfm_script::words::split_word;
-use ulfm_script::{LineKind, read_call};
+use ulfm_script::{LineKind, is_padded, read_call};
 use ulfm_trace_model::Line;
 
 /// The most bytes that a line of a trace may have, without its newline.
@@ -127,7 +127,8 @@ fn read_called(text: Option<&[u8]>) -> Result<(Line<FlagAnd>, Option<&[u8]>), Li
         return Err(LineKind::Words);
     };
     let call = read_call(text)?;
-    Ok((Line::Called(call), None))
+    let padded = is_padded(text, &call);
+    Ok((Line::Called { call, padded }, None))
 }
 
 #[tactic(auto, unfolding(crate::specs::LineReading::looked_line))]

@@ -6,26 +6,26 @@ use Rattle.ulfm_model.specs.declared.call.Call.TheVariants as call
 use Rattle.ulfm_model.specs.declared.{call.Call.{Call}, call.Request.{Request}, call.Request.TheVariants.{Agree}, limits.Limits.{Limits}, refusal.Refusal.{Refusal}}
 use Rattle.ulfm_model.specs.{Answers.{refusal_of}, History.{members}, Records.{Held, Record, held_at}, Terms.{request_of}}
 use Rattle.ulfm_model.proofs.{Histories.{members_stay}, Lists.{prefix_trans}}
-use Rattle.ulfm_words.specs.Steps.{view_of, Heard, Tells}
+use Rattle.ulfm_words.specs.Steps.{Heard, Tells}
 use Rattle.ulfm_steps.specs.Blocks.{AllSet}
 use Rattle.ulfm_steps.proofs.KnownBlocks.{all_later}
 use Rattle.ulfm_comm.specs.{Bound.{also_bound, also_call_bound}, Requests.{BlocksStand}, StepsLeft.{group_of}}
 use Rattle.ulfm_comm.specs.declared.calls.polled.Polled.{Polled}
 use Rattle.ulfm_comm.proofs.{Holding.{exists_is, group_is}, Known.{round_known}}
-use Rattle.ulfm_member.specs.{InTurn.{IsShort}, Members.{IsMember, MemberLearns, MemberPolls, Membership}}
+use Rattle.ulfm_member.specs.{InTurn.{IsShort}, Members.{IsMember, MemberLearns, MemberPolls, Membership, view_in}}
 
 -- the second column's bound on the poll of an agree
-bound_is : (P : Type 0) (limits : Limits) (own : Record) (rank c k f : ℕ) (x : Held) → held_at own c ≡ Some x → x.request ≡ Some (Agree k) → also_bound {P = P} limits own (call.Poll rank c) f ≤ f + 3
+bound_is : (P : Type 0) (limits : Limits) (own : Record) (rank c k f : ℕ) (x : Held) → held_at own c ≡ Some x → x.request ≡ Some (Agree k) → also_bound {P = P} limits own (call.Poll rank c) f ≤ f + 5
 bound_is P limits own rank c k f x held open_is = go own.refused (is_some (refusal_of {P = P} own (call.Poll rank c))) (request_of (held_at own c)) (ap request_of held ∙ open_is)
   where
-    go : (a b : Bool) (request : Option Request) → request ≡ Some (Agree k) → (if a then 0 else (if b then f + 1 else also_call_bound {P = P} f (length (group_of (held_at own c))) limits.comms request (call.Poll rank c))) ≤ f + 3
+    go : (a b : Bool) (request : Option Request) → request ≡ Some (Agree k) → (if a then 0 else (if b then f + 1 else also_call_bound {P = P} f (length (group_of (held_at own c))) limits.comms request (call.Poll rank c))) ≤ f + 5
     go true b request is = omega arith
     go false true request is = omega arith
     go false false request is = rw is (omega arith)
 
-module _ {P : Type 0} (meld : P → P → P) (alone tells : Bool) (c : ℕ) (first by : Membership P) (result : Result (Polled P) Refusal) (second mid new : Membership P) (answer : Result (Polled P) Refusal) (told : Heard P)
-    (fit : IsMember meld first) (polls : MemberPolls meld alone c first result by) (telling : Tells tells (view_of by.view.words by.view.pass) told) (learns : MemberLearns meld alone told second mid) (still : IsMember meld mid)
-    (second_polls : MemberPolls meld alone c mid answer new) (names : first.view.words ≡ second.view.words) where
+module _ {P : Type 0} (meld : P → P → P) (pack : P → ℕ) (alone tells : Bool) (c : ℕ) (first by : Membership P) (result : Result (Polled P) Refusal) (second mid new : Membership P) (answer : Result (Polled P) Refusal) (told : Heard P)
+    (fit : IsMember meld pack first) (polls : MemberPolls meld pack alone c first result by) (telling : Tells tells (view_in pack by.view) told) (learns : MemberLearns meld pack alone told second mid) (still : IsMember meld pack mid)
+    (second_polls : MemberPolls meld pack alone c mid answer new) (names : first.view.words ≡ second.view.words) where
   -- what the first had seen the second has seen
   begins : IsTrue tells → IsPrefix first.view.pass.seen mid.view.pass.seen
   begins all =

@@ -14,17 +14,17 @@ pub record HasAgree {P : Type 0} (c k : ℕ) (m : Membership P) : Type 0 where
   pub open_is : x.request ≡ Some (Agree k)
 
 -- the member has learned a value that another told, and then polls
-pub record PollsTold {P : Type 0} (meld : P → P → P) (alone : Bool) (tells : Heard P → Type 0) (c : ℕ) (old : Membership P)
+pub record PollsTold {P : Type 0} (meld : P → P → P) (pack : P → ℕ) (alone : Bool) (tells : Heard P → Type 0) (c : ℕ) (old : Membership P)
     (result : Result (Polled P) Refusal) (new : Membership P) : Type 0 where
   pub told : Heard P
   pub is_told : tells told
   pub mid : Membership P
-  pub learns : MemberLearns meld alone told old mid
-  pub polls : MemberPolls meld alone c mid result new
+  pub learns : MemberLearns meld pack alone told old mid
+  pub polls : MemberPolls meld pack alone c mid result new
 
--- Where the first member's poll of an agree is answered by its round, be it with `Mismatch`, the second member's poll in the same round makes three
+-- Where the first member's poll of an agree is answered by its round, be it with `Mismatch`, the second member's poll in the same round makes five
 -- steps at most, and one more for each failure that this second member has newly seen.
 abbrev pub IsShort : {P : Type 0} → ℕ → Membership P → Result (Polled P) Refusal → Membership P → Membership P → Type 0
 IsShort c first result second new =
     (k : ℕ) → HasAgree c k first → HasAgree c k second → is_of_round (reply_of polled result) ≡ true
-    → new.last ≤ length new.own.seen - length second.own.seen + 3
+    → new.last ≤ length new.own.seen - length second.own.seen + 5

@@ -2,7 +2,7 @@
 ghost use Rattle.std.specs.Prelude.{◌≡◌, IsTrue};
 ghost use Rattle.ulfm_words.specs.Steps.{Tells};
 ghost use Rattle.ulfm_member.specs.InTurn.{IsShort, PollsTold};
-ghost use Rattle.ulfm_member.specs.Members.{MemberPolls};
+ghost use Rattle.ulfm_member.specs.Members.{MemberPolls, view_in};
 
 use crate::member::Member;
 use std::alloc::Allocator;
@@ -14,8 +14,8 @@ use ulfm_words::OpenWords;
 /// Polls the open request on a communicator through one member, and then through another of the same world. Before its poll the second
 /// learns what the first has seen (`Member::told`, `learn`). Each poll is as `Rank::poll`.
 ///
-/// Where both have an agree open in one round, and the first is answered, all blocks of the round are set: one or two words that say what all
-/// its members contributed. So the second makes 3 steps at most, a load that finds no failure and one of each block, and one more for each
+/// Where both have an agree open in one round, and the first is answered, all blocks of the round are set: one or two pairs of words that say what
+/// all its members contributed. So the second makes 5 steps at most, a load that finds no failure and two of each block, and one more for each
 /// failure that its look finds. That needs words whose passes tell all that they have seen, as those of `ulfm_book`; plain words tell nothing.
 ///
 /// ```
@@ -29,8 +29,8 @@ use ulfm_words::OpenWords;
 /// };
 /// let polled = ulfm_member::poll_in_turn(&mut first, &mut second, 0);
 /// assert!(rt; polled == (Ok(agreed), Ok(agreed)));
-/// // With two members a round has one block: a load of the list of failures, and one of that block.
-/// assert!(rt; second.last_steps() == 2);
+/// // With two members a round has one block: a load of the list of failures, and two of that block.
+/// assert!(rt; second.last_steps() == 3);
 /// ```
 pub fn poll_in_turn<W, P: Packed, A: Allocator + Copy>(
     first: &mut Member<W, P, A>,
@@ -40,8 +40,8 @@ pub fn poll_in_turn<W, P: Packed, A: Allocator + Copy>(
 where
     W: OpenWords<P, A>,
     requires { first.old.view.words ≡ second.old.view.words }
-    ensures first { MemberPolls P.meld W.alone comm first.old result.0 first.new }
-    ensures second { PollsTold P.meld W.alone (Tells W.tells_all first.new.view) comm second.old result.1 second.new }
+    ensures first { MemberPolls P.meld P.pack W.alone comm first.old result.0 first.new }
+    ensures second { PollsTold P.meld P.pack W.alone (Tells W.tells_all (view_in P.pack first.new.view)) comm second.old result.1 second.new }
     ensures short { IsTrue W.tells_all → IsShort comm first.old result.0 second.old second.new }
 {
     first.known_fit();

@@ -7,13 +7,13 @@ ghost use Rattle.ulfm_model.specs.declared.call.Call.TheVariants.{Ack as AckAske
 ghost use Rattle.ulfm_model.specs.declared.call.Call.TheVariants.{GetFailed as GetAsked, IsRevoked as StandingAsked, Revoke as RevokeAsked};
 ghost use Rattle.ulfm_model.specs.declared.call.Call.TheVariants.{Shrink as ShrinkAsked};
 ghost use Rattle.ulfm_model.specs.declared.{refusal.Refusal.TheVariants.{OutOfMemory as NoMemory}, reply.Reply.TheVariants.{Acked, Freed, Standing, Started}};
-ghost use Rattle.ulfm_words.specs.Steps.{view_of, Tells};
+ghost use Rattle.ulfm_words.specs.Steps.{Tells};
 ghost use Rattle.ulfm_comm.specs.Calls.{reply_of};
 ghost use Rattle.ulfm_comm.specs.Excludes.{Excludes};
 ghost use Rattle.ulfm_comm.specs.Fails.{declared};
 ghost use Rattle.ulfm_comm.specs.Misses.{size_held};
 ghost use Rattle.ulfm_comm.specs.Revokes.{revoked};
-ghost use Rattle.ulfm_member.specs.Members.{IsMember, MemberCalls, MemberFails, MemberGets, MemberLearns, MemberMisses, MemberPolls};
+ghost use Rattle.ulfm_member.specs.Members.{IsMember, MemberCalls, MemberFails, MemberGets, MemberLearns, MemberMisses, MemberPolls, view_in, viewing};
 
 use std::alloc::Allocator;
 use std::marker::Model;
@@ -46,15 +46,14 @@ where
     W: Words<P, A>,
 {
     ghost use Rattle.std.specs.Arc.{arc_value};
-    ghost use Rattle.ulfm_words.specs.Steps.{view_of};
-    ghost use Rattle.ulfm_member.specs.Members.{IsMember, Membership};
+    ghost use Rattle.ulfm_member.specs.Members.{IsMember, Membership, viewing};
 
     ghost Value = { Membership P };
 
-    ghost view = { λ m. record { own = m.rank.own; last = m.rank.last; view = view_of (arc_value m.world) (W.sight m.pass) } };
+    ghost view = { λ m. record { own = m.rank.own; last = m.rank.last; view = viewing (arc_value m.world) (W.sight m.pass) } };
 
-    ghost invariant = { λ m. IsMember P.meld
-        (record { own = m.rank.own; last = m.rank.last; view = view_of (arc_value m.world) (W.sight m.pass) }) };
+    ghost invariant = { λ m. IsMember P.meld P.pack
+        (record { own = m.rank.own; last = m.rank.last; view = viewing (arc_value m.world) (W.sight m.pass) }) };
 }
 
 impl<W, P: Packed, A: Allocator> Member<W, P, A>
@@ -69,8 +68,8 @@ where
     /// member.iagree(0, FlagAnd { bits: 0b0110 })?;
     /// ```
     pub fn new(world: Arc<World<W, P, A>, A>, rank: Rank<P, A>, pass: W::Pass) -> Member<W, P, A>
-        requires { IsMember P.meld (record { own = rank.own; last = rank.last; view = view_of (arc_value world) (W.sight pass) }) }
-        ensures { result ≡ record { own = rank.own; last = rank.last; view = view_of (arc_value world) (W.sight pass) } }
+        requires { IsMember P.meld P.pack (record { own = rank.own; last = rank.last; view = viewing (arc_value world) (W.sight pass) }) }
+        ensures { result ≡ record { own = rank.own; last = rank.last; view = viewing (arc_value world) (W.sight pass) } }
     {
         Member { world, rank, pass }
     }
@@ -82,8 +81,8 @@ where
     /// rank.iagree(&world, &mut pass, 0, FlagAnd { bits: 0b0110 })?;
     /// ```
     pub fn into_parts(self) -> (Arc<World<W, P, A>, A>, Rank<P, A>, W::Pass)
-        ensures of { IsMember P.meld self }
-        ensures parts { self ≡ record { own = result.1.own; last = result.1.last; view = view_of (arc_value result.0) (W.sight result.2) } }
+        ensures of { IsMember P.meld P.pack self }
+        ensures parts { self ≡ record { own = result.1.own; last = result.1.last; view = viewing (arc_value result.0) (W.sight result.2) } }
     {
         (self.world, self.rank, self.pass)
     }
@@ -96,7 +95,7 @@ where
     /// assert!(rt; member.last_steps() == 0);
     /// ```
     pub fn known_fit(&self)
-        ensures { IsMember P.meld self.now }
+        ensures { IsMember P.meld P.pack self.now }
     {
         let _pass = &self.pass;
     }
@@ -110,7 +109,7 @@ where
     /// assert!(rt; member.pass().nth(0).is_some());
     /// ```
     pub fn pass(&self) -> &W::Pass
-        ensures { self.now.view ≡ view_of self.now.view.words (W.sight result.now) }
+        ensures { self.now.view ≡ viewing self.now.view.words (W.sight result.now) }
     {
         &self.pass
     }
@@ -153,7 +152,7 @@ where
         self.rank.members(comm)
     }
 
-    /// The context id of a communicator, 0 to 31; `None` where the rank doesn't hold the communicator. No two communicators that it holds
+    /// The context id of a communicator, 0 to 63; `None` where the rank doesn't hold the communicator. No two communicators that it holds
     /// have the same id. It makes no atomic step.
     ///
     /// ```
@@ -196,7 +195,7 @@ where
     /// assert!(rt; member.iagree(0, flag) == Err(Refusal::Busy));
     /// ```
     pub fn iagree(&mut self, comm: u16, value: P) -> Result<(), Refusal>
-        ensures { MemberCalls P.meld W.alone (AgreeAsked self.old.own.number comm value) self.old (reply_of (λ _. Started) result) self.new }
+        ensures { MemberCalls P.meld P.pack W.alone (AgreeAsked self.old.own.number comm value) self.old (reply_of (λ _. Started) result) self.new }
     {
         self.rank.iagree(&self.world, &mut self.pass, comm, value)
     }
@@ -214,7 +213,7 @@ where
     /// assert!(rt; member.poll(0) == Ok(alone));
     /// ```
     pub fn ishrink(&mut self, comm: u16) -> Result<(), Refusal>
-        ensures calls { MemberCalls P.meld W.alone (ShrinkAsked self.old.own.number comm) self.old (reply_of (λ _. Started) result) self.new }
+        ensures calls { MemberCalls P.meld P.pack W.alone (ShrinkAsked self.old.own.number comm) self.old (reply_of (λ _. Started) result) self.new }
         ensures excludes { IfOk result (λ _. Excludes P.meld self.old.view.words.limits self.old.view.pass.seen self.new.view.pass.seen self.old.own comm) }
     {
         self.rank.ishrink(&self.world, &mut self.pass, comm)
@@ -230,7 +229,7 @@ where
     /// assert!(rt; member.poll(0) == Err(Refusal::ProcFailed));
     /// ```
     pub fn ibarrier(&mut self, comm: u16) -> Result<(), Refusal>
-        ensures { MemberCalls P.meld W.alone (BarrierAsked self.old.own.number comm) self.old (reply_of (λ _. Started) result) self.new }
+        ensures { MemberCalls P.meld P.pack W.alone (BarrierAsked self.old.own.number comm) self.old (reply_of (λ _. Started) result) self.new }
     {
         self.rank.ibarrier(&self.world, &mut self.pass, comm)
     }
@@ -251,7 +250,7 @@ where
     /// assert!(rt; member.poll(0) == Ok(agreed));
     /// ```
     pub fn poll(&mut self, comm: u16) -> Result<Polled<P>, Refusal>
-        ensures { MemberPolls P.meld W.alone comm self.old result self.new }
+        ensures { MemberPolls P.meld P.pack W.alone comm self.old result self.new }
     {
         self.rank.poll(&self.world, &mut self.pass, comm)
     }
@@ -269,7 +268,7 @@ where
         comm: u16,
         found: &mut Vec<u16, B>,
     ) -> Result<(), Refusal>
-        ensures gets { MemberGets P.meld W.alone (GetAsked self.old.own.number comm) self.old (length found.new.items) result self.new }
+        ensures gets { MemberGets P.meld P.pack W.alone (GetAsked self.old.own.number comm) self.old (length found.new.items) result self.new }
         ensures group { IfOk result (λ _. found.new.items ≡ failed self.old.view.words.limits.ranks self.new.view.pass.seen comm) }
         ensures kept { OnErr result (found.new.items ≡ found.old.items) }
         ensures memory { result ≡ Err NoMemory → vec_capacity found.old < length (failed self.old.view.words.limits.ranks self.new.view.pass.seen comm) }
@@ -291,7 +290,7 @@ where
         comm: u16,
         found: &mut Vec<u16, B>,
     ) -> Result<(), Refusal>
-        ensures misses { MemberMisses P.meld W.alone comm self.old result found.new.items self.new }
+        ensures misses { MemberMisses P.meld P.pack W.alone comm self.old result found.new.items self.new }
         ensures kept { OnErr result (found.new.items ≡ found.old.items) }
         ensures memory { result ≡ Err NoMemory → vec_capacity found.old < size_held (held_at self.old.own comm) }
     {
@@ -306,7 +305,7 @@ where
     /// assert!(rt; member.ack_failed(0, 9) == Ok(1));
     /// ```
     pub fn ack_failed(&mut self, comm: u16, count: u16) -> Result<u16, Refusal>
-        ensures { MemberCalls P.meld W.alone (AckAsked self.old.own.number comm count) self.old (reply_of Acked result) self.new }
+        ensures { MemberCalls P.meld P.pack W.alone (AckAsked self.old.own.number comm count) self.old (reply_of Acked result) self.new }
     {
         self.rank
             .ack_failed(&self.world, &mut self.pass, comm, count)
@@ -319,7 +318,7 @@ where
     /// assert!(rt; member.revoke(0) == Ok(false));
     /// ```
     pub fn revoke(&mut self, comm: u16) -> Result<bool, Refusal>
-        ensures { MemberCalls P.meld W.alone (RevokeAsked self.old.own.number comm) self.old (reply_of revoked result) self.new }
+        ensures { MemberCalls P.meld P.pack W.alone (RevokeAsked self.old.own.number comm) self.old (reply_of revoked result) self.new }
     {
         self.rank.revoke(&self.world, &mut self.pass, comm)
     }
@@ -332,7 +331,7 @@ where
     /// assert!(rt; member.is_revoked(0) == Ok(true));
     /// ```
     pub fn is_revoked(&mut self, comm: u16) -> Result<bool, Refusal>
-        ensures { MemberCalls P.meld W.alone (StandingAsked self.old.own.number comm) self.old (reply_of Standing result) self.new }
+        ensures { MemberCalls P.meld P.pack W.alone (StandingAsked self.old.own.number comm) self.old (reply_of Standing result) self.new }
     {
         self.rank.is_revoked(&self.world, &mut self.pass, comm)
     }
@@ -348,7 +347,7 @@ where
     /// assert!(rt; member.free(0) == Err(Refusal::WorldKept));
     /// ```
     pub fn free(&mut self, comm: u16) -> Result<(), Refusal>
-        ensures { MemberCalls P.meld W.alone (FreeAsked self.old.own.number comm) self.old (reply_of (λ _. Freed) result) self.new }
+        ensures { MemberCalls P.meld P.pack W.alone (FreeAsked self.old.own.number comm) self.old (reply_of (λ _. Freed) result) self.new }
     {
         self.rank.free(&self.world, &mut self.pass, comm)
     }
@@ -362,7 +361,7 @@ where
     /// assert!(rt; member.fail(2) == Err(Refusal::NoSuchRank));
     /// ```
     pub fn fail(&mut self, rank: u16) -> Result<bool, Refusal>
-        ensures { MemberFails P.meld W.alone rank self.old (reply_of declared result) self.new }
+        ensures { MemberFails P.meld P.pack W.alone rank self.old (reply_of declared result) self.new }
     {
         self.world.fail(&mut self.pass, rank)
     }
@@ -379,7 +378,7 @@ where
     /// outside.learn(&member.told());
     /// ```
     pub fn told(&self) -> W::Told
-        ensures { Tells W.tells_all self.now.view (W.heard result) }
+        ensures { Tells W.tells_all (view_in P.pack self.now.view) (W.heard result) }
     {
         self.world.told(&self.pass)
     }
@@ -392,7 +391,7 @@ where
     /// ```
     pub fn learn(&mut self, told: &W::Told)
         requires { (W.heard told.now).name ≡ self.old.view.words }
-        ensures { MemberLearns P.meld W.alone (W.heard told.now) self.old self.new }
+        ensures { MemberLearns P.meld P.pack W.alone (W.heard told.now) self.old self.new }
     {
         self.world.learn(&mut self.pass, told)
     }

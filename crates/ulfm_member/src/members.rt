@@ -34,8 +34,8 @@ pub fn open<W, P: Packed, A: Allocator + Copy>(
 ) -> Result<(Outside<W, P, A>, Vec<Member<W, P, A>, A>), OpenFault>
 where
     W: OpenWords<P, A> + Drop,
-    ensures outside { IfOk result (λ o. IsNewOutside P.meld (W.name words) o.0) }
-    ensures members { IfOk result (λ o. AllByRecursion (IsNewMember P.meld (W.name words)) o.1.items) }
+    ensures outside { IfOk result (λ o. IsNewOutside P.meld P.pack (W.name words) o.0) }
+    ensures members { IfOk result (λ o. AllByRecursion (IsNewMember P.meld P.pack (W.name words)) o.1.items) }
     ensures ranks { MatchResult result (λ o. map (λ m. m.own) o.1.items ≡ map (new_record (W.name words).limits) (first_ranks (W.name words).limits.ranks))
         (λ fault. fault ≡ OutOfMemory) }
 {
@@ -56,8 +56,8 @@ where
     W: OpenWords<P, A> + Drop,
     requires fits { AllByRecursion (Fits P.meld world.limits []) (records_of ranks.items) }
     requires last { AllByRecursion (λ r. r.last ≡ 0) ranks.items }
-    ensures outside { IfOk result (λ o. IsNewOutside P.meld world o.0) }
-    ensures members { IfOk result (λ o. AllByRecursion (IsNewMember P.meld world) o.1.items) }
+    ensures outside { IfOk result (λ o. IsNewOutside P.meld P.pack world o.0) }
+    ensures members { IfOk result (λ o. AllByRecursion (IsNewMember P.meld P.pack world) o.1.items) }
     ensures ranks { IfOk result (λ o. map (λ m. m.own) o.1.items ≡ records_of ranks.items) }
 {
     let world = Arc::new(alloc, world)?;
@@ -75,7 +75,7 @@ where
     W: OpenWords<P, A> + Drop,
     requires fits { AllByRecursion (Fits P.meld (arc_value world.now).limits []) (records_of ranks.items) }
     requires last { AllByRecursion (λ r. r.last ≡ 0) ranks.items }
-    ensures members { IfOk result (λ all. AllByRecursion (IsNewMember P.meld (arc_value world.now)) all.items) }
+    ensures members { IfOk result (λ all. AllByRecursion (IsNewMember P.meld P.pack (arc_value world.now)) all.items) }
     ensures ranks { IfOk result (λ all. map (λ m. m.own) all.items ≡ records_of ranks.items) }
 {
     let mut all = Vec::with_capacity(alloc, ranks.len())?;

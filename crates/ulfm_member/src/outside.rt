@@ -2,7 +2,7 @@
 ghost use Rattle.std.specs.Prelude.{◌≡◌, IfOk};
 ghost use Rattle.std.specs.Arc.{arc_value};
 ghost use Rattle.ulfm_words.specs.Steps.{Learns, Tells};
-ghost use Rattle.ulfm_member.specs.Outsides.{IsNewOutside};
+ghost use Rattle.ulfm_member.specs.{Members.{view_in}, Outsides.{IsNewOutside}};
 ghost use Rattle.ulfm_comm.specs.Calls.{reply_of};
 ghost use Rattle.ulfm_comm.specs.Fails.{Fails, declared};
 
@@ -31,13 +31,14 @@ where
     W: Words<P, A>,
 {
     ghost use Rattle.std.specs.Arc.{arc_value};
-    ghost use Rattle.ulfm_words.specs.Steps.{IsView, View, view_of};
+    ghost use Rattle.ulfm_words.specs.Steps.{IsView, view_of};
+    ghost use Rattle.ulfm_member.specs.Members.{Viewing, viewing};
 
-    ghost Value = { View P };
+    ghost Value = { Viewing P };
 
-    ghost view = { λ o. view_of (arc_value o.world) (W.sight o.pass) };
+    ghost view = { λ o. viewing (arc_value o.world) (W.sight o.pass) };
 
-    ghost invariant = { λ o. IsView P.meld (view_of (arc_value o.world) (W.sight o.pass)) };
+    ghost invariant = { λ o. IsView P.meld (view_of P.pack (arc_value o.world) (W.sight o.pass)) };
 }
 
 impl<W, P: Packed, A: Allocator> Outside<W, P, A>
@@ -54,7 +55,7 @@ where
     pub fn new(alloc: A, world: Arc<World<W, P, A>, A>) -> Result<Outside<W, P, A>, AllocError>
     where
         W: Drop,
-        ensures { IfOk result (IsNewOutside P.meld (arc_value world)) }
+        ensures { IfOk result (IsNewOutside P.meld P.pack (arc_value world)) }
     {
         let pass = world.pass(alloc)?;
         Ok(Outside { world, pass })
@@ -67,7 +68,7 @@ where
     /// member.learn(&outside.told());
     /// ```
     pub fn told(&self) -> W::Told
-        ensures { Tells W.tells_all self.now (W.heard result) }
+        ensures { Tells W.tells_all (view_in P.pack self.now) (W.heard result) }
     {
         self.world.told(&self.pass)
     }
@@ -81,7 +82,7 @@ where
     pub fn learn(&mut self, told: &W::Told)
         requires { (W.heard told.now).name ≡ self.old.words }
         ensures words { self.new.words ≡ self.old.words }
-        ensures learns { Learns P.meld W.alone (W.heard told.now) self.old self.new }
+        ensures learns { Learns P.meld W.alone (W.heard told.now) (view_in P.pack self.old) (view_in P.pack self.new) }
     {
         self.world.learn(&mut self.pass, told)
     }
@@ -110,7 +111,7 @@ where
     /// assert!(rt; outside.fail(2) == Err(Refusal::NoSuchRank));
     /// ```
     pub fn fail(&mut self, rank: u16) -> Result<bool, Refusal>
-        ensures { Fails P.meld W.alone rank self.old (reply_of declared result) self.new }
+        ensures { Fails P.meld W.alone rank (view_in P.pack self.old) (reply_of declared result) (view_in P.pack self.new) }
     {
         self.world.fail(&mut self.pass, rank)
     }

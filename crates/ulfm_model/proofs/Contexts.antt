@@ -1,5 +1,6 @@
 -- Context ids: each communicator has one, and a shrink offers those that its rank doesn't hold.
-use Rattle.std.proofs.Common.{◌≡◌, ◌↔◌, ℕ, zero, suc, ◌<◌, ◌-◌, ◌++◌, ◌∙◌, sym, length, append-nil, IsTrue, w32, ◌==◌, false, ap, Option, Some, slice_get, List, [], ◌∷◌, subst, arith, inl, inr, refl}
+use Rattle.std.proofs.Common.{◌≡◌, ◌↔◌, ℕ, zero, suc, ◌<◌, ◌-◌, ◌++◌, ◌∙◌, sym, length, append-nil, IsTrue, w64, ◌==◌, false, ap, Option, Some, slice_get, List, [], ◌∷◌, subst, arith, inl, inr, refl}
+use Rattle.ulfm_laws.specs.Ranges.{payload_bits}
 use Rattle.std.specs.Int.{bit_at, trailing_zeros}
 use Rattle.std.specs.List.{AllByRecursion, cons_option}
 use Rattle.std.proofs.lemmas.Bool.{cases_lt, or_from, or_parts}
@@ -46,11 +47,11 @@ one_mask : {P : Type 0} (o : Option (ℕ × ℕ)) (body : ℕ × ℕ → Body P)
 one_mask o body x y m n is also ids others = let same : x ≡ y = cc in cc (ap body same)
 
 module _ {P : Type 0} (meld : P → P → P) where
-  -- a context id is below 32
-  pub context_below : (ranks : ℕ) (h : History P) (c context : ℕ) → IsContext meld ranks h c context → context < 32
+  -- a context id is below payload_bits
+  pub context_below : (ranks : ℕ) (h : History P) (c context : ℕ) → IsContext meld ranks h c context → context < payload_bits
   context_below ranks h c context (inl world) = omega (arith, world.1)
   context_below ranks h c context (inr made) =
-      elim (cases_lt context 32) [ inl less ↦ less | inr more ↦ absurd (omega (arith, made.6.in_it, bit_at_above made.2.bits 32 context made.2.fits more)) ]
+      elim (cases_lt context payload_bits) [ inl less ↦ less | inr more ↦ absurd (omega (arith, made.6.in_it, bit_at_above made.2.bits payload_bits context made.2.fits more)) ]
 
   -- a communicator has one context id
   pub context_one : (ranks : ℕ) (h : History P) (c context other : ℕ) → IsContext meld ranks h c context → IsContext meld ranks h c other → context ≡ other
@@ -63,9 +64,9 @@ module _ {P : Type 0} (meld : P → P → P) where
       lowest_one also.2.bits context other (subst (λ (m : CtxMask). IsLowestId m.bits context) mask made.6) also.6
 
   -- a shrink offers the ids that no communicator of the record has
-  pub offered_where : (limits : Limits) (h : History P) (own : Record) → Fits meld limits h own → (id : ℕ) → id < 32 → (bit_at (free_ids own.held).bits id ≡ 1) ↔ (has (contexts_of own.held) id ≡ false)
+  pub offered_where : (limits : Limits) (h : History P) (own : Record) → Fits meld limits h own → (id : ℕ) → id < payload_bits → (bit_at (free_ids own.held).bits id ≡ 1) ↔ (has (contexts_of own.held) id ≡ false)
   offered_where limits h own fits id within =
-      let below = each_from (FitsHeld meld limits.ranks h own.number (contexts_of own.held)) (λ x. x.context < 32) (λ x is. context_below limits.ranks h x.comm x.context is.context) own.held fits.held in
+      let below = each_from (FitsHeld meld limits.ranks h own.number (contexts_of own.held)) (λ x. x.context < payload_bits) (λ x is. context_below limits.ranks h x.comm x.context is.context) own.held fits.held in
       let free = free_where own.held id within below in
       let none = none_held own.held id in
       (λ bit. none.1 (free.0 bit), λ out. free.1 (none.0 out))
@@ -110,9 +111,9 @@ module _ {P : Type 0} (meld : P → P → P) (limits : Limits) where
   context_of h (suc j) legal here =
       let at = get_some (spawns h) j (omega (arith, here)) in
       let ids = all_have_ids h legal j at.0 at.1 in
-      let lowest = bit_at-trailing_zeros w32 ids.0.bits ids.2 ids.0.fits in
+      let lowest = bit_at-trailing_zeros w64 ids.0.bits ids.2 ids.0.fits in
       let before : suc j - 1 ≡ j = omega arith in
-      (trailing_zeros w32 ids.0.bits, inr (at.0.0, at.0.1, ids.0, omega arith, ap (slice_get (spawns h)) before ∙ at.1, ids.1, record { in_it = lowest.1; least = lowest.2 }))
+      (trailing_zeros w64 ids.0.bits, inr (at.0.0, at.0.1, ids.0, omega arith, ap (slice_get (spawns h)) before ∙ at.1, ids.1, record { in_it = lowest.1; least = lowest.2 }))
 
   -- a communicator that exists has one context id
   pub has_one_context : (h : History P) (c : ℕ) → IsLegal meld limits h → Exists h c → HasOneContext meld limits.ranks h c

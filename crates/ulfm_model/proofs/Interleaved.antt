@@ -45,6 +45,7 @@ span_of limits r before since point begins ends legal = record {
   look = before;
   point = point;
   own = [];
+  spread = false;
   looked = record { since = []; goes_on = append-nil before; stands = tt; quiet = λ alone. refl };
   did = record { since = since; goes_on = refl; stands = tt; quiet = never };
   point_begins = begins;
@@ -64,6 +65,7 @@ contribution_in_flight = record {
     look = [];
     point = late;
     own = Settle 0 0 2 (given_at (Flag 0x5) 0 0) ∷ [];
+    spread = false;
     looked = record { since = []; goes_on = refl; stands = tt; quiet = λ alone. refl };
     did = record { since = late; goes_on = refl; stands = inr (inl (refl, tt)); quiet = λ alone. absurd (cc alone) };
     point_begins = (late, refl);
@@ -150,6 +152,7 @@ shrunk_before_the_look = record {
     look = spawned ++ by Outside (Fail 2) ∷ [];
     point = spawned;
     own = [];
+    spread = false;
     looked = record { since = by Outside (Fail 2) ∷ []; goes_on = refl; stands = tt; quiet = λ alone. absurd (cc alone) };
     did = record { since = []; goes_on = refl; stands = tt; quiet = λ alone. refl };
     point_begins = ([], refl);

@@ -1,5 +1,6 @@
 -- Context ids: which ones a rank offers, and that a round decides on none that one of its contributors holds.
 use Rattle.std.proofs.Common.{◌≡◌, ℕ, zero, suc, ◌<◌, ◌≤◌, min, ◌==◌, ◌&&◌, Bool, true, cond, List, [], ◌∷◌, map, length, Option, Some, None, slice_get, refl, ap, sym, ◌∙◌, subst, arith, filter_map, if◌then◌else◌}
+use Rattle.ulfm_laws.specs.Ranges.{payload_bits}
 use Rattle.std.specs.Prelude.{Contains, ⊤}
 use Rattle.std.specs.Int.{bit_at}
 use Rattle.std.specs.List.{AllByRecursion, cons_option}
@@ -26,7 +27,7 @@ use Rattle.ulfm_model.proofs.Decisions.{settled_once}
 use Rattle.ulfm_model.proofs.FreeIds.{all_but_is}
 
 -- no id that is held is free
-pub held_not_free : (held : List Held) → AllByRecursion (λ x. x.context < 32) held → AllByRecursion (λ i. bit_at (free_ids held).bits i ≡ 0) (contexts_of held)
+pub held_not_free : (held : List Held) → AllByRecursion (λ x. x.context < payload_bits) held → AllByRecursion (λ i. bit_at (free_ids held).bits i ≡ 0) (contexts_of held)
 held_not_free [] small = tt
 held_not_free (x ∷ held) small =
     let both : (i : ℕ) → bit_at (free_ids (x ∷ held)).bits i ≡ min (bit_at (all_but x.context).bits i) (bit_at (free_ids held).bits i) = λ i. bit_at_and (all_but x.context).bits (free_ids held).bits i in

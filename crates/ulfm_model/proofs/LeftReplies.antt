@@ -1,5 +1,6 @@
 -- What each reply leaves of a record fits the history at the end of the call.
 use Rattle.std.proofs.Common.{◌≡◌, ◌⊎◌, ℕ, ◌<◌, ◌==◌, min, max, Bool, true, false, cond, not, List, [], ◌∷◌, ◌++◌, length, Option, Some, None, is_some, refl, ap, sym, subst, arith, filter, inl, inr, nat_le}
+use Rattle.ulfm_laws.specs.Ranges.{payload_bits}
 use Rattle.std.specs.List.{list_any, list_all, AllByRecursion}
 use mathlib.Core.List.{IsPrefix}
 use Rattle.ulfm_model.specs.declared.{call.Call.{Call}, call.Request.{Request}, call.Request.TheVariants.{Agree, Shrink, Barrier}, contribution.Offer.TheVariants.{Flag, Ctx}, event.Event.{Event}, event.Event.TheVariants.{Arrive, Settle}, limits.Limits.{Limits}, refusal.Refusal.{Refusal}, refusal.Refusal.TheVariants.{Busy, IsRevoked, Mismatch, NoContext, NoRoom, NoSuchComm, ProcFailed, RoundsUsedUp, SelfFailed, ShrinkOpen, Twice}, reply.Reply.{Reply}, reply.Reply.TheVariants.{Started, Pending, Agreed, Shrunk, Done, FailedGroup, Acked, Revoked, AlreadyRevoked, Standing, Freed, Refused}}
@@ -76,7 +77,7 @@ module _ {P : Type 0} (meld : P → P → P) (limits : Limits) (view : AtPoint P
     -- a shrink is started: it offers no id that the rank holds
     shrink_left : (rank c : ℕ) (x : Held) (reply : Reply P) → held_at now c ≡ Some x → list_any (λ y. is_shrink y.request) now.held ≡ false → StartReplies view old x (Ctx (free_ids now.held)) reply → Leaves (call.Shrink rank c) reply
     shrink_left rank c x reply at none (inl (is, gives)) =
-        let small = each_from (FitsHeld meld limits.ranks after now.number (contexts_of now.held)) (λ y. y.context < 32) (λ y held. context_below meld limits.ranks after y.comm y.context held.context) now.held fits.held in
+        let small = each_from (FitsHeld meld limits.ranks after now.number (contexts_of now.held)) (λ y. y.context < payload_bits) (λ y held. context_below meld limits.ranks after y.comm y.context held.context) now.held fits.held in
         by_reply (call.Shrink rank c) reply Started is
         (fits_opened meld limits after now c (λ y. Some (Shrink y.next_agreement)) x fits at
         (gives.given, free_ids now.held, own (Settle x.comm x.next_agreement now.number gives.given) gives.own, gives.offer_is, held_not_free now.held small)

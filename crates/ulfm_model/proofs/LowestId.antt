@@ -1,5 +1,6 @@
 -- The least id of a mask.
-use Rattle.std.proofs.Common.{◌≡◌, ℕ, zero, suc, ◌<◌, ◌==◌, Bool, true, false, cond, [], ◌∷◌, Some, None, refl, ap, ap₂, sym, subst, w32, ◌∙◌, arith, inl, inr}
+use Rattle.std.proofs.Common.{◌≡◌, ℕ, zero, suc, ◌<◌, ◌==◌, Bool, true, false, cond, [], ◌∷◌, Some, None, refl, ap, ap₂, sym, subst, w64, ◌∙◌, arith, inl, inr}
+use Rattle.ulfm_laws.specs.Ranges.{payload_bits}
 use Rattle.std.specs.Prelude.{find, unwrap_or}
 use Rattle.std.specs.Option.{option_or}
 use Rattle.std.specs.Int.{bit_at, trailing_zeros}
@@ -33,9 +34,9 @@ module _ (p : ℕ → Bool) where
 -- the computed id is the least of a mask that isn't empty
 pub lowest_is : (mask : CtxMask) → 0 < mask.bits → IsLowestId mask.bits (lowest_id mask.bits)
 lowest_is mask some =
-    let lowest = bit_at-trailing_zeros w32 mask.bits some mask.fits in
+    let lowest = bit_at-trailing_zeros w64 mask.bits some mask.fits in
     let test : ℕ → Bool = λ i. bit_at mask.bits i == 1 in
-    let found : find test (first_ranks 32) ≡ Some (trailing_zeros w32 mask.bits) =
-    first_found test 32 (trailing_zeros w32 mask.bits) lowest.0 (eq-eqb (bit_at mask.bits (trailing_zeros w32 mask.bits)) 1 lowest.1) (λ k below. ap (λ b. b == 1) (lowest.2 k below)) in
-    let is : lowest_id mask.bits ≡ trailing_zeros w32 mask.bits = ap (λ o. unwrap_or o 0) found in
+    let found : find test (first_ranks payload_bits) ≡ Some (trailing_zeros w64 mask.bits) =
+    first_found test payload_bits (trailing_zeros w64 mask.bits) lowest.0 (eq-eqb (bit_at mask.bits (trailing_zeros w64 mask.bits)) 1 lowest.1) (λ k below. ap (λ b. b == 1) (lowest.2 k below)) in
+    let is : lowest_id mask.bits ≡ trailing_zeros w64 mask.bits = ap (λ o. unwrap_or o 0) found in
     subst (IsLowestId mask.bits) (sym is) (record { in_it = lowest.1; least = lowest.2 })

@@ -93,7 +93,7 @@ module _ {P : Type 0} (meld : P → P → P) (limits : Limits) (h : History P) (
 
   -- what the reply rests on
   abbrev pub view : AtPoint P
-  view = record { look = failures h; history = after; own = events }
+  view = record { look = failures h; history = after; own = events; spread = false }
 
   -- what the call adds and replies is what is computed
   pub record IsComputed (x : Held) (asked : Call P) (reply : Reply P) : Type 0 where
@@ -116,7 +116,8 @@ module _ {P : Type 0} (meld : P → P → P) (limits : Limits) (h : History P) (
         gave.own ∙ (ap (λ g. Settle x.comm x.next_agreement n g ∷ []) same ∙ ap (λ o. if is_some o then [] else Settle x.comm x.next_agreement n (given_at offer size x.acked) ∷ []) (sym empty)),
         started ∙ ap start_reply (sym empty),
       )
-  start_is x offer reply (inr (twice, none, (given, stands))) =
+  start_is x offer reply (inr (twice, none, inr spread)) = absurd (cc spread)
+  start_is x offer reply (inr (twice, none, inl (given, stands))) =
       let stood = ap (λ w. slot w x.comm x.next_agreement n) (sym (unchanged none)) ∙ stands in
       let size = length (filter (has x.group) (failures h)) in
       (none ∙ ap (λ o. if is_some o then [] else Settle x.comm x.next_agreement n (given_at offer size x.acked) ∷ []) (sym stood), twice ∙ ap start_reply (sym stood))
@@ -166,7 +167,7 @@ module _ {P : Type 0} (meld : P → P → P) (limits : Limits) (h : History P) (
         let alive_after : has (failures after) n ≡ false = ap (λ F. has F n) unchanged_failures ∙ alive in
         let alive_then : has (failures w) n ≡ false =
         false_from_ne_true (has (failures w) n) (λ declared. let still = has_prefix (failures w) (failures after) n (failures_begin w after (entries_by (Rank n) parts.0, sym goes_on)) declared in cc (still, alive_after)) in
-        let there = subst (λ v. PollReplies meld limits (record { look = failures h; history = v; own = events }) n x (Some (Shrink k)) reply) goes_on replies in
+        let there = subst (λ v. PollReplies meld limits (record { look = failures h; history = v; own = events; spread = false }) n x (Some (Shrink k)) reply) goes_on replies in
         parts.1 ∙ ap (λ es. marks ++ es) (made_is meld limits w both.0 x (group_after marks) n k alive_then parts.0 (failures h) events reply parts.2 both.1 there)
 
     poll_adds : (request : Option Request) (reply : Reply P) → AllByRecursion (PollAdds (failures h) x request) events → settled_by events ≡ unsettled_of limits.ranks h x.comm request → PollReplies meld limits view n x request reply

@@ -169,21 +169,21 @@ module _ {P : Type 0} (meld : P → P → P) (limits : Limits) (w : History P) (
       and_from (is_decided limits.ranks w x.comm k) (is_free_mask made_there.body && (not (has made_there.failed r) && (not (is_made w x.comm k) && nat_lt (length (spawns w) + 1) limits.comms))) may.decided second
 
   -- where one is to be made and none was, no reply is an answer
-  none_to_make : (look : List ℕ) (own : List (Event P)) (reply : Reply P) → PollReplies meld limits (record { look = look; history = w; own = own }) r x (Some (Shrink k)) reply → may_make ≡ true → ⊥
+  none_to_make : (look : List ℕ) (own : List (Event P)) (reply : Reply P) → PollReplies meld limits (record { look = look; history = w; own = own; spread = false }) r x (Some (Shrink k)) reply → may_make ≡ true → ⊥
   none_to_make look own reply replies all =
       let p = and_parts (is_decided limits.ranks w x.comm k) (is_free_mask made_there.body && (not (has made_there.failed r) && (not (is_made w x.comm k) && nat_lt (length (spawns w) + 1) limits.comms))) all in
       let q = and_parts (is_free_mask made_there.body) (not (has made_there.failed r) && (not (is_made w x.comm k) && nat_lt (length (spawns w) + 1) limits.comms)) p.1 in
       let s = and_parts (not (has made_there.failed r)) (not (is_made w x.comm k) && nat_lt (length (spawns w) + 1) limits.comms) q.1 in
       let t = and_parts (not (is_made w x.comm k)) (nat_lt (length (spawns w) + 1) limits.comms) s.1 in
       let mask = free_mask_of made_there.body q.0 in
-      no_answer meld limits (record { look = look; history = w; own = own }) legal r x group k mask.0 reply p.0 mask.1 mask.2 (not-true (is_made w x.comm k) t.0) (ltb-true (length (spawns w) + 1) limits.comms t.1) replies
+      no_answer meld limits (record { look = look; history = w; own = own; spread = false }) legal r x group k mask.0 reply p.0 mask.1 mask.2 (not-true (is_made w x.comm k) t.0) (ltb-true (length (spawns w) + 1) limits.comms t.1) replies
 
   -- what a shrink's poll adds after its marks is the computed communicator
   pub made_is : (tail : List (Event P)) (look : List ℕ) (own : List (Event P)) (reply : Reply P) → ((tail ≡ []) ⊎ ((j : ℕ) × (tail ≡ Spawn j x.comm k ∷ []))) → IsLegalAfter meld limits w (entries_by (Rank r) tail)
-      → PollReplies meld limits (record { look = look; history = w ++ entries_by (Rank r) tail; own = own }) r x (Some (Shrink k)) reply → tail ≡ spawn_of meld limits w r x.comm k
+      → PollReplies meld limits (record { look = look; history = w ++ entries_by (Rank r) tail; own = own; spread = false }) r x (Some (Shrink k)) reply → tail ≡ spawn_of meld limits w r x.comm k
   made_is tail look own reply (inl none) after replies =
       let unmade : w ++ entries_by (Rank r) tail ≡ w = ap (λ es. w ++ entries_by (Rank r) es) none ∙ append-nil w in
-      let here = subst (λ v. PollReplies meld limits (record { look = look; history = v; own = own }) r x (Some (Shrink k)) reply) unmade replies in
+      let here = subst (λ v. PollReplies meld limits (record { look = look; history = v; own = own; spread = false }) r x (Some (Shrink k)) reply) unmade replies in
       none ∙ sym (ap made_by_test (false_from_ne_true may_make (none_to_make look own reply here)))
   made_is tail look own reply (inr (j, one)) after replies =
       let may : MaySpawn meld limits w j x.comm k = (subst (λ es. IsLegalAfter meld limits w (entries_by (Rank r) es)) one after).0 in

@@ -1,5 +1,6 @@
 -- The poll of a request has one reply at each point of a history.
 use Rattle.std.proofs.Common.{◌≡◌, ℕ, zero, suc, ◌+◌, ◌-◌, ◌<◌, ◌^◌, ◌==◌, ◌||◌, Bool, true, false, List, [], ◌∷◌, length, Option, Some, None, is_some, refl, ap, ap₂, sym, ◌∙◌, arith, inl, inr, if◌then◌else◌, slice_get}
+use Rattle.ulfm_laws.specs.Ranges.{payload_bits}
 use Rattle.std.specs.List.{list_all, list_any, position_from}
 use Rattle.std.proofs.lemmas.Bool.{and_from, and_parts, eq-eqb, eqb-true, false_from_ne_true, ne_eqb, or_left, or_right}
 use Rattle.ulfm_laws.specs.declared.summary.Body.TheVariants.{Ctx as OfIds}
@@ -57,7 +58,7 @@ module _ {P : Type 0} (meld : P → P → P) (limits : Limits) (view : AtPoint P
       false_from_ne_true (decided k)
       (λ all. let some = all_member (λ m. is_some (slot v x.comm k m)) (members limits.ranks v x.comm) is.member all (ap (λ ms. has ms is.member) (sym group) ∙ is.in_group) in cc (some, ap is_some is.unsettled))
 
-  spawn_is : (k mask : ℕ) (reply : Reply P) → mask < 2 ^ 32 → SpawnReplies limits v x.comm k mask reply → reply ≡ shrunk_reply limits.ranks v mask (position_from (is_of x.comm k) 0 (spawns v))
+  spawn_is : (k mask : ℕ) (reply : Reply P) → mask < 2 ^ payload_bits → SpawnReplies limits v x.comm k mask reply → reply ≡ shrunk_reply limits.ranks v mask (position_from (is_of x.comm k) 0 (spawns v))
   spawn_is k mask reply fits (inl (j, context, above, at, lowest, is)) =
       let place = position_of (is_of x.comm k) (spawns v) 0 (j - 1) (x.comm, k) (spawns_once meld limits v legal x.comm k) at (of_itself x.comm k) in
       let same : j ≡ 0 + (j - 1) + 1 = omega (arith, above) in

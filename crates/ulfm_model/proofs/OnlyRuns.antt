@@ -50,7 +50,7 @@ module _ {P : Type 0} (meld : P → P → P) (limits : Limits) (h : History P) (
     (owns : AllByRecursion (MayOwn (failures h) own asked) events) where
   -- what the reply rests on
   abbrev pub alone_view : AtPoint P
-  alone_view = record { look = failures h; history = h ++ entries_by (Rank own.number) events; own = events }
+  alone_view = record { look = failures h; history = h ++ entries_by (Rank own.number) events; own = events; spread = false }
 
   -- a rank's own events declare nobody
   pub failures_same : failures (h ++ entries_by (Rank own.number) events) ≡ failures h
@@ -71,7 +71,7 @@ module _ {P : Type 0} (meld : P → P → P) (limits : Limits) (h : History P) (
       let comm : x.comm ≡ comm_of asked = eqb-true x.comm (comm_of asked) holds.1 in
       let adds = each_from (MayOwn (failures h) own asked) (CallAdds (failures h) own.number x asked) adds_to events owns in
       let computed = call_is meld limits h own events legal x (contexts_of own.held) holds.0 alive asked reply adds (settled comm) replies in
-      (computed.adds, computed.replies ∙ ap (λ es. replied meld limits h (record { look = failures h; history = h ++ entries_by (Rank own.number) es; own = es }) own x asked) computed.adds)
+      (computed.adds, computed.replies ∙ ap (λ es. replied meld limits h (record { look = failures h; history = h ++ entries_by (Rank own.number) es; own = es; spread = false }) own x asked) computed.adds)
     where
       adds_to : (e : Event P) → MayOwn (failures h) own asked e → CallAdds (failures h) own.number x asked e
       adds_to e may =
@@ -110,8 +110,10 @@ run_is {P = P} meld limits h after own asked reply left fits alone =
     let span = alone.run.span in
     let events = span.own in
     let parts = span_is h after span in
-    let view : AtPoint P = record { look = failures h; history = h ++ entries_by (Rank own.number) events; own = events } in
-    let views : rests_on span ≡ view = ap₂ (λ l w. record { look = failures l; history = w; own = events }) parts.0 (alone.at_end ∙ parts.1) in
+    let view : AtPoint P = record { look = failures h; history = h ++ entries_by (Rank own.number) events; own = events; spread = false } in
+    let unspread : rests_on span ≡ record { look = failures span.look; history = span.point; own = events; spread = false } =
+    ap (λ b. let v : AtPoint P = record { look = failures span.look; history = span.point; own = events; spread = b } in v) alone.unspread in
+    let views : rests_on span ≡ view = unspread ∙ ap₂ (λ l w. let v : AtPoint P = record { look = failures l; history = w; own = events; spread = false } in v) parts.0 (alone.at_end ∙ parts.1) in
     let answer : Answers meld limits view own asked reply (moment left after) = subst (λ v. Answers meld limits v own asked reply (moment left after)) views alone.run.answer in
     let legal = subst (IsLegal meld limits) parts.1 span.legal in
     let out = answer_is meld limits h own events legal asked reply answer.own fits alone.marks answer.replies in

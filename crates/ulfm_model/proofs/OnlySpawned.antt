@@ -1,5 +1,6 @@
 -- A round is spawned once, and a mask has one least id.
 use Rattle.std.proofs.Common.{◌≡◌, ◌⊎◌, ℕ, zero, suc, ◌+◌, ◌<◌, ◌≤◌, ◌^◌, ◌==◌, ◌&&◌, Bool, true, false, cond, List, [], ◌∷◌, ◌++◌, length, Some, None, slice_get, refl, ap, sym, ◌∙◌, subst, arith, append-nil, inl, inr, filter}
+use Rattle.ulfm_laws.specs.Ranges.{payload_bits}
 use Rattle.std.specs.Prelude.{unwrap_or}
 use Rattle.std.specs.Int.{bit_at}
 use Rattle.std.specs.List.{cons_option, list_any, position_from}
@@ -84,9 +85,9 @@ spawns_once {P = P} meld limits h legal =
         subst (λ (xs : List (ℕ × ℕ)). length xs ≤ 1) (sym (filter-append (is_of c k) (spawns w) ((parent, round) ∷ []))) (new w parent round c k may.first once (is_of c k (parent, round)) refl)
 
 -- the least id is the one that is computed
-pub lowest_is : (mask i : ℕ) → mask < 2 ^ 32 → IsLowestId mask i → i ≡ lowest_id mask
-lowest_is mask i fits lowest = sym (ap (λ o. unwrap_or o 0) (first_found (λ k. bit_at mask k == 1) 32 i (within (cases_lt i 32)) (ap (λ b. b == 1) lowest.in_it) (λ k below. ap (λ b. b == 1) (lowest.least k below))))
+pub lowest_is : (mask i : ℕ) → mask < 2 ^ payload_bits → IsLowestId mask i → i ≡ lowest_id mask
+lowest_is mask i fits lowest = sym (ap (λ o. unwrap_or o 0) (first_found (λ k. bit_at mask k == 1) payload_bits i (within (cases_lt i payload_bits)) (ap (λ b. b == 1) lowest.in_it) (λ k below. ap (λ b. b == 1) (lowest.least k below))))
   where
-    within : (i < 32) ⊎ (32 ≤ i) → i < 32
+    within : (i < payload_bits) ⊎ (payload_bits ≤ i) → i < payload_bits
     within (inl less) = less
-    within (inr above) = let none = bit_at_above mask 32 i fits above in absurd (omega (arith, none, lowest.in_it))
+    within (inr above) = let none = bit_at_above mask payload_bits i fits above in absurd (omega (arith, none, lowest.in_it))

@@ -32,7 +32,7 @@ module _ {P : Type 0} (meld : P → P → P) (limits : Limits) (h : History P) (
   has_tests a b known declared out = subst (HasOutcome events reply) (ap₂ by_tests (sym known) (sym declared)) out
 
   -- a declaration where nobody else steps is the computed one
-  pub fail_is : AnswersFail limits (record { look = failures h; history = h ++ entries_by Outside events; own = events }) rank reply → HasOutcome events reply (fail_outcome limits h rank)
+  pub fail_is : AnswersFail limits (record { look = failures h; history = h ++ entries_by Outside events; own = events; spread = false }) rank reply → HasOutcome events reply (fail_outcome limits h rank)
   fail_is (inl (declared, one, stands)) =
       let may : MayFollow meld limits h (Fail rank) = (legal_parts meld limits h (entries_by Outside (Fail rank ∷ [])) (subst (λ es. IsLegal meld limits (h ++ entries_by Outside es)) one legal)).1.0 in
       has_tests true false (lt-ltb rank limits.ranks may.0) may.1 (one, declared)
@@ -48,8 +48,8 @@ pub fail_run_is : {P : Type 0} (meld : P → P → P) (limits : Limits) (h after
 fail_run_is {P = P} meld limits h after rank reply run ends =
     let events = run.span.own in
     let parts = span_is h after run.span in
-    let views : record { look = failures run.span.look; history = run.span.point; own = events } ≡ record { look = failures h; history = h ++ entries_by Outside events; own = events } =
-    ap₂ (λ l w. let v : AtPoint P = record { look = failures l; history = w; own = events } in v) parts.0 (ends ∙ parts.1) in
+    let views : record { look = failures run.span.look; history = run.span.point; own = events; spread = false } ≡ record { look = failures h; history = h ++ entries_by Outside events; own = events; spread = false } =
+    ap₂ (λ l w. let v : AtPoint P = record { look = failures l; history = w; own = events; spread = false } in v) parts.0 (ends ∙ parts.1) in
     let out = fail_is meld limits h rank events (subst (IsLegal meld limits) parts.1 run.span.legal) reply (subst (λ v. AnswersFail limits v rank reply) views run.answer) in
     (parts.1 ∙ ap (λ es. h ++ entries_by Outside es) out.0, out.1)
 

@@ -113,6 +113,6 @@ shrunk zero = []
 shrunk (suc n) = shrunk n ++ Started ∷ Shrunk (n + 1) (n + 1) 1 ∷ []
 
 -- all ids are used up, and one is given back
-contexts_come_back : run 1 40 40 (shrinks 32 ++ Free 0 7 ∷ shrinks 1)
-    ≡ shrunk 31 ++ Started ∷ Refused NoContext ∷ Freed ∷ Started ∷ Shrunk 32 7 1 ∷ []
+contexts_come_back : run 1 70 70 (shrinks 64 ++ Free 0 7 ∷ shrinks 1)
+    ≡ shrunk 63 ++ Started ∷ Refused NoContext ∷ Freed ∷ Started ∷ Shrunk 64 7 1 ∷ []
 contexts_come_back = refl

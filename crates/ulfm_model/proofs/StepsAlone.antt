@@ -32,6 +32,7 @@ span_alone meld limits h caller events legal after = record {
   look = h;
   point = h ++ entries_by caller events;
   own = events;
+  spread = false;
   looked = record { since = []; goes_on = append-nil h; stands = tt; quiet = λ alone. refl };
   did = record { since = entries_by caller events; goes_on = refl; stands = stands_itself (entries_by caller events); quiet = λ alone. refl };
   point_begins = (entries_by caller events, refl);
@@ -58,7 +59,7 @@ sees_look true look after begins = (([], append-nil look), begins)
 module _ {P : Type 0} (meld : P → P → P) (limits : Limits) (h : History P) (own : Record) where
   -- the view of a call that adds these events
   abbrev pub view_with : List (Event P) → AtPoint P
-  view_with events = record { look = failures h; history = h ++ entries_by (Rank own.number) events; own = events }
+  view_with events = record { look = failures h; history = h ++ entries_by (Rank own.number) events; own = events; spread = false }
 
   -- the events may follow, and may be the call's own; the reply is an answer; a poll marks whom it has to
   pub record IsGood (asked : Call P) (out : CallOutcome P) : Type 0 where
@@ -94,6 +95,7 @@ module _ {P : Type 0} (meld : P → P → P) (limits : Limits) (h : History P) (
           };
         };
         at_end = refl;
+        unspread = refl;
         marks = good.marks;
       }
 

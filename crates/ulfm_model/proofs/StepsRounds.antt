@@ -114,7 +114,7 @@ pub record IsMarked {P : Type 0} (ranks : ℕ) (h last : History P) (x : Held) (
 
 -- where the round isn't decided, somebody is missing who isn't known to have failed
 pub pends : {P : Type 0} (ranks : ℕ) (h last : History P) (own : List (Event P)) (x : Held) (k : ℕ) → IsMarked ranks h last x k → is_decided ranks last x.comm k ≡ false
-    → IsPending (record { look = failures h; history = last; own = own }) x k
+    → IsPending (record { look = failures h; history = last; own = own; spread = false }) x k
 pends ranks h last own x k marked undecided =
     let missing = some_fails (λ r. is_some (slot last x.comm k r)) x.group (ap (list_all (λ r. is_some (slot last x.comm k r))) (sym marked.group) ∙ undecided) in
     record {

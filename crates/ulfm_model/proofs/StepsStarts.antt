@@ -54,7 +54,7 @@ module _ {P : Type 0} (meld : P → P → P) (limits : Limits) (h : History P) (
     start_is offer small round (Some (Given given)) was = record {
       legal_after = tt;
       adds = tt;
-      replies = inr (refl, refl, (given, ap (λ w. slot w x.comm x.next_agreement own.number) (append-nil h) ∙ was));
+      replies = inr (refl, refl, inl (given, ap (λ w. slot w x.comm x.next_agreement own.number) (append-nil h) ∙ was));
     }
     start_is offer small round None was =
         let n = length (filter (has x.group) (failures h)) in

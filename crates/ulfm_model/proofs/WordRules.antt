@@ -16,7 +16,7 @@ use Rattle.ulfm_model.specs.declared.place.Place.{Place}
 use Rattle.ulfm_model.specs.declared.place.Place.TheVariants.{List as ListAt, Comm as CommAt, Revoked as RevokedAt, Slot as SlotAt, Arrival as ArrivalAt}
 use Rattle.ulfm_model.specs.History.{History, failures, has, has_arrived, is_revoked, same_place, says, spawns}
 use Rattle.ulfm_model.specs.Laws.{SetsWord, SetsOneWord, HasWords}
-use Rattle.ulfm_model.specs.{History.{IsLegal, IsLegalAfter, MayFollow}, Words.{offer_word, place_of, slot_word, word_at, word_of}}
+use Rattle.ulfm_model.specs.{History.{IsLegal, IsLegalAfter, MayFollow}, Words.{first_word, offer_number, place_of, slot_word, word_at, word_of}}
 use Rattle.ulfm_model.specs.Terms.{word_or_zero}
 use Rattle.ulfm_model.proofs.Histories.{along, by_events, legal_parts, legal_push, slot_kept as slot_same, slot_push}
 use Rattle.ulfm_model.proofs.Says.{arrives_at, declared_by, made_by, put_by, revokes}
@@ -163,7 +163,7 @@ module _ {P : Type 0} (pack : P → ℕ) (meld : P → P → P) (limits : Limits
   )
   word_set (Spawn j parent round) may = made_new j parent round may.next
 
-offer_some : {P : Type 0} (pack : P → ℕ) (known acked : ℕ) (offer : Offer P) → 0 < offer_word pack known acked offer
+offer_some : {P : Type 0} (pack : P → ℕ) (known acked : ℕ) (offer : Offer P) → 0 < first_word (offer_number pack known acked offer)
 offer_some pack known acked (Flag flag) = omega arith
 offer_some pack known acked (Ctx mask) = omega arith
 

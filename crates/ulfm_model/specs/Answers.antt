@@ -33,11 +33,13 @@ printed Refusal.NoSuchRank = (13, codes "no-such-rank", Effect.Keeps)
 printed Refusal.OutOfMemory = (14, codes "out-of-memory", Effect.Keeps)
 printed Refusal.Twice = (15, codes "twice", Effect.Keeps)
 
--- what a reply rests on: the failures that the call's look found, the history at the reply's point, and the call's own events
+-- what a reply rests on: the failures that the call's look found, the history at the reply's point, and the call's own events; and whether the wing
+-- of the caller's next place is set, of which no history tells
 pub record AtPoint (P : Type 0) : Type 0 where
   pub look : List ℕ
   pub history : History P
   pub own : List (Event P)
+  pub spread : Bool
 
 -- the traits of a call: its caller; the rank and the communicator that it names, 0 for a declaration; the request that it starts on a held
 -- one; whether it polls; and its tests on a held one, in their order, each with its refusal
@@ -135,12 +137,12 @@ pub record Contributes {P : Type 0} (view : AtPoint P) (old : Record) (x : Held)
   pub known : given.known.count ≡ length (filter (has x.group) view.look)
   pub acked : given.acked.count ≡ x.acked
 
--- the start of an agree or of a shrink: it has contributed, or the rank's place has a contribution that isn't this call's
+-- the start of an agree or of a shrink: it has contributed, or the rank's place has a contribution that isn't this call's, or its wing is set
 abbrev pub StartReplies : {P : Type 0} → AtPoint P → Record → Held → Offer P → Reply P → Type 0
 StartReplies {P} view old x offer reply =
     ((reply ≡ Reply.Started) × Contributes view old x offer)
     ⊎ ((reply ≡ Reply.Refused Refusal.Twice) × (view.own ≡ [])
-    × ((given : Contribution P) × (slot view.history x.comm x.next_agreement old.number ≡ Some (Slot.Given given))))
+    × (((given : Contribution P) × (slot view.history x.comm x.next_agreement old.number ≡ Some (Slot.Given given))) ⊎ IsTrue view.spread))
 
 -- this call's event has made it so, which one reply says, or it was so before, which the other says
 abbrev pub DoneOrFound : {P : Type 0} → AtPoint P → Event P → Reply P → Reply P → Reply P → Type 0

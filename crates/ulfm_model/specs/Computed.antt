@@ -8,6 +8,7 @@ use Rattle.ulfm_laws.specs.{Within.{acked_known, known_from_one, some_known}, de
 use Rattle.ulfm_model.specs.declared.{call.Call.{Call}, call.Request.{Request}, event.Caller.{Caller}, event.Event.{Event}, limits.Limits.{Limits}}
 use Rattle.ulfm_model.specs.declared.{contribution.Contribution.{Contribution}, contribution.MarkCount.{MarkCount}, contribution.Offer.{Offer}}
 use Rattle.ulfm_model.specs.declared.{contribution.Slot.{Slot}, refusal.Refusal.{Refusal}, reply.Reply.{Reply}}
+use Rattle.ulfm_laws.specs.Ranges.{payload_bits}
 use Rattle.ulfm_model.specs.{Answers.{AtPoint, barrier_reply, left_by, rank_of, refusal_of}, Records.{Held, Record, free_ids, held_at}, Runs.{State}}
 use Rattle.ulfm_model.specs.History.{Decision, History, decision, entries_by, failed, failures, first_ranks, has, has_arrived, is_decided}
 use Rattle.ulfm_model.specs.{History.{is_made, is_revoked, members, slot, spawns}, Terms.{after_call, comm_of, record_at}}
@@ -86,7 +87,7 @@ agree_reply made Body.Clash = Reply.Refused Refusal.Mismatch
 
 -- the least id of a mask
 abbrev pub lowest_id : ℕ → ℕ
-lowest_id mask = unwrap_or (find (λ i. bit_at mask i == 1) (first_ranks 32)) 0
+lowest_id mask = unwrap_or (find (λ i. bit_at mask i == 1) (first_ranks payload_bits)) 0
 
 -- the reply of a shrink's poll that found this mask, by where its round stands among those that were made
 abbrev pub shrunk_reply : {P : Type 0} → ℕ → History P → ℕ → Option ℕ → Reply P
@@ -136,7 +137,7 @@ pub record CallOutcome (P : Type 0) : Type 0 where
 abbrev pub held_outcome : {P : Type 0} → (P → P → P) → Limits → History P → Record → Held → Call P → CallOutcome P
 held_outcome {P} meld limits h own x asked =
     let events = added meld limits h own x asked in
-    let view : AtPoint P = record { look = failures h; history = h ++ entries_by (Caller.Rank own.number) events; own = events } in
+    let view : AtPoint P = record { look = failures h; history = h ++ entries_by (Caller.Rank own.number) events; own = events; spread = false } in
     record { own = events; reply = replied meld limits h view own x asked }
 
 -- the same by what the record says first

@@ -2,7 +2,7 @@
 use Rattle.std.specs.Prelude.{◌≡◌, ◌≢◌, ◌↔◌, ℕ, ◌+◌, ◌<◌, ◌==◌, nat_eq, Bool, ◌&&◌, IsTrue, IsFalse}
 use Rattle.std.specs.{Prelude.{List, [], ◌∷◌, ◌++◌, filter_map, map, take, slice_get, Some}, Int.{bit_at}, List.{IsDistinct}}
 use mathlib.Core.List.{IsPrefix}
-use Rattle.ulfm_laws.specs.{declared.summary.Summary.{Summary}, Bodies.{body_unit}, Combined.{combined}, Counts.{acked_unit}}
+use Rattle.ulfm_laws.specs.{declared.summary.Summary.{Summary}, Bodies.{body_unit}, Combined.{combined}, Counts.{acked_unit}, Ranges.{payload_bits}}
 use Rattle.ulfm_laws.specs.Summaries.{summary_unit, summary_meld}
 use Rattle.ulfm_model.specs.declared.{call.Call.{Call}, contribution.Slot.{Slot}, event.Entry.{Entry}, limits.Limits.{Limits}}
 use Rattle.ulfm_model.specs.declared.{place.Place.{Place}, reply.Reply.{Reply}}
@@ -33,11 +33,11 @@ CommunicatorsStay {P} meld =
     → Exists longer c × (members limits.ranks longer c ≡ members limits.ranks h c)
     × ((context : ℕ) → IsContext meld limits.ranks h c context → IsContext meld limits.ranks longer c context)
 
--- a communicator has one context id, and it is below 32
+-- a communicator has one context id, and it is one of those that there are
 pub record HasOneContext {P : Type 0} (meld : P → P → P) (ranks : ℕ) (h : History P) (c : ℕ) : Type 0 where
   pub context : ℕ
   pub is : IsContext meld ranks h c context
-  pub below : context < 32
+  pub below : context < payload_bits
   pub only : (other : ℕ) → IsContext meld ranks h c other → other ≡ context
 
 -- so has each that exists in a legal history
@@ -86,10 +86,10 @@ pub record HappensOnce {P : Type 0} (h : History P) : Type 0 where
 abbrev pub EventsHappenOnce : {P : Type 0} → (P → P → P) → Type 0
 EventsHappenOnce {P} meld = (limits : Limits) (h : History P) → IsLegal meld limits h → HappensOnce h
 
--- the mask that a shrink offers has exactly the context ids, below 32, that its rank doesn't hold
+-- the mask that a shrink offers has exactly the context ids that its rank doesn't hold
 abbrev pub UnheldIdsAreOffered : {P : Type 0} → (P → P → P) → Type 0
 UnheldIdsAreOffered {P} meld =
-    (limits : Limits) (h : History P) (own : Record) → Fits meld limits h own → (id : ℕ) → id < 32
+    (limits : Limits) (h : History P) (own : Record) → Fits meld limits h own → (id : ℕ) → id < payload_bits
     → (bit_at (free_ids own.held).bits id ≡ 1) ↔ IsFalse (has (map (λ x. x.context) own.held) id)
 
 -- an event of a history that sets the word at a place

@@ -1,5 +1,5 @@
 -- What one call is: among the steps of others, and where nobody else steps.
-use Rattle.std.specs.Prelude.{◌≡◌, ◌⊎◌, ℕ, ◌==◌, Bool, true, not, IsTrue, IsFalse, ⊤, if◌then◌else◌}
+use Rattle.std.specs.Prelude.{◌≡◌, ◌⊎◌, ℕ, ◌==◌, Bool, false, true, not, IsTrue, IsFalse, ⊤, if◌then◌else◌}
 use Rattle.std.specs.Prelude.{List, [], ◌∷◌, ◌++◌, map, filter, filter_map, find, Option, Some, None, is_some}
 use Rattle.std.specs.{List.{AllByRecursion}, Option.{option_map_or}}
 use mathlib.Core.List.{IsPrefix}
@@ -27,6 +27,7 @@ pub record IsSpan {P : Type 0} (meld : P → P → P) (limits : Limits) (alone :
   pub look : History P
   pub point : History P
   pub own : List (Event P)
+  pub spread : Bool
   pub looked : Did alone [] before look
   pub did : Did alone (entries_by caller own) look after
   pub point_begins : IsPrefix before point
@@ -36,7 +37,7 @@ pub record IsSpan {P : Type 0} (meld : P → P → P) (limits : Limits) (alone :
 -- what the reply of a call rests on
 abbrev pub rests_on : {P : Type 0} {meld : P → P → P} {limits : Limits} {alone : Bool} {before after : History P} {caller : Caller}
     → IsSpan meld limits alone before after caller → AtPoint P
-rests_on span = record { look = failures span.look; history = span.point; own = span.own }
+rests_on span = record { look = failures span.look; history = span.point; own = span.own; spread = span.spread }
 
 -- a call of a rank that wasn't refused for good before, from one moment to another: its reply is an answer at its point
 pub record IsRun {P : Type 0} (meld : P → P → P) (limits : Limits) (alone : Bool) (start : Moment P) (asked : Call P) (reply : Reply P) (end : Moment P)
@@ -69,6 +70,7 @@ settled_by events = map (λ put. put.0.2) (filter_map (λ e. (says e).settles) e
 pub record IsAloneRun {P : Type 0} (meld : P → P → P) (limits : Limits) (start : Moment P) (asked : Call P) (reply : Reply P) (end : Moment P) : Type 0 where
   pub run : IsRun meld limits true start asked reply end
   pub at_end : run.span.point ≡ end.seen
+  pub unspread : run.span.spread ≡ false
   pub marks : IsTrue (traits_of asked).polls → IsFalse (has (failures start.seen) start.own.number)
       → settled_by run.span.own ≡ unsettled_of limits.ranks start.seen (comm_of asked) (polled_by start.own asked)
 

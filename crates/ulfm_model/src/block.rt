@@ -1,4 +1,4 @@
-// Blocks of agreement rounds.
+// Blocks of agreement rounds, and the words that no event sets: those of blocks, and wings.
 
 /// Which members of a round a block has: the first of them, or the last.
 #[derive(Clone, Copy, Debug, PartialEq, Eq)]
@@ -20,4 +20,35 @@ pub struct Block {
     pub round: u16,
     /// Which of its members.
     pub side: Side,
+}
+
+/// The second word of a slot or of a block, which stands beside the first: bit 0 is 1, and bits 1 to 32 are the upper half of the
+/// payload. It is set before the first, and so it stands wherever that does. A mark has none.
+#[derive(Clone, Copy, Debug, PartialEq, Eq)]
+pub enum Wing {
+    /// Of a member's place in an agreement round.
+    Slot {
+        /// The communicator.
+        comm: u16,
+        /// The round.
+        round: u16,
+        /// The member.
+        rank: u16,
+    },
+    /// Of a block.
+    Block(Block),
+}
+
+/// A word that no event sets, and that is known to be set. Only contracts speak of it.
+#[derive(Clone, Copy, Debug, PartialEq, Eq)]
+pub enum Beside {
+    /// A block's.
+    Block(Block),
+    /// A wing's.
+    Wing {
+        /// Which one.
+        wing: Wing,
+        /// Its word.
+        word: u64,
+    },
 }

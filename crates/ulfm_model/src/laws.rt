@@ -20,7 +20,7 @@ pub fn communicators_stay<P: Meld>()
     ensures { CommunicatorsStay P.meld }
 {}
 
-/// A communicator that exists has one context id, below 32.
+/// A communicator that exists has one context id, below 64.
 pub fn contexts_are_ids<P: Meld>()
     ensures { ContextsAreIds P.meld }
 {}

@@ -12,7 +12,7 @@ pub mod refusal;
 pub mod reply;
 pub mod step_name;
 
-pub use block::{Block, Side};
+pub use block::{Beside, Block, Side, Wing};
 pub use call::{Call, Request};
 pub use contribution::{Contribution, MarkCount, Offer, Slot};
 pub use event::{Caller, Entry, Event};

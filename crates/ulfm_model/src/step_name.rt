@@ -15,6 +15,8 @@ pub enum StepName {
     Slot,
     /// The exchange of a block, once all its members were found settled: what they say together.
     Cache,
+    /// A load or an exchange of a wing: of the rank's own place or of a member's, or of a block.
+    Wing,
     /// A load of the list of communicators.
     Comm,
     /// The exchange of that list's first empty place.

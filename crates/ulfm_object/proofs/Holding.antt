@@ -1,5 +1,5 @@
 -- The history after a call on a communicator that its rank holds, and the reply by it.
-use Rattle.std.proofs.Common.{◌≡◌, ℕ, List, ◌++◌, ap, sym, ◌∙◌, subst}
+use Rattle.std.proofs.Common.{◌≡◌, ℕ, false, List, ◌++◌, ap, sym, ◌∙◌, subst}
 use Rattle.ulfm_model.specs.declared.{call.Call.{Call}, event.Caller.TheVariants.{Rank}, event.Event.{Event}, limits.Limits.{Limits}, reply.Reply.{Reply}}
 use Rattle.ulfm_model.specs.{History.{History, entries_by, failures}, Records.{Held, Record}}
 use Rattle.ulfm_model.specs.Computed.{replied}
@@ -16,6 +16,6 @@ module _ {P : Type 0} (h : History P) (rank : ℕ) (events given taken : List (E
 
 -- the reply by a history that is the same
 pub same_reply : {P : Type 0} (meld : P → P → P) (limits : Limits) (h : History P) (own : Record) (x : Held) (asked : Call P) (after : History P) (events : List (Event P)) → after ≡ h ++ entries_by (Rank own.number) events
-    → (reply : Reply P) → reply ≡ replied meld limits h (record { look = failures h; history = after; own = events }) own x asked
-    → reply ≡ replied meld limits h (record { look = failures h; history = h ++ entries_by (Rank own.number) events; own = events }) own x asked
-same_reply meld limits h own x asked after events after_is reply reply_is = subst (λ w. reply ≡ replied meld limits h (record { look = failures h; history = w; own = events }) own x asked) after_is reply_is
+    → (reply : Reply P) → reply ≡ replied meld limits h (record { look = failures h; history = after; own = events; spread = false }) own x asked
+    → reply ≡ replied meld limits h (record { look = failures h; history = h ++ entries_by (Rank own.number) events; own = events; spread = false }) own x asked
+same_reply meld limits h own x asked after events after_is reply reply_is = subst (λ w. reply ≡ replied meld limits h (record { look = failures h; history = w; own = events; spread = false }) own x asked) after_is reply_is

@@ -1,5 +1,5 @@
 -- What the program of the sequential object keeps, as the definitions see it.
-use Rattle.std.specs.{Prelude.{◌≡◌, ◌<◌, ◌≤◌, List, length, map}}
+use Rattle.std.specs.{Prelude.{◌≡◌, ◌<◌, ◌≤◌, false, List, length, map}}
 use Rattle.ulfm_model.specs.declared.{call.Call.{Call}, event.Event.{Event}, limits.Limits.{Limits}, reply.Reply.{Reply}}
 use Rattle.ulfm_record.specs.declared.record.RankRecord.{RankRecord}
 use Rattle.ulfm_model.specs.{Answers.{AtPoint, traits_of}, History.{History, failures, spawns}, Runs.{IsStep, State}}
@@ -11,7 +11,7 @@ state_of limits log records = record { limits = limits; history = log; records =
 
 -- what a reply rests on that is found by walks: the failures at the look, which is at the history before, and the history after
 abbrev pub view_after : {P : Type 0} → History P → History P → List (Event P) → AtPoint P
-view_after before after events = record { look = failures before; history = after; own = events }
+view_after before after events = record { look = failures before; history = after; own = events; spread = false }
 
 -- so few failures and communicators that their numbers fit
 pub record IsFew {P : Type 0} (h : History P) : Type 0 where

@@ -19,7 +19,7 @@ pub(crate) fn ack(rank: u16, comm: u16, count: u16) -> Call<FlagAnd> {
     Call::Ack { rank, comm, count }
 }
 
-pub(crate) fn agree(rank: u16, comm: u16, bits: u32) -> Call<FlagAnd> {
+pub(crate) fn agree(rank: u16, comm: u16, bits: u64) -> Call<FlagAnd> {
     let value = FlagAnd { bits };
     Call::Agree { rank, comm, value }
 }
@@ -36,7 +36,7 @@ pub(crate) fn free(rank: u16, comm: u16) -> Call<FlagAnd> {
     Call::Free { rank, comm }
 }
 
-pub(crate) fn agreed(bits: u32, failed: u16, raised: bool) -> Reply<FlagAnd> {
+pub(crate) fn agreed(bits: u64, failed: u16, raised: bool) -> Reply<FlagAnd> {
     let value = FlagAnd { bits };
     Reply::Agreed {
         value,

@@ -7,12 +7,12 @@ use Rattle.ulfm_laws.specs.{declared.flag_and.FlagAnd.{FlagAnd}, Flags.{flag_mel
 use Rattle.ulfm_model.specs.declared.{call.Call.{Call}, call.Call.TheVariants.{Agree, Poll, Shrink}, call.Request.TheVariants.{Agree as OpenAgree, Shrink as OpenShrink}, limits.Limits.{Limits}, refusal.Refusal.{Refusal}, refusal.Refusal.TheVariants.{Busy, RoundsUsedUp, ShrinkOpen}, reply.Reply.{Reply}, reply.Reply.TheVariants.{Refused, Started}}
 use Rattle.ulfm_model.specs.{Answers.{first_refusal, opened, refusal_of, refusal_on}, History.{History, IsLegal, first_ranks, spawns}, Records.{Fits, Held, Record, change_at, held_at, is_shrink, new_held, new_record}}
 use Rattle.ulfm_model.proofs.{LeftRuns.{call_number}, Lists.{in_list, prefix_trans}, StepsShrinks.{spawns_fit}}
-use Rattle.ulfm_words.specs.Steps.{view_of, IsView, Name, Sight}
+use Rattle.ulfm_words.specs.Steps.{view_at, IsView, Over, Sight}
 use Rattle.ulfm_comm.specs.{Calls.{Calls, EndsBy, is_out_of_memory}, Polls.{polled}}
 use Rattle.ulfm_comm.specs.declared.calls.polled.Polled.{Polled}
 use Rattle.ulfm_comm.proofs.CallRuns.{called_run}
 use Rattle.ulfm_comm.specs.Local.{local}
-use Rattle.ulfm_rounds.specs.Rounds.{AreAgreed, Gave, IsDecision, IsMadeOf, IsReason}
+use Rattle.ulfm_rounds.specs.{Rounds.{AreAgreed, Gave, IsDecision, IsMadeOf, IsReason}, Told.{spread_in}}
 use Rattle.ulfm_rounds.proofs.{Refusing.{polls_refused, starts_refused}, Staying.{agreed_last, gave_lasts, replies_last}, Telling.{agree_opens, agree_tells, shrink_opens, shrink_tells}}
 use Rattle.ulfm_wait.specs.Waits.{IsPolledOn}
 use Rattle.ulfm_wait.proofs.Waiting.{IsLast, answer_ends, goes_on, last_poll}
@@ -61,7 +61,7 @@ late_not a b lt = grind (arith, lt)
 agreed_plain : (plan : Plan) (h : History FlagAnd) (r : ℕ) (said : List (Reply FlagAnd)) → AreAgreed flag_meld (limits_of plan) h 0 (flag_of r) r said → list_any is_shrunk said ≡ false
 agreed_plain plan h r said agreed = any_none is_shrunk said (λ n reply at. ap is_shrunk (agreed n reply at).0.reply_is)
 
-module _ (plan : Plan) (name : Name) (same : name.limits ≡ limits_of plan) (k : ℕ) (in_time : k ≤ plan.rounds) (own : Record) (at : Sight FlagAnd) (of : IsView flag_meld (view_of name at)) (fits : Fits flag_meld name.limits at.seen own) (said : List (Reply FlagAnd)) (ready : IsReady plan own.number k own at.seen said) where
+module _ (plan : Plan) (name : Over FlagAnd) (same : name.limits ≡ limits_of plan) (k : ℕ) (in_time : k ≤ plan.rounds) (own : Record) (at : Sight FlagAnd) (of : IsView flag_meld (view_at name at)) (fits : Fits flag_meld name.limits at.seen own) (said : List (Reply FlagAnd)) (ready : IsReady plan own.number k own at.seen said) where
   abbrev x : Held
   x = ready.x
 
@@ -99,16 +99,16 @@ module _ (plan : Plan) (name : Name) (same : name.limits ≡ limits_of plan) (k 
       (subst (λ b. first_refusal ((is_some x.request, Busy) ∷ (b, ShrinkOpen) ∷ (false, RoundsUsedUp) ∷ []) ≡ None) (sym none_open)
       (ap (λ q. first_refusal ((is_some q, Busy) ∷ (false, ShrinkOpen) ∷ (false, RoundsUsedUp) ∷ [])) ready.request)))
 
-  reason_is : (h : History FlagAnd) (j : ℕ) (f : Refusal) → j ≡ k → IsReason flag_meld limits h 0 j r f → IsReason flag_meld (limits_of plan) h 0 k r f
-  reason_is h j f is reason = subst (λ l. IsReason flag_meld l h 0 k r f) same (subst (λ n. IsReason flag_meld limits h 0 n r f) is reason)
+  reason_is : (h : History FlagAnd) (j : ℕ) (spread : Bool) (f : Refusal) → j ≡ k → IsReason flag_meld limits h 0 j r spread f → IsReason flag_meld (limits_of plan) h 0 k r spread f
+  reason_is h j spread f is reason = subst (λ l. IsReason flag_meld l h 0 k r spread f) same (subst (λ n. IsReason flag_meld limits h 0 n r spread f) is reason)
 
   -- what it was answered before stays
-  before_last : (after : Sight FlagAnd) → IsView flag_meld (view_of name after) → IsPrefix at.seen after.seen → AreAgreed flag_meld (limits_of plan) after.seen 0 (flag_of r) r said
+  before_last : (after : Sight FlagAnd) → IsView flag_meld (view_at name after) → IsPrefix at.seen after.seen → AreAgreed flag_meld (limits_of plan) after.seen 0 (flag_of r) r said
   before_last after new_of begins = agreed_last flag_meld (limits_of plan) at.seen after.seen begins (subst (λ l. IsLegal flag_meld l after.seen) same new_of.legal) 0 (flag_of r) r said (omega arith) ready.agreed
 
   -- a refusal with its reason ends what the rank was answered
-  ended : (refusal : Refusal) (new : Record) (after : Sight FlagAnd) → IsView flag_meld (view_of name after) → IsPrefix at.seen after.seen → IsReason flag_meld (limits_of plan) after.seen 0 k r refusal → IsAnswered plan after.seen r new (said ++ Refused refusal ∷ [])
-  ended refusal new after new_of begins reason =
+  ended : (spread : Bool) (refusal : Refusal) (new : Record) (after : Sight FlagAnd) → IsView flag_meld (view_at name after) → IsPrefix at.seen after.seen → IsReason flag_meld (limits_of plan) after.seen 0 k r spread refusal → IsAnswered plan after.seen r new (said ++ Refused refusal ∷ [])
+  ended spread refusal new after new_of begins reason =
       let count = ready.count in
       let agreed = before_last after new_of begins in
       let none : list_any is_shrunk (said ++ Refused refusal ∷ []) ≡ false = any_push is_shrunk said (Refused refusal) ∙ ap (λ b. b || false) (agreed_plain plan after.seen r said agreed) in
@@ -119,27 +119,28 @@ module _ (plan : Plan) (name : Name) (same : name.limits ≡ limits_of plan) (k 
           all = refl;
           few = omega (arith, count, in_time);
           each = agreed;
-          ends = inl (record { refusal = refusal; reply_is = refl; reason = subst (λ n. IsReason flag_meld (limits_of plan) after.seen 0 n r refusal) (sym count) reason });
+          ends = inl (record { refusal = refusal; reply_is = refl; spread = spread; reason = subst (λ n. IsReason flag_meld (limits_of plan) after.seen 0 n r spread refusal) (sym count) reason });
         };
         holds = λ some. absurd (cc (none, some));
       }
 
   -- a start that is refused has its reason
   start_refused : (asked : Call FlagAnd) → ((value : FlagAnd) × (asked ≡ Agree own.number 0 value)) ⊎ (asked ≡ Shrink own.number 0) → refusal_of own asked ≡ None
-      → (refusal : Refusal) (new : Record) (after : Sight FlagAnd) → Calls flag_meld false asked (local own (view_of name at)) (Refused refusal) (local new (view_of name after)) → IsAnswered plan after.seen r new (said ++ Refused refusal ∷ [])
+      → (refusal : Refusal) (new : Record) (after : Sight FlagAnd) → Calls flag_meld false asked (local own (view_at name at)) (Refused refusal) (local new (view_at name after)) → IsAnswered plan after.seen r new (said ++ Refused refusal ∷ [])
   start_refused asked kind not_refused refusal new after calls =
-      ended refusal new after calls.linearizes.of (goes_on flag_meld false name 0 asked own at (Refused refusal) new after of calls)
-      (reason_is after.seen x.next_agreement refusal ready.next (starts_refused flag_meld limits false at.seen after.seen own new 0 x asked refusal fits held_now kind not_refused (called_run flag_meld false name asked own at (Refused refusal) new after calls)))
+      let called = called_run flag_meld false name asked own at (Refused refusal) new after calls in
+      ended (spread_in called) refusal new after calls.linearizes.of (goes_on flag_meld false name 0 asked own at (Refused refusal) new after of calls)
+      (reason_is after.seen x.next_agreement (spread_in called) refusal ready.next (starts_refused flag_meld limits false at.seen after.seen own new 0 x asked refusal fits held_now kind not_refused called))
 
-  pub agree_refused : k < plan.rounds → (refusal : Refusal) (new : Record) (after : Sight FlagAnd) → Calls flag_meld false (Agree own.number 0 (flag_of r k)) (local own (view_of name at)) (Refused refusal) (local new (view_of name after)) → SaysAgree plan r k said new after.seen (Refused refusal)
+  pub agree_refused : k < plan.rounds → (refusal : Refusal) (new : Record) (after : Sight FlagAnd) → Calls flag_meld false (Agree own.number 0 (flag_of r k)) (local own (view_at name at)) (Refused refusal) (local new (view_at name after)) → SaysAgree plan r k said new after.seen (Refused refusal)
   agree_refused early refusal new after calls =
       inl (refl, start_refused (Agree own.number 0 (flag_of r k)) (inl (flag_of r k, refl)) (agree_not_refused (flag_of r k) early) refusal new after calls)
 
-  pub shrink_refused : (refusal : Refusal) (new : Record) (after : Sight FlagAnd) → Calls flag_meld false (Shrink own.number 0) (local own (view_of name at)) (Refused refusal) (local new (view_of name after)) → IsAnswered plan after.seen r new (said ++ Refused refusal ∷ [])
+  pub shrink_refused : (refusal : Refusal) (new : Record) (after : Sight FlagAnd) → Calls flag_meld false (Shrink own.number 0) (local own (view_at name at)) (Refused refusal) (local new (view_at name after)) → IsAnswered plan after.seen r new (said ++ Refused refusal ∷ [])
   shrink_refused refusal new after calls = start_refused (Shrink own.number 0) (inr refl) shrink_not_refused refusal new after calls
 
   -- a start that started, as whose request communicator 0 is held so, and polls of it that go on until one is answered
-  module _ (asked : Call FlagAnd) (y : Held) (comm : y.comm ≡ 0) (mid : Record) (then : Sight FlagAnd) (starts : Calls flag_meld false asked (local own (view_of name at)) Started (local mid (view_of name then))) (opens : mid.held ≡ y ∷ []) (new : Record) (after : Sight FlagAnd) where
+  module _ (asked : Call FlagAnd) (y : Held) (comm : y.comm ≡ 0) (mid : Record) (then : Sight FlagAnd) (starts : Calls flag_meld false asked (local own (view_at name at)) Started (local mid (view_at name then))) (opens : mid.held ≡ y ∷ []) (new : Record) (after : Sight FlagAnd) where
     from_start : IsPrefix at.seen then.seen
     from_start = goes_on flag_meld false name 0 asked own at Started mid then of starts
 
@@ -156,20 +157,20 @@ module _ (plan : Plan) (name : Name) (same : name.limits ≡ limits_of plan) (k 
       last_closed : change_at 0 (λ z. record z { request = None }) last.own.held ≡ record y { request = None } ∷ []
       last_closed = ap (change_at 0 (λ z. record z { request = None })) last_held ∙ ap (λ n. cond (n == 0) (record y { request = None } ∷ []) (y ∷ [])) comm
 
-      seen_from : (reply : Reply FlagAnd) → Calls flag_meld false (Poll last.own.number 0) (local last.own (view_of name last.at)) reply (local new (view_of name after)) → IsPrefix then.seen after.seen
+      seen_from : (reply : Reply FlagAnd) → Calls flag_meld false (Poll last.own.number 0) (local last.own (view_at name last.at)) reply (local new (view_at name after)) → IsPrefix then.seen after.seen
       seen_from reply calls = prefix_trans then.seen last.at.seen after.seen last.begins (goes_on flag_meld false name 0 (Poll last.own.number 0) last.own last.at reply new after last.of calls)
 
-      all_from : (reply : Reply FlagAnd) → Calls flag_meld false (Poll last.own.number 0) (local last.own (view_of name last.at)) reply (local new (view_of name after)) → IsPrefix at.seen after.seen
+      all_from : (reply : Reply FlagAnd) → Calls flag_meld false (Poll last.own.number 0) (local last.own (view_at name last.at)) reply (local new (view_at name after)) → IsPrefix at.seen after.seen
       all_from reply calls = prefix_trans at.seen then.seen after.seen from_start (seen_from reply calls)
 
     -- a poll that is refused
-    poll_refused : (refusal : Refusal) → (y.request ≡ Some (OpenAgree k)) ⊎ (y.request ≡ Some (OpenShrink k)) → IsFalse (is_out_of_memory refusal) → IsPolledOn flag_meld false 0 (local mid (view_of name then)) (Err refusal) (local new (view_of name after)) → IsAnswered plan after.seen r new (said ++ Refused refusal ∷ [])
+    poll_refused : (refusal : Refusal) → (y.request ≡ Some (OpenAgree k)) ⊎ (y.request ≡ Some (OpenShrink k)) → IsFalse (is_out_of_memory refusal) → IsPolledOn flag_meld false 0 (local mid (view_at name then)) (Err refusal) (local new (view_at name after)) → IsAnswered plan after.seen r new (said ++ Refused refusal ∷ [])
     poll_refused refusal which kept polls =
         let last = last_poll flag_meld false name 0 polls.0 mid then (Err refusal) new after starts.linearizes.of starts.linearizes.fits polls.1 in
-        let calls = subst (λ b. EndsBy flag_meld false (Poll last.own.number 0) (local last.own (view_of name last.at)) refusal b (local new (view_of name after))) kept last.poll in
+        let calls = subst (λ b. EndsBy flag_meld false (Poll last.own.number 0) (local last.own (view_at name last.at)) refusal b (local new (view_at name after))) kept last.poll in
         let reason = polls_refused flag_meld limits false last.at.seen after.seen last.own new 0 k y refusal last.fits (there (Err refusal) last) which (called_run flag_meld false name (Poll last.own.number 0) last.own last.at (Refused refusal) new after calls) in
-        ended refusal new after calls.linearizes.of (all_from (Err refusal) last (Refused refusal) calls)
-        (reason_is after.seen k refusal refl (subst (λ n. IsReason flag_meld limits after.seen 0 k n refusal) (number_is (Err refusal) last) reason))
+        ended false refusal new after calls.linearizes.of (all_from (Err refusal) last (Refused refusal) calls)
+        (reason_is after.seen k false refusal refl (subst (λ n. IsReason flag_meld limits after.seen 0 k n false refusal) (number_is (Err refusal) last) reason))
 
   -- one reply more to an agree
   agreed_push : (h : History FlagAnd) (reply : Reply FlagAnd) → AreAgreed flag_meld (limits_of plan) h 0 (flag_of r) r said → IsDecision flag_meld (limits_of plan) h 0 k reply → Gave h 0 k r (flag_of r k) → AreAgreed flag_meld (limits_of plan) h 0 (flag_of r) r (said ++ reply ∷ [])
@@ -181,7 +182,7 @@ module _ (plan : Plan) (name : Name) (same : name.limits ≡ limits_of plan) (k 
         subst (λ n. IsDecision flag_meld (limits_of plan) h 0 n given × Gave h 0 n r (flag_of r n)) one (subst (IsDecision flag_meld (limits_of plan) h 0 k) this.1 decided, gave)
   ]
 
-  module _ (early : k < plan.rounds) (mid : Record) (then : Sight FlagAnd) (starts : Calls flag_meld false (Agree own.number 0 (flag_of r k)) (local own (view_of name at)) Started (local mid (view_of name then))) (new : Record) (after : Sight FlagAnd) where
+  module _ (early : k < plan.rounds) (mid : Record) (then : Sight FlagAnd) (starts : Calls flag_meld false (Agree own.number 0 (flag_of r k)) (local own (view_at name at)) Started (local mid (view_at name then))) (new : Record) (after : Sight FlagAnd) where
     agree_starts : (mid.held ≡ change_at 0 (λ y. opened y (Some (OpenAgree y.next_agreement))) own.held) × Gave then.seen 0 x.next_agreement own.number (flag_of r k)
     agree_starts = agree_opens flag_meld limits false at.seen then.seen own mid 0 (flag_of r k) x fits held_now (called_run flag_meld false name (Agree own.number 0 (flag_of r k)) own at Started mid then starts)
 
@@ -213,13 +214,13 @@ module _ (plan : Plan) (name : Name) (same : name.limits ≡ limits_of plan) (k 
           },
         )
 
-    pub agree_answered : (answer : Result (Polled FlagAnd) Refusal) (reply : Reply FlagAnd) → IsPolledOn flag_meld false 0 (local mid (view_of name then)) answer (local new (view_of name after)) → IsKeptReply answer reply → SaysAgree plan r k said new after.seen reply
+    pub agree_answered : (answer : Result (Polled FlagAnd) Refusal) (reply : Reply FlagAnd) → IsPolledOn flag_meld false 0 (local mid (view_at name then)) answer (local new (view_at name after)) → IsKeptReply answer reply → SaysAgree plan r k said new after.seen reply
     agree_answered (Ok answer) reply polls kept =
         inr (subst (λ w. IsFalse (is_refused w) × IsReady plan r (k + 1) new after.seen (said ++ w ∷ [])) (sym kept) (agreed_says answer (last_poll flag_meld false name 0 polls.0 mid then (Ok answer) new after starts.linearizes.of starts.linearizes.fits polls.1)))
     agree_answered (Err refusal) reply polls kept =
         subst (λ w. SaysAgree plan r k said new after.seen w) (sym kept.0) (inl (refl, poll_refused (Agree own.number 0 (flag_of r k)) (opened x (Some (OpenAgree k))) ready.comm mid then starts agree_is_open new after refusal (inl refl) kept.1 polls))
 
-  module _ (all : k ≡ plan.rounds) (mid : Record) (then : Sight FlagAnd) (starts : Calls flag_meld false (Shrink own.number 0) (local own (view_of name at)) Started (local mid (view_of name then))) (new : Record) (after : Sight FlagAnd) where
+  module _ (all : k ≡ plan.rounds) (mid : Record) (then : Sight FlagAnd) (starts : Calls flag_meld false (Shrink own.number 0) (local own (view_at name at)) Started (local mid (view_at name then))) (new : Record) (after : Sight FlagAnd) where
     shrink_is_open : mid.held ≡ opened x (Some (OpenShrink k)) ∷ []
     shrink_is_open =
         shrink_opens flag_meld limits false at.seen then.seen own mid 0 x fits held_now (called_run flag_meld false name (Shrink own.number 0) own at Started mid then starts)
@@ -257,7 +258,7 @@ module _ (plan : Plan) (name : Name) (same : name.limits ≡ limits_of plan) (k 
           holds = λ some. (z, ap (λ h. find (λ w. w.comm == 1) h) held ∙ (ap (λ n. cond (n == 1) (Some (record y { request = None })) (cond (z.comm == 1) (Some z) None)) ready.comm ∙ ap (λ n. cond (n == 1) (Some z) None) number));
         }
 
-    pub shrink_answered : (answer : Result (Polled FlagAnd) Refusal) (reply : Reply FlagAnd) → IsPolledOn flag_meld false 0 (local mid (view_of name then)) answer (local new (view_of name after)) → IsKeptReply answer reply → IsAnswered plan after.seen r new (said ++ reply ∷ [])
+    pub shrink_answered : (answer : Result (Polled FlagAnd) Refusal) (reply : Reply FlagAnd) → IsPolledOn flag_meld false 0 (local mid (view_at name then)) answer (local new (view_at name after)) → IsKeptReply answer reply → IsAnswered plan after.seen r new (said ++ reply ∷ [])
     shrink_answered (Ok answer) reply polls kept =
         subst (λ w. IsAnswered plan after.seen r new (said ++ w ∷ [])) (sym kept) (shrunk_says answer (last_poll flag_meld false name 0 polls.0 mid then (Ok answer) new after starts.linearizes.of starts.linearizes.fits polls.1))
     shrink_answered (Err refusal) reply polls kept =

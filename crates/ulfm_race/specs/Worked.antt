@@ -8,12 +8,12 @@ use Rattle.ulfm_comm.specs.Fails.{Fails}
 use Rattle.ulfm_comm.specs.declared.calls.polled.Polled.{Polled}
 use Rattle.ulfm_member.specs.Members.{MemberCalls, Membership}
 use Rattle.ulfm_wait.specs.{Turns.{MemberPends}, Waits.{MemberAwaits}}
-use Rattle.ulfm_race.specs.Races.{IsKeptReply, flag_of, is_refused}
+use Rattle.ulfm_race.specs.Races.{IsKeptReply, flag_of, flag_pack, is_refused}
 use Rattle.ulfm_race.specs.declared.{plan.Plan.{Plan}, plan.RaceFault.{RaceFault}, worker.Report.{Report}}
 
 -- rank r was declared by one call, and nothing else was done over the pass
 abbrev pub Declares : Name → ℕ → Sight FlagAnd → Sight FlagAnd → Type 0
-Declares name r before after = (reply : Reply FlagAnd) × Fails flag_meld false r (view_of name before) reply (view_of name after)
+Declares name r before after = (reply : Reply FlagAnd) × Fails flag_meld false r (view_of flag_pack name before) reply (view_of flag_pack name after)
 
 -- the most steps of one declaration of each rank whose worker couldn't be started, where one makes so many
 abbrev pub steps_of : {X : Type 0} → ℕ → List (Result X RaceFault) → ℕ
@@ -23,20 +23,20 @@ steps_of most (Err fault ∷ starts) = most + steps_of most starts
 
 -- so many polls, and each was pending
 abbrev pub HasPended : Membership FlagAnd → Membership FlagAnd → Type 0
-HasPended old new = (times : ℕ) × MemberPends flag_meld false 0 times old new
+HasPended old new = (times : ℕ) × MemberPends flag_meld flag_pack false 0 times old new
 
 -- A start and what came of it, and nothing else, in no more steps than these calls may make: it was refused; or it started, and polls went on until
 -- one was answered, but not for want of memory.
 abbrev pub TakesPart : Call FlagAnd → Membership FlagAnd → Reply FlagAnd → Membership FlagAnd → Type 0
 TakesPart asked old reply new =
-    ((refusal : Refusal) × (reply ≡ Reply.Refused refusal) × MemberCalls flag_meld false asked old (Reply.Refused refusal) new)
-    ⊎ ((answer : Result (Polled FlagAnd) Refusal) × IsKeptReply answer reply × MemberAwaits flag_meld false 0 asked old answer new)
+    ((refusal : Refusal) × (reply ≡ Reply.Refused refusal) × MemberCalls flag_meld flag_pack false asked old (Reply.Refused refusal) new)
+    ⊎ ((answer : Result (Polled FlagAnd) Refusal) × IsKeptReply answer reply × MemberAwaits flag_meld flag_pack false 0 asked old answer new)
 
 -- A turn that met a fault: its last poll wanted memory; or the gate said no, before the start, or behind it and so many pending polls.
 abbrev pub BreaksIn : Call FlagAnd → Membership FlagAnd → RaceFault → Membership FlagAnd → Type 0
-BreaksIn asked old RaceFault.Memory new = MemberAwaits flag_meld false 0 asked old (Err Refusal.OutOfMemory) new
+BreaksIn asked old RaceFault.Memory new = MemberAwaits flag_meld flag_pack false 0 asked old (Err Refusal.OutOfMemory) new
 BreaksIn asked old RaceFault.Held new =
-    (new ≡ old) ⊎ ((mid : Membership FlagAnd) × MemberCalls flag_meld false asked old Reply.Started mid × HasPended mid new)
+    (new ≡ old) ⊎ ((mid : Membership FlagAnd) × MemberCalls flag_meld flag_pack false asked old Reply.Started mid × HasPended mid new)
 
 -- a turn that was answered so, or met a fault
 abbrev pub TurnIs : Call FlagAnd → Membership FlagAnd → Result (Reply FlagAnd) RaceFault → Membership FlagAnd → Type 0

@@ -8,7 +8,7 @@ ghost use Rattle.ulfm_laws.specs.declared.flag_and.FlagAnd.{FlagAnd as FlagOf};
 ghost use Rattle.ulfm_laws.specs.Flags.{flag_meld};
 ghost use Rattle.ulfm_model.specs.{History.{History}, Records.{Held, held_at}};
 ghost use Rattle.ulfm_words.specs.Steps.{view_of, IsView};
-ghost use Rattle.ulfm_race.specs.Races.{EndsFor, IsDeclared, IsEnded, IsGathered, IsHeard, IsOutcome, IsReported, IsStarted, Numbered, StartIs, StopsFor};
+ghost use Rattle.ulfm_race.specs.Races.{EndsFor, IsDeclared, IsEnded, IsGathered, IsHeard, IsOutcome, IsReported, IsStarted, Numbered, StartIs, StopsFor, flag_pack};
 ghost use Rattle.ulfm_race.specs.Races.{WasLet};
 ghost use Rattle.ulfm_race.specs.Races.{is_shrunk, limits_of};
 
@@ -116,7 +116,7 @@ pub(crate) fn hear_all<R: Threads, G: Gate>(
     gathered: Gathered,
 ) -> Result<Outcome, RaceFault>
     requires limits { world.now.limits ≡ limits_of gathered.plan }
-    requires of { IsView flag_meld (view_of world.now outside.old) }
+    requires of { IsView flag_meld (view_of flag_pack world.now outside.old) }
     requires declared { IfSome gathered.plan.fail (IsDeclared outside.old.seen) }
     requires nothing { (gathered.replies.items ≡ []) × (gathered.group.items ≡ []) × (gathered.fault ≡ None) }
     requires room { vec_capacity gathered.replies ≡ gathered.plan.ranks }
@@ -163,9 +163,9 @@ fn hear<'a, R: Threads, G: Gate>(
     outside: &mut BookPass<FlagAnd>,
 ) -> Result<Heard, RaceFault>
     requires limits { world.now.limits ≡ limits_of plan }
-    requires of { IsView flag_meld (view_of world.now outside.old) }
+    requires of { IsView flag_meld (view_of flag_pack world.now outside.old) }
     requires one { (r : ℕ) × StartIs (λ h. IsStarted world.now said.now gate.now plan r h.promise) outside.old.seen r one }
-    ensures of { IsView flag_meld (view_of world.now outside.new) }
+    ensures of { IsView flag_meld (view_of flag_pack world.now outside.new) }
     ensures seen { IsPrefix outside.old.seen outside.new.seen }
     ensures heard { (r : ℕ) → StartIs (λ h. IsStarted world.now said.now gate.now plan r h.promise) outside.old.seen r one.entry
         → MatchResult result (λ x. IsHeard plan outside.new.seen r x.replies.items x.made x.group.items × WasLet (G.may_say gate.now r) x.replies.items)
@@ -188,8 +188,8 @@ fn finish<'a, R: Threads, G: Gate>(
     outside: &mut BookPass<FlagAnd>,
 ) -> Report
     requires world { handle.promise.world.now ≡ world.now }
-    requires of { IsView flag_meld (view_of world.now outside.old) }
-    ensures of { IsView flag_meld (view_of world.now outside.new) }
+    requires of { IsView flag_meld (view_of flag_pack world.now outside.old) }
+    ensures of { IsView flag_meld (view_of flag_pack world.now outside.new) }
     ensures seen { IsPrefix outside.old.seen outside.new.seen }
     ensures learned { IsPrefix result.told.seen outside.new.seen }
     ensures still { outside.new.steps ≡ outside.old.steps }
@@ -213,8 +213,8 @@ fn hear_thread<'a, R: Threads, G: Gate>(
     requires world { handle.promise.world.now ≡ world.now }
     requires said { handle.promise.said.now ≡ said.now }
     requires limits { world.now.limits ≡ limits_of handle.promise.plan }
-    requires of { IsView flag_meld (view_of world.now outside.old) }
-    ensures of { IsView flag_meld (view_of world.now outside.new) }
+    requires of { IsView flag_meld (view_of flag_pack world.now outside.old) }
+    ensures of { IsView flag_meld (view_of flag_pack world.now outside.new) }
     ensures seen { IsPrefix outside.old.seen outside.new.seen }
     ensures answered { IfOk result (λ x. IsHeard handle.entry.promise.plan outside.new.seen handle.entry.promise.number x.replies.items x.made x.group.items) }
     ensures asked { IfOk result (λ x. WasLet (G.may_say handle.entry.promise.gate.now handle.entry.promise.number) x.replies.items) }

@@ -4,7 +4,7 @@ ghost use mathlib.Core.List.{IsPrefix};
 ghost use Rattle.ulfm_laws.specs.Flags.{flag_meld};
 ghost use Rattle.ulfm_words.specs.Steps.{view_of, IsView};
 ghost use Rattle.ulfm_comm.specs.Counts.{records_of};
-ghost use Rattle.ulfm_race.specs.Races.{EndsFor, IsDeclared, IsNewRank, IsOutcome, IsPlan, IsReported, IsStarted, Numbered, StartIs, WasLet, limits_of};
+ghost use Rattle.ulfm_race.specs.Races.{EndsFor, IsDeclared, IsNewRank, IsOutcome, IsPlan, IsReported, IsStarted, Numbered, StartIs, WasLet, flag_pack, limits_of};
 ghost use Rattle.ulfm_race.specs.Worked.{Declares, steps_of};
 
 use crate::gather::{Gathered, hear_all};
@@ -176,8 +176,8 @@ fn race_in<'s, E, R: Threads + Wait + Sync, G: Gate + Sync>(
 fn declare(world: &Shared, plan: Plan, outside: &mut BookPass<FlagAnd>)
     requires plan { IsPlan plan }
     requires limits { world.now.limits ≡ limits_of plan }
-    requires of { IsView flag_meld (view_of world.now outside.old) }
-    ensures of { IsView flag_meld (view_of world.now outside.new) }
+    requires of { IsView flag_meld (view_of flag_pack world.now outside.old) }
+    ensures of { IsView flag_meld (view_of flag_pack world.now outside.new) }
     ensures seen { IsPrefix outside.old.seen outside.new.seen }
     ensures declared { IfSome plan.fail (IsDeclared outside.new.seen) }
     ensures once { IfSome plan.fail (λ rank. Declares world.now rank outside.old outside.new) }
@@ -203,11 +203,11 @@ fn start_all<'s, E, G: Gate + Sync, R: Wait + Sync>(
 )
     requires plan { IsPlan plan }
     requires limits { world.now.limits ≡ limits_of plan }
-    requires of { IsView flag_meld (view_of world.now outside.old) }
+    requires of { IsView flag_meld (view_of flag_pack world.now outside.old) }
     requires ranks { Numbered (IsNewRank plan) 0 (records_of ranks.items) }
     requires nobody { started.old.items ≡ [] }
     requires room { length ranks.items ≤ vec_capacity started.old }
-    ensures of { IsView flag_meld (view_of world.now outside.new) }
+    ensures of { IsView flag_meld (view_of flag_pack world.now outside.new) }
     ensures started { Numbered (λ r one. StartIs (λ h. IsStarted world.now said.now gate.now plan r h.promise) outside.new.seen r one)
         0 started.new.items }
     ensures all { length started.new.items ≡ length ranks.items }
@@ -234,8 +234,8 @@ fn start<'s, E, G: Gate + Sync, R: Wait + Sync>(
     requires plan { IsPlan plan }
     requires limits { world.now.limits ≡ limits_of plan }
     requires new { IsNewRank plan rank.own.number rank.own }
-    requires of { IsView flag_meld (view_of world.now outside.old) }
-    ensures of { IsView flag_meld (view_of world.now outside.new) }
+    requires of { IsView flag_meld (view_of flag_pack world.now outside.old) }
+    ensures of { IsView flag_meld (view_of flag_pack world.now outside.new) }
     ensures seen { IsPrefix outside.old.seen outside.new.seen }
     ensures started { StartIs (λ h. IsStarted world.now said.now gate.now plan rank.own.number h.promise) outside.new.seen rank.own.number result }
     ensures once { MatchResult result (λ _. outside.new ≡ outside.old) (λ _. Declares world.now rank.own.number outside.old outside.new) }

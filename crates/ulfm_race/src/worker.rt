@@ -9,7 +9,7 @@ ghost use Rattle.ulfm_laws.specs.Flags.{flag_meld};
 ghost use Rattle.ulfm_model.specs.declared.{call.Call.TheVariants.{Agree, Shrink}, reply.Reply.{Reply as ReplyOf}};
 ghost use Rattle.ulfm_wait.specs.{Turns.{member_of}, Waits.{IsAwaited, IsPolledOn, MemberPollsOn}};
 ghost use Rattle.ulfm_race.specs.declared.plan.Plan.{Plan as PlanOf};
-ghost use Rattle.ulfm_race.specs.Races.{IsRankOf, IsAnswered, IsKeptReply, IsPlan, IsReady, IsReported, SaysAgree, Starts, StopsFor, WasLet, Works};
+ghost use Rattle.ulfm_race.specs.Races.{IsAnswered, IsKeptReply, IsPlan, IsRankOf, IsReady, IsReported, SaysAgree, Starts, StopsFor, WasLet, Works, flag_pack};
 ghost use Rattle.ulfm_race.specs.Races.{flag_of, is_refused, is_stopped, limits_of};
 ghost use Rattle.ulfm_race.specs.Worked.{Declares, HasPended, HasTurned, HasWorked, TurnIs};
 ghost use Rattle.ulfm_comm.specs.Local.{local};
@@ -187,12 +187,12 @@ fn keep<R: Wait>(
     }
 }
 
-// The bits of a rank's flag in a round.
+// A rank's flag in a round: 32 ones but one bit, below an upper half of 0.
 fn flag(rank: u16, round: u16) -> FlagAnd
     ensures { result ≡ flag_of rank round }
 {
     FlagAnd {
-        bits: u32::MAX - (1 << ((u32::from(rank) + u32::from(round)) % 32)),
+        bits: u64::from(u32::MAX - (1 << ((u32::from(rank) + u32::from(round)) % 32))),
     }
 }
 
@@ -206,11 +206,11 @@ fn polled<G: Gate, R: Wait>(
 ) -> Result<Result<Polled<FlagAnd>, Refusal>, RaceFault>
     requires own { IsRankOf world.now rank.old.own pass.old }
     ensures own { IsRankOf world.now rank.new.own pass.new }
-    ensures polls { IfOk result (λ answer. IsPolledOn flag_meld false 0 (local rank.old.own (view_of world.now pass.old)) answer
-        (local rank.new.own (view_of world.now pass.new))) }
+    ensures polls { IfOk result (λ answer. IsPolledOn flag_meld false 0 (local rank.old.own (view_of flag_pack world.now pass.old)) answer
+        (local rank.new.own (view_of flag_pack world.now pass.new))) }
     ensures asks { IfOk result (λ _. G.may_say gate.now rank.old.own.number Turn.Poll true) }
     ensures stops { IfErr result (λ fault. (fault ≡ RaceFault.Held) × G.may_say gate.now rank.old.own.number Turn.Poll false) }
-    ensures counted { IfOk result (λ answer. MemberPollsOn flag_meld false 0 (member_of world.now rank.old pass.old) answer
+    ensures counted { IfOk result (λ answer. MemberPollsOn flag_meld flag_pack false 0 (member_of world.now rank.old pass.old) answer
         (member_of world.now rank.new pass.new)) }
     ensures pends { IfErr result (λ _. HasPended (member_of world.now rank.old pass.old) (member_of world.now rank.new pass.new)) }
 {
@@ -287,8 +287,8 @@ fn agree<G: Gate, R: Wait>(
         → SaysAgree plan rank.old.own.number round said rank.new.own pass.new.seen reply) }
     ensures asks { IfOk result (λ reply. WasLet (G.may_say gate.now rank.old.own.number) (reply ∷ [])) }
     ensures stops { IfErr result (StopsFor
-        (IsAwaited flag_meld false 0 (Agree rank.old.own.number 0 (flag_of rank.old.own.number round)) (local rank.old.own (view_of world.now pass.old))
-        (Err Refusal.OutOfMemory) (local rank.new.own (view_of world.now pass.new)))
+        (IsAwaited flag_meld false 0 (Agree rank.old.own.number 0 (flag_of rank.old.own.number round)) (local rank.old.own (view_of flag_pack world.now pass.old))
+        (Err Refusal.OutOfMemory) (local rank.new.own (view_of flag_pack world.now pass.new)))
         (G.may_say gate.now rank.old.own.number)) }
     ensures turn { TurnIs (Agree rank.old.own.number 0 (flag_of rank.old.own.number round)) (member_of world.now rank.old pass.old) result
         (member_of world.now rank.new pass.new) }
@@ -323,8 +323,8 @@ fn shrink<G: Gate, R: Wait>(
         → IsAnswered plan pass.new.seen rank.old.own.number rank.new.own (said ++ reply ∷ [])) }
     ensures asks { IfOk result (λ reply. WasLet (G.may_say gate.now rank.old.own.number) (reply ∷ [])) }
     ensures stops { IfErr result (StopsFor
-        (IsAwaited flag_meld false 0 (Shrink rank.old.own.number 0) (local rank.old.own (view_of world.now pass.old)) (Err Refusal.OutOfMemory)
-        (local rank.new.own (view_of world.now pass.new)))
+        (IsAwaited flag_meld false 0 (Shrink rank.old.own.number 0) (local rank.old.own (view_of flag_pack world.now pass.old)) (Err Refusal.OutOfMemory)
+        (local rank.new.own (view_of flag_pack world.now pass.new)))
         (G.may_say gate.now rank.old.own.number)) }
     ensures turn { TurnIs (Shrink rank.old.own.number 0) (member_of world.now rank.old pass.old) result
         (member_of world.now rank.new pass.new) }

@@ -13,12 +13,12 @@ const PLAN: Plan = Plan {
 };
 
 /// The bits of a rank's flag in a round.
-fn bits(rank: u32, round: u32) -> u32 {
-    !(1u32 << ((rank % 32 + round % 32) % 32))
+fn bits(rank: u32, round: u32) -> u64 {
+    u64::from(!(1u32 << ((rank % 32 + round % 32) % 32)))
 }
 
 /// The flags of ranks 0, 1 and 3 in a round, combined.
-fn without_two(round: u32) -> u32 {
+fn without_two(round: u32) -> u64 {
     bits(0, round) & bits(1, round) & bits(3, round)
 }
 

@@ -36,7 +36,7 @@ fn free_race<R: Threads + Wait + Sync>(
 }
 
 /// An agree of these bits that nobody failed in.
-fn clean(bits: u32) -> Reply<FlagAnd> {
+fn clean(bits: u64) -> Reply<FlagAnd> {
     Reply::Agreed {
         value: FlagAnd { bits },
         failed: 0,

@@ -1,20 +1,21 @@
 -- The context ids of masks, and those that communicators leave free.
 use Rattle.std.proofs.Common.{◌≡◌, ℕ, ◌+◌, ◌-◌, ◌<◌, ◌≤◌, ◌^◌, List, [], ◌∷◌, ◌++◌, length, map, take, slice_index_or, ap, sym, ◌∙◌, arith, add-one}
 use Rattle.std.specs.Int.{trailing_zeros}
-use mir.Syntax.{w32}
+use mir.Syntax.{w64}
 use Rattle.std.proofs.Math.{Pow.{pow_mono}, Seq.{take-suc}}
 use Rattle.std.proofs.lemmas.List.{map-append}
 use Rattle.std.proofs.lemmas.Nat.Bits.{bit_at-trailing_zeros}
+use Rattle.ulfm_laws.specs.Ranges.{all_ones, payload_bits}
 use Rattle.ulfm_laws.specs.{Combined.{combined, combined-push}, Masks.{mask_lawful, mask_meld, mask_unit}}
 use Rattle.ulfm_model.specs.Records.{Held, IsLowestId, all_but, free_ids}
 
 -- the number of trailing zeros is the least id
-pub lowest_is : (mask : ℕ) → 0 < mask → mask < 2 ^ 32 → IsLowestId mask (trailing_zeros w32 mask)
-lowest_is mask some fits = let at = bit_at-trailing_zeros w32 mask some fits in record { in_it = at.1; least = at.2 }
+pub lowest_is : (mask : ℕ) → 0 < mask → mask < 2 ^ payload_bits → IsLowestId mask (trailing_zeros w64 mask)
+lowest_is mask some fits = let at = bit_at-trailing_zeros w64 mask some fits in record { in_it = at.1; least = at.2 }
 
 -- no id is left out of the full mask where the number is too great for one
-pub no_bit : (i : ℕ) → 32 ≤ i → 0 ≡ 0xffff_ffff - 2 ^ i
-no_bit i great = let high : 2 ^ 32 ≤ 2 ^ i = pow_mono great in omega (arith, high)
+pub no_bit : (i : ℕ) → payload_bits ≤ i → 0 ≡ all_ones - 2 ^ i
+no_bit i great = let high : 2 ^ payload_bits ≤ 2 ^ i = pow_mono great in omega (arith, high)
 
 -- one more communicator takes its id away
 one_taken : (held : List Held) (x : Held) → free_ids (held ++ x ∷ []) ≡ mask_meld (free_ids held) (all_but x.context)

@@ -20,7 +20,7 @@ pub struct HeldComm<A: Allocator> {
     pub comm: u16,
     /// Its members, in order.
     pub group: Vec<u16, A>,
-    /// Its context id, 0 to 31.
+    /// Its context id, 0 to 63.
     pub context: u8,
     /// How many of its failures the rank has acknowledged.
     pub acked: u16,

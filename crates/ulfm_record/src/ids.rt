@@ -11,9 +11,9 @@ use ulfm_laws::meld::Meld;
 fn all_but(id: u8) -> CtxMask
     ensures { result ≡ all_but id }
 {
-    if id < 32 {
+    if id < CtxMask::COUNT {
         CtxMask {
-            bits: u32::MAX - (1 << id),
+            bits: u64::MAX - (1 << id),
         }
     } else {
         CtxMask { bits: 0 }
@@ -31,7 +31,7 @@ pub fn free_ids<A: Allocator>(held: &[HeldComm<A>]) -> CtxMask
     free
 }
 
-/// The least id of a mask that isn't empty, 0 to 31.
+/// The least id of a mask that isn't empty, 0 to 63.
 pub fn lowest_id(mask: CtxMask) -> u8
     requires { 0 < mask.bits }
     ensures { IsLowestId mask.bits result }

@@ -53,7 +53,7 @@ struct Recovery {
 
 /// The flag of a rank: the four lowest bits without that of its number.
 fn flag(rank: u16) -> FlagAnd {
-    let own = 1u32 << (u32::from(rank) % 32);
+    let own = 1u64 << (u32::from(rank) % 64);
     FlagAnd {
         bits: 0b1111 & !own,
     }

@@ -40,7 +40,7 @@ struct Way {
 
 /// The flag of a rank: the five lowest bits without that of its number.
 fn flag(rank: u16) -> FlagAnd {
-    let own = 1u32 << (u32::from(rank) % 32);
+    let own = 1u64 << (u32::from(rank) % 64);
     FlagAnd {
         bits: 0b11111 & !own,
     }

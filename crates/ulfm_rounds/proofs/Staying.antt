@@ -1,5 +1,5 @@
 -- Replies stay what they are.
-use Rattle.std.proofs.Common.{◌≡◌, ◌⊎◌, ℕ, ◌-◌, ◌<◌, List, inl, inr, ap, sym, ◌∙◌, subst, length, IsTrue, arith}
+use Rattle.std.proofs.Common.{◌≡◌, ◌⊎◌, ℕ, ◌-◌, ◌<◌, Bool, List, inl, inr, ap, sym, ◌∙◌, subst, length, IsTrue, arith}
 use mathlib.Core.List.{IsPrefix}
 use Rattle.ulfm_model.specs.declared.{contribution.Slot.TheVariants.{Given}, limits.Limits.{Limits}, refusal.Refusal.{Refusal}, refusal.Refusal.TheVariants.{Busy, Idle, IsRevoked, Mismatch, NoContext, NoRoom, NoSuchComm, NoSuchRank, OutOfMemory, ProcFailed, RoundsUsedUp, SelfFailed, ShrinkOpen, Twice, WorldKept}, reply.Reply.{Reply}, reply.Reply.TheVariants.{Agreed, Shrunk}}
 use Rattle.ulfm_model.specs.History.{Decision, Exists, History, IsLegal, failures, has, spawns}
@@ -38,28 +38,29 @@ module _ {P : Type 0} (meld : P → P → P) (limits : Limits) (h longer : Histo
         reply_is = subst (λ ms. reply ≡ Shrunk is.comm is.context (length ms)) (sym same) is.reply_is;
       }
 
-  reason_lasts : 0 < limits.comms → (c k r : ℕ) (refusal : Refusal) → Exists h c → IsReason meld limits h c k r refusal → IsReason meld limits longer c k r refusal
-  reason_lasts room c k r SelfFailed here is = has_prefix (failures h) (failures longer) r (failures_begin h longer begins) is
-  reason_lasts room c k r Twice here is = (is.0, slot_stays h longer c k r (Given is.0) begins is.1)
-  reason_lasts room c k r Mismatch here is = let stays = decision_stays meld limits h longer c k begins legal here is.0 in (stays.0, ap (λ (d : Decision P). d.body) stays.1 ∙ is.1)
-  reason_lasts room c k r NoContext here is = let stays = decision_stays meld limits h longer c k begins legal here is.0 in (stays.0, (is.1.0, ap (λ (d : Decision P). d.body) stays.1 ∙ is.1.1, is.1.2))
-  reason_lasts room c k r NoRoom here is =
+  reason_lasts : 0 < limits.comms → (c k r : ℕ) (spread : Bool) (refusal : Refusal) → Exists h c → IsReason meld limits h c k r spread refusal → IsReason meld limits longer c k r spread refusal
+  reason_lasts room c k r spread SelfFailed here is = has_prefix (failures h) (failures longer) r (failures_begin h longer begins) is
+  reason_lasts room c k r spread Twice here (inl is) = inl (is.0, slot_stays h longer c k r (Given is.0) begins is.1)
+  reason_lasts room c k r spread Twice here (inr wing) = inr wing
+  reason_lasts room c k r spread Mismatch here is = let stays = decision_stays meld limits h longer c k begins legal here is.0 in (stays.0, ap (λ (d : Decision P). d.body) stays.1 ∙ is.1)
+  reason_lasts room c k r spread NoContext here is = let stays = decision_stays meld limits h longer c k begins legal here is.0 in (stays.0, (is.1.0, ap (λ (d : Decision P). d.body) stays.1 ∙ is.1.1, is.1.2))
+  reason_lasts room c k r spread NoRoom here is =
       let more = length_prefix (spawns h) (spawns longer) (spawns_begin h longer begins) in
       let most = spawns_fit meld limits longer legal room in
       omega (arith, is, more, most)
-  reason_lasts room c k r NoSuchComm here is = absurd is
-  reason_lasts room c k r Busy here is = absurd is
-  reason_lasts room c k r ShrinkOpen here is = absurd is
-  reason_lasts room c k r RoundsUsedUp here is = absurd is
-  reason_lasts room c k r Idle here is = absurd is
-  reason_lasts room c k r IsRevoked here is = absurd is
-  reason_lasts room c k r ProcFailed here is = absurd is
-  reason_lasts room c k r WorldKept here is = absurd is
-  reason_lasts room c k r NoSuchRank here is = absurd is
-  reason_lasts room c k r OutOfMemory here is = absurd is
+  reason_lasts room c k r spread NoSuchComm here is = absurd is
+  reason_lasts room c k r spread Busy here is = absurd is
+  reason_lasts room c k r spread ShrinkOpen here is = absurd is
+  reason_lasts room c k r spread RoundsUsedUp here is = absurd is
+  reason_lasts room c k r spread Idle here is = absurd is
+  reason_lasts room c k r spread IsRevoked here is = absurd is
+  reason_lasts room c k r spread ProcFailed here is = absurd is
+  reason_lasts room c k r spread WorldKept here is = absurd is
+  reason_lasts room c k r spread NoSuchRank here is = absurd is
+  reason_lasts room c k r spread OutOfMemory here is = absurd is
 
   pub refusal_lasts : 0 < limits.comms → (c k r : ℕ) (reply : Reply P) → Exists h c → IsRefusal meld limits h c k r reply → IsRefusal meld limits longer c k r reply
-  refusal_lasts room c k r reply here is = record { refusal = is.refusal; reply_is = is.reply_is; reason = reason_lasts room c k r is.refusal here is.reason }
+  refusal_lasts room c k r reply here is = record { refusal = is.refusal; reply_is = is.reply_is; spread = is.spread; reason = reason_lasts room c k r is.spread is.refusal here is.reason }
 
   pub agreed_last : (c : ℕ) (flag : ℕ → P) (r : ℕ) (agreed : List (Reply P)) → Exists h c → AreAgreed meld limits h c flag r agreed → AreAgreed meld limits longer c flag r agreed
   agreed_last c flag r agreed here each k reply at = let was = each k reply at in (decision_lasts c k reply here was.0, gave_lasts c k r (flag k) was.1)

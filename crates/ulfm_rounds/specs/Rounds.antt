@@ -1,5 +1,5 @@
 -- What a reply tells of its round, in a history; and the replies of a rank that agrees round after round and then shrinks.
-use Rattle.std.specs.Prelude.{◌≡◌, ◌⊎◌, ℕ, ◌+◌, ◌-◌, ◌<◌, ◌≤◌, List, [], ◌∷◌, ◌++◌, length, slice_get, Some, IsTrue}
+use Rattle.std.specs.Prelude.{◌≡◌, ◌⊎◌, ℕ, ◌+◌, ◌-◌, ◌<◌, ◌≤◌, Bool, List, [], ◌∷◌, ◌++◌, length, slice_get, Some, IsTrue}
 use Rattle.ulfm_laws.specs.declared.{summary.Body.{Body}, ctx_mask.CtxMask.{CtxMask}}
 use Rattle.ulfm_model.specs.declared.{contribution.Contribution.{Contribution}, contribution.Offer.{Offer}, contribution.Slot.{Slot}}
 use Rattle.ulfm_model.specs.declared.{limits.Limits.{Limits}, refusal.Refusal.{Refusal}, reply.Reply.{Reply}}
@@ -30,31 +30,33 @@ pub record IsMadeOf {P : Type 0} (meld : P → P → P) (limits : Limits) (h : H
   pub member : IsTrue (has (members limits.ranks h comm) r)
   pub reply_is : reply ≡ Reply.Shrunk comm context (length (members limits.ranks h comm))
 
--- what a refusal of an agree or a shrink in round k means: rank r is declared; its place has another contribution; some agreed and
--- others shrank; no context id was free at all; there is no room for a communicator. No other refusal ends either
-abbrev pub IsReason : {P : Type 0} → (P → P → P) → Limits → History P → ℕ → ℕ → ℕ → Refusal → Type 0
-IsReason meld limits h c k r Refusal.SelfFailed = IsTrue (has (failures h) r)
-IsReason {P} meld limits h c k r Refusal.Twice = (given : Contribution P) × (slot h c k r ≡ Some (Slot.Given given))
-IsReason meld limits h c k r Refusal.Mismatch = IsTrue (is_decided limits.ranks h c k) × ((decision meld limits.ranks h c k).body ≡ Body.Clash)
-IsReason meld limits h c k r Refusal.NoContext =
+-- what a refusal of an agree or a shrink in round k means: rank r is declared; its place has another contribution, or its place's wing was set, of
+-- which no history tells; some agreed and others shrank; no context id was free at all; there is no room for a communicator. No other refusal ends either
+abbrev pub IsReason : {P : Type 0} → (P → P → P) → Limits → History P → ℕ → ℕ → ℕ → Bool → Refusal → Type 0
+IsReason meld limits h c k r spread Refusal.SelfFailed = IsTrue (has (failures h) r)
+IsReason {P} meld limits h c k r spread Refusal.Twice =
+    ((given : Contribution P) × (slot h c k r ≡ Some (Slot.Given given))) ⊎ IsTrue spread
+IsReason meld limits h c k r spread Refusal.Mismatch = IsTrue (is_decided limits.ranks h c k) × ((decision meld limits.ranks h c k).body ≡ Body.Clash)
+IsReason meld limits h c k r spread Refusal.NoContext =
     IsTrue (is_decided limits.ranks h c k) × ((mask : CtxMask) × ((decision meld limits.ranks h c k).body ≡ Body.Ctx mask) × (mask.bits ≡ 0))
-IsReason meld limits h c k r Refusal.NoRoom = length (spawns h) + 1 ≡ limits.comms
-IsReason meld limits h c k r Refusal.NoSuchComm = ⊥
-IsReason meld limits h c k r Refusal.Busy = ⊥
-IsReason meld limits h c k r Refusal.ShrinkOpen = ⊥
-IsReason meld limits h c k r Refusal.RoundsUsedUp = ⊥
-IsReason meld limits h c k r Refusal.Idle = ⊥
-IsReason meld limits h c k r Refusal.IsRevoked = ⊥
-IsReason meld limits h c k r Refusal.ProcFailed = ⊥
-IsReason meld limits h c k r Refusal.WorldKept = ⊥
-IsReason meld limits h c k r Refusal.NoSuchRank = ⊥
-IsReason meld limits h c k r Refusal.OutOfMemory = ⊥
+IsReason meld limits h c k r spread Refusal.NoRoom = length (spawns h) + 1 ≡ limits.comms
+IsReason meld limits h c k r spread Refusal.NoSuchComm = ⊥
+IsReason meld limits h c k r spread Refusal.Busy = ⊥
+IsReason meld limits h c k r spread Refusal.ShrinkOpen = ⊥
+IsReason meld limits h c k r spread Refusal.RoundsUsedUp = ⊥
+IsReason meld limits h c k r spread Refusal.Idle = ⊥
+IsReason meld limits h c k r spread Refusal.IsRevoked = ⊥
+IsReason meld limits h c k r spread Refusal.ProcFailed = ⊥
+IsReason meld limits h c k r spread Refusal.WorldKept = ⊥
+IsReason meld limits h c k r spread Refusal.NoSuchRank = ⊥
+IsReason meld limits h c k r spread Refusal.OutOfMemory = ⊥
 
--- the reply is a refusal, and there is its reason
+-- the reply is a refusal, and there is its reason; whether a wing was it is told beside the history
 pub record IsRefusal {P : Type 0} (meld : P → P → P) (limits : Limits) (h : History P) (c k r : ℕ) (reply : Reply P) : Type 0 where
   pub refusal : Refusal
   pub reply_is : reply ≡ Reply.Refused refusal
-  pub reason : IsReason meld limits h c k r refusal
+  pub spread : Bool
+  pub reason : IsReason meld limits h c k r spread refusal
 
 -- the replies to agrees, one for each round from the first: each is its round's decision, and rank r contributed its flag
 abbrev pub AreAgreed : {P : Type 0} → (P → P → P) → Limits → History P → ℕ → (ℕ → P) → ℕ → List (Reply P) → Type 0

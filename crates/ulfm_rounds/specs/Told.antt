@@ -1,10 +1,11 @@
 -- The laws of replies, as statements: each is what a function of src/lib.rt ensures.
-use Rattle.std.specs.Prelude.{◌≡◌, ◌⊎◌, ℕ, Bool, List, [], ◌∷◌, ◌++◌, Some, None, IsTrue, ◌<◌}
+use Rattle.std.specs.Prelude.{◌≡◌, ◌⊎◌, ℕ, Bool, false, List, [], ◌∷◌, ◌++◌, Some, None, IsTrue, ◌<◌}
+use Rattle.std.proofs.Common.{inl, inr}
 use mathlib.Core.List.{IsPrefix}
 use Rattle.ulfm_model.specs.declared.{call.Call.{Call}, call.Request.{Request}, limits.Limits.{Limits}, refusal.Refusal.{Refusal}, reply.Reply.{Reply}}
 use Rattle.ulfm_model.specs.{Answers.{opened, refusal_of}, History.{Exists, History, IsLegal, failures, has}, Records.{Fits, Held, Record, change_at, held_at}}
 use Rattle.ulfm_model.specs.Runs.{IsCall}
-use Rattle.ulfm_model.specs.Records.{moment}
+use Rattle.ulfm_model.specs.Records.{Moment, moment}
 use Rattle.ulfm_rounds.specs.Rounds.{AreRoundReplies, Gave, IsDecision, IsMadeOf, IsReason, series}
 
 -- the reply of a poll that has ended it
@@ -59,14 +60,20 @@ SelfFailedIsDeclared {P} meld =
     → Fits meld limits before own → IsCall meld limits alone (moment own before) asked (Reply.Refused Refusal.SelfFailed) (moment new after)
     → IsTrue (has (failures after) own.number)
 
+-- whether a call of a rank found the wing of its place set
+abbrev pub spread_in : {P : Type 0} {meld : P → P → P} {limits : Limits} {alone : Bool} {start : Moment P} {asked : Call P} {reply : Reply P} {end : Moment P}
+    → IsCall meld limits alone start asked reply end → Bool
+spread_in (inl refused) = false
+spread_in (inr run) = run.span.spread
+
 -- an agree or a shrink that the record doesn't refuse is refused with its reason
 abbrev pub StartsRefuse : {P : Type 0} → (P → P → P) → Type 0
 StartsRefuse {P} meld =
     (limits : Limits) (alone : Bool) (before after : History P) (own new : Record) (c : ℕ) (x : Held) (asked : Call P) (refusal : Refusal)
     → Fits meld limits before own → held_at own c ≡ Some x
     → ((value : P) × (asked ≡ Call.Agree own.number c value)) ⊎ (asked ≡ Call.Shrink own.number c) → refusal_of own asked ≡ None
-    → IsCall meld limits alone (moment own before) asked (Reply.Refused refusal) (moment new after)
-    → IsReason meld limits after c x.next_agreement own.number refusal
+    → (called : IsCall meld limits alone (moment own before) asked (Reply.Refused refusal) (moment new after))
+    → IsReason meld limits after c x.next_agreement own.number (spread_in called) refusal
 
 -- a poll of either is refused with its reason
 abbrev pub PollsRefuse : {P : Type 0} → (P → P → P) → Type 0
@@ -74,7 +81,7 @@ PollsRefuse {P} meld =
     (limits : Limits) (alone : Bool) (before after : History P) (own new : Record) (c k : ℕ) (x : Held) (refusal : Refusal)
     → Fits meld limits before own → held_at own c ≡ Some x → (x.request ≡ Some (Request.Agree k)) ⊎ (x.request ≡ Some (Request.Shrink k))
     → IsCall meld limits alone (moment own before) (Call.Poll own.number c) (Reply.Refused refusal) (moment new after)
-    → IsReason meld limits after c k own.number refusal
+    → IsReason meld limits after c k own.number false refusal
 
 -- replies stay what they are in every longer legal history
 abbrev pub RepliesStay : {P : Type 0} → (P → P → P) → Type 0

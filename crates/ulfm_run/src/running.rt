@@ -76,7 +76,7 @@ pub fn run_steps<A: Allocator + Copy + Drop, R: Read, W: Write>(
 /// made. It has no more events of ranks than the number says, no more before the declaration than `at`, and no more behind it than the other
 /// steps. At a fault what was written is as by [`run_steps`], but for this declaration.
 ///
-/// The script of `examples/contribution_in_flight.steps` makes 20 steps: with 1000 for `at` its trace is what [`run_steps`] writes, and the
+/// The script of `examples/contribution_in_flight.steps` makes 29 steps: with 1000 for `at` its trace is what [`run_steps`] writes, and the
 /// answer is `Ok(20)`.
 pub fn run_steps_failing<A: Allocator + Copy + Drop, R: Read, W: Write>(
     alloc: A,

@@ -58,7 +58,7 @@ fn write_any(script: &mut Vec<u8>, state: &mut u64) -> io::Result<()> {
 
 /// A line of the one rank of a world, which shrinks until no context id is free, and now and then gives one back.
 fn write_alone(script: &mut Vec<u8>, state: &mut u64) -> io::Result<()> {
-    let comm = below(state, 40);
+    let comm = below(state, 90);
     match below(state, 20) {
         0 => writeln!(script, "free 0 {comm}"),
         1..=9 => writeln!(script, "shrink 0 0"),
@@ -81,7 +81,7 @@ fn both_engines_give_the_same(rt: HostRuntime) -> Result<(), Fail> {
     for number in 0..200 {
         let mut script = Vec::new(rt.alloc());
         if number % 20 == 0 {
-            writeln!(script, "ulfm 1 1 40 90")?;
+            writeln!(script, "ulfm 1 1 90 150")?;
         } else {
             let ranks = 1 + below(&mut state, 4);
             let comms = 1 + below(&mut state, 3);
@@ -130,7 +130,7 @@ fn both_engines_give_the_same(rt: HostRuntime) -> Result<(), Fail> {
         b"refused 12 world-kept",
         b"refused 13 no-such-rank",
         b"shrunk 2",
-        b"shrunk 31",
+        b"shrunk 63",
     ];
     for beginning in wanted {
         assert!(rt; has_line(&all, beginning), "{beginning:?}");
@@ -186,7 +186,7 @@ fn refusals_come_in_their_states(rt: HostRuntime) -> Result<(), Fail> {
 /// The worked rows.
 #[test]
 fn worked_rows(rt: HostRuntime) -> Result<(), Fail> {
-    let rows: [(&str, &[u8], &[u8]); 19] = [
+    let rows: [(&str, &[u8], &[u8]); 21] = [
         (
             "acknowledged_by_all",
             b"ulfm 1 3 1 4\nfail 2\nack 0 0 1\nack 1 0 1\nagree 0 0 0000000f\nagree 1 0 0000003c\npoll 0 0\npoll 1 0\n",
@@ -256,8 +256,56 @@ fn worked_rows(rt: HostRuntime) -> Result<(), Fail> {
                 shrunk 22 context 22 members 0\nstarted\nshrunk 23 context 23 members 0\nstarted\nshrunk 24 context 24 members 0\n\
                 started\nshrunk 25 context 25 members 0\nstarted\nshrunk 26 context 26 members 0\nstarted\n\
                 shrunk 27 context 27 members 0\nstarted\nshrunk 28 context 28 members 0\nstarted\nshrunk 29 context 29 members 0\n\
-                started\nshrunk 30 context 30 members 0\nstarted\nshrunk 31 context 31 members 0\nstarted\nrefused 8 no-context\nfreed\n\
-                started\nshrunk 32 context 7 members 0\n",
+                started\nshrunk 30 context 30 members 0\nstarted\nshrunk 31 context 31 members 0\nstarted\n\
+                shrunk 32 context 32 members 0\nfreed\nstarted\nshrunk 33 context 7 members 0\n",
+        ),
+        (
+            "contexts_come_back_c",
+            b"ulfm 1 1 70 70\nshrink 0 0\npoll 0 0\nshrink 0 0\npoll 0 0\nshrink 0 0\npoll 0 0\nshrink 0 0\npoll 0 0\nshrink 0 0\n\
+                poll 0 0\nshrink 0 0\npoll 0 0\nshrink 0 0\npoll 0 0\nshrink 0 0\npoll 0 0\nshrink 0 0\npoll 0 0\nshrink 0 0\n\
+                poll 0 0\nshrink 0 0\npoll 0 0\nshrink 0 0\npoll 0 0\nshrink 0 0\npoll 0 0\nshrink 0 0\npoll 0 0\nshrink 0 0\n\
+                poll 0 0\nshrink 0 0\npoll 0 0\nshrink 0 0\npoll 0 0\nshrink 0 0\npoll 0 0\nshrink 0 0\npoll 0 0\nshrink 0 0\n\
+                poll 0 0\nshrink 0 0\npoll 0 0\nshrink 0 0\npoll 0 0\nshrink 0 0\npoll 0 0\nshrink 0 0\npoll 0 0\nshrink 0 0\n\
+                poll 0 0\nshrink 0 0\npoll 0 0\nshrink 0 0\npoll 0 0\nshrink 0 0\npoll 0 0\nshrink 0 0\npoll 0 0\nshrink 0 0\n\
+                poll 0 0\nshrink 0 0\npoll 0 0\nshrink 0 0\npoll 0 0\nshrink 0 0\npoll 0 0\nshrink 0 0\npoll 0 0\nshrink 0 0\n\
+                poll 0 0\nshrink 0 0\npoll 0 0\nshrink 0 0\npoll 0 0\nshrink 0 0\npoll 0 0\nshrink 0 0\npoll 0 0\nshrink 0 0\n\
+                poll 0 0\nshrink 0 0\npoll 0 0\nshrink 0 0\npoll 0 0\nshrink 0 0\npoll 0 0\nshrink 0 0\npoll 0 0\nshrink 0 0\n\
+                poll 0 0\nshrink 0 0\npoll 0 0\nshrink 0 0\npoll 0 0\nshrink 0 0\npoll 0 0\nshrink 0 0\npoll 0 0\nshrink 0 0\n\
+                poll 0 0\nshrink 0 0\npoll 0 0\nshrink 0 0\npoll 0 0\nshrink 0 0\npoll 0 0\nshrink 0 0\npoll 0 0\nshrink 0 0\n\
+                poll 0 0\nshrink 0 0\npoll 0 0\nshrink 0 0\npoll 0 0\nshrink 0 0\npoll 0 0\nshrink 0 0\npoll 0 0\nshrink 0 0\n\
+                poll 0 0\nshrink 0 0\npoll 0 0\nshrink 0 0\npoll 0 0\nshrink 0 0\npoll 0 0\nshrink 0 0\npoll 0 0\nfree 0 7\n\
+                shrink 0 0\npoll 0 0\n",
+            b"started\nshrunk 1 context 1 members 0\nstarted\nshrunk 2 context 2 members 0\nstarted\n\
+                shrunk 3 context 3 members 0\nstarted\nshrunk 4 context 4 members 0\nstarted\nshrunk 5 context 5 members 0\n\
+                started\nshrunk 6 context 6 members 0\nstarted\nshrunk 7 context 7 members 0\nstarted\n\
+                shrunk 8 context 8 members 0\nstarted\nshrunk 9 context 9 members 0\nstarted\nshrunk 10 context 10 members 0\n\
+                started\nshrunk 11 context 11 members 0\nstarted\nshrunk 12 context 12 members 0\nstarted\n\
+                shrunk 13 context 13 members 0\nstarted\nshrunk 14 context 14 members 0\nstarted\nshrunk 15 context 15 members 0\n\
+                started\nshrunk 16 context 16 members 0\nstarted\nshrunk 17 context 17 members 0\nstarted\n\
+                shrunk 18 context 18 members 0\nstarted\nshrunk 19 context 19 members 0\nstarted\nshrunk 20 context 20 members 0\n\
+                started\nshrunk 21 context 21 members 0\nstarted\nshrunk 22 context 22 members 0\nstarted\n\
+                shrunk 23 context 23 members 0\nstarted\nshrunk 24 context 24 members 0\nstarted\nshrunk 25 context 25 members 0\n\
+                started\nshrunk 26 context 26 members 0\nstarted\nshrunk 27 context 27 members 0\nstarted\n\
+                shrunk 28 context 28 members 0\nstarted\nshrunk 29 context 29 members 0\nstarted\nshrunk 30 context 30 members 0\n\
+                started\nshrunk 31 context 31 members 0\nstarted\nshrunk 32 context 32 members 0\nstarted\n\
+                shrunk 33 context 33 members 0\nstarted\nshrunk 34 context 34 members 0\nstarted\nshrunk 35 context 35 members 0\n\
+                started\nshrunk 36 context 36 members 0\nstarted\nshrunk 37 context 37 members 0\nstarted\n\
+                shrunk 38 context 38 members 0\nstarted\nshrunk 39 context 39 members 0\nstarted\nshrunk 40 context 40 members 0\n\
+                started\nshrunk 41 context 41 members 0\nstarted\nshrunk 42 context 42 members 0\nstarted\n\
+                shrunk 43 context 43 members 0\nstarted\nshrunk 44 context 44 members 0\nstarted\nshrunk 45 context 45 members 0\n\
+                started\nshrunk 46 context 46 members 0\nstarted\nshrunk 47 context 47 members 0\nstarted\n\
+                shrunk 48 context 48 members 0\nstarted\nshrunk 49 context 49 members 0\nstarted\nshrunk 50 context 50 members 0\n\
+                started\nshrunk 51 context 51 members 0\nstarted\nshrunk 52 context 52 members 0\nstarted\n\
+                shrunk 53 context 53 members 0\nstarted\nshrunk 54 context 54 members 0\nstarted\nshrunk 55 context 55 members 0\n\
+                started\nshrunk 56 context 56 members 0\nstarted\nshrunk 57 context 57 members 0\nstarted\n\
+                shrunk 58 context 58 members 0\nstarted\nshrunk 59 context 59 members 0\nstarted\nshrunk 60 context 60 members 0\n\
+                started\nshrunk 61 context 61 members 0\nstarted\nshrunk 62 context 62 members 0\nstarted\n\
+                shrunk 63 context 63 members 0\nstarted\nrefused 8 no-context\nfreed\nstarted\nshrunk 64 context 7 members 0\n",
+        ),
+        (
+            "sixteen_digits",
+            b"ulfm 1 2 1 4\nagree 0 0 ffffffff0000000f\nagree 1 0 0000000300000007\npoll 0 0\npoll 1 0\n",
+            b"started\nstarted\nagreed 0000000300000007 failed 0 clean\nagreed 0000000300000007 failed 0 clean\n",
         ),
         (
             "failed_rank_raises",

@@ -2,14 +2,14 @@
 use crate::engine::{Engine, Turn};
 use crate::few::{Few, has_bit};
 use crate::rounds::failed_members;
-use crate::state::{Open, Phase, State};
+use crate::state::{Open, Phase, State, is_of_wing};
 use std::alloc::{AllocError, Allocator};
 use ulfm_programs::{Ask, Fate, May};
 
 /// Who makes a step, or is declared.
 #[derive(Clone, Copy, Debug, PartialEq, Eq)]
 pub(crate) enum Act {
-    /// The rank makes its next atomic step.
+    /// The rank makes its next atomic step, and those of wings behind it.
     Step(u8),
     /// The outside declares the rank.
     Declare(u8),
@@ -61,6 +61,31 @@ pub(crate) fn can_act<A: Allocator + Copy + Drop>(
     }
 }
 
+/// So many steps at most are one act: the load of a place, that of its wing, and, where it is the last of its block, the exchange of the block's wing.
+pub(crate) const MOST_STEPS: u8 = 3;
+
+/// Whether the next step of a rank goes along with its last one: nobody can tell whether it was made.
+pub(crate) fn goes_along<A: Allocator + Copy + Drop>(state: &State<A>, rank: u8) -> bool {
+    is_of_wing(state.seat(rank).phase)
+}
+
+/// Takes a rank's next step, with those that go along with it, and says whether they answer its call.
+fn take_step<A: Allocator + Copy + Drop>(
+    engine: &mut Engine<A>,
+    state: &mut State<A>,
+    rank: u8,
+) -> Result<bool, AllocError> {
+    for number in 0..MOST_STEPS {
+        if number != 0 && !goes_along(state, rank) {
+            break;
+        }
+        if engine.step(state, rank)? {
+            return Ok(true);
+        }
+    }
+    Ok(false)
+}
+
 /// Takes an act, and says whether it answers a call.
 pub(crate) fn take_act<A: Allocator + Copy + Drop>(
     engine: &mut Engine<A>,
@@ -68,7 +93,7 @@ pub(crate) fn take_act<A: Allocator + Copy + Drop>(
     act: Act,
 ) -> Result<bool, AllocError> {
     match act {
-        Act::Step(rank) => engine.step(state, rank),
+        Act::Step(rank) => take_step(engine, state, rank),
         Act::Declare(rank) => {
             engine.declare(state, rank);
             Ok(false)

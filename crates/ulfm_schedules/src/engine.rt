@@ -48,18 +48,18 @@ pub(crate) struct Engine<'a, A: Allocator> {
 }
 
 /// A flag's reply, or what a shrink's round gives.
-fn flag_of(bits: u32) -> FlagAnd {
+fn flag_of(bits: u64) -> FlagAnd {
     FlagAnd { bits }
 }
 
 /// The context id that a shrink takes: the least of a set that isn't empty.
-fn least(bits: u32) -> u8 {
+fn least(bits: u64) -> u8 {
     u8::try_from(bits.trailing_zeros()).unwrap_or(0)
 }
 
 /// A set of context ids without one.
-fn without_context(bits: u32, context: u8) -> u32 {
-    bits & !(1u32.checked_shl(u32::from(context)).unwrap_or(0))
+fn without_context(bits: u64, context: u8) -> u64 {
+    bits & !(1u64.checked_shl(u32::from(context)).unwrap_or(0))
 }
 
 impl<'a, A: Allocator + Copy + Drop> Engine<'a, A> {
@@ -283,13 +283,17 @@ impl<'a, A: Allocator + Copy + Drop> Engine<'a, A> {
     fn step_phase(&mut self, state: &mut State<A>, turn: Turn) -> Result<Next, AllocError> {
         match state.seat(turn.rank).phase {
             Phase::Idle | Phase::Look => Ok(step_look(state, turn)),
+            Phase::Spread => Ok(stand_before(state, turn, Phase::Settle)),
             Phase::Settle => self.step_settle(state, turn),
             Phase::Arrive => Ok(step_arrive(state, turn)),
             Phase::Revoke => Ok(step_revoke(state, turn)),
             Phase::Revocation => Ok(step_revocation(state, turn)),
             Phase::Block => Ok(step_block(state, turn)),
+            Phase::BlockWing => Ok(step_block_wing(state, turn)),
             Phase::Mark => self.step_mark(state, turn),
-            Phase::Slot => Ok(step_slot(state, turn)),
+            Phase::Slot => Ok(self.step_slot(state, turn)),
+            Phase::SlotWing => Ok(go_past_slot(state, turn)),
+            Phase::CacheWing => Ok(stand_before(state, turn, Phase::Cache)),
             Phase::Cache => Ok(self.step_cache(state, turn)),
             Phase::ReadOn => Ok(step_look(state, turn)),
             Phase::Comm => Ok(self.step_comm(state, turn)),
@@ -370,6 +374,23 @@ impl<'a, A: Allocator + Copy + Drop> Engine<'a, A> {
         seat.at = known;
         state.put_seat(turn.rank, seat);
         Ok(Next::Again)
+    }
+
+    fn step_slot(&self, state: &mut State<A>, turn: Turn) -> Next {
+        let at = place_in_blocks(state.seat(turn.rank));
+        let round = state.held(turn.rank, turn.comm).round;
+        let members = state.comm(turn.comm).members;
+        let word = match member_of(members, at >> 4, at & 15) {
+            Some(rank) => state.slot(turn.comm, round, rank),
+            None => 0,
+        };
+        if word == 0 {
+            return Next::Answer(plain(Reply::Pending));
+        }
+        if self.word(word).offer == Offer::Nothing {
+            return go_past_slot(state, turn);
+        }
+        stand_before(state, turn, Phase::SlotWing)
     }
 
     fn step_cache(&mut self, state: &mut State<A>, turn: Turn) -> Next {
@@ -544,8 +565,8 @@ impl<'a, A: Allocator + Copy + Drop> Engine<'a, A> {
 }
 
 /// The context ids of none of a rank's communicators.
-fn free_contexts<A: Allocator + Copy + Drop>(state: &State<A>, rank: u8) -> u32 {
-    let mut free = u32::MAX;
+fn free_contexts<A: Allocator + Copy + Drop>(state: &State<A>, rank: u8) -> u64 {
+    let mut free = u64::MAX;
     for comm in 0..state.layout.comms {
         let held = state.held(rank, comm);
         if held.holds {
@@ -599,34 +620,54 @@ fn step_block<A: Allocator + Copy + Drop>(state: &mut State<A>, turn: Turn) -> N
     let mut seat = state.seat(turn.rank);
     let round = state.held(turn.rank, turn.comm).round;
     if state.is_cached(turn.comm, round, seat.at) {
-        seat.known = with_bit(seat.known, seat.at);
+        return stand_before(state, turn, Phase::BlockWing);
     }
     seat.at = seat.at.saturating_add(1);
     state.put_seat(turn.rank, seat);
     Next::Again
 }
 
-fn step_slot<A: Allocator + Copy + Drop>(state: &mut State<A>, turn: Turn) -> Next {
+fn step_block_wing<A: Allocator + Copy + Drop>(state: &mut State<A>, turn: Turn) -> Next {
     let mut seat = state.seat(turn.rank);
-    let round = state.held(turn.rank, turn.comm).round;
-    let members = state.comm(turn.comm).members;
-    let (_, size) = blocks_of(members);
-    let skips = seat.at < 16 && has_bit(seat.known, 0);
-    let block = if skips { 1 } else { seat.at >> 4 };
-    let number = seat.at & 15;
-    let filled = match member_of(members, block, number) {
-        Some(rank) => state.slot(turn.comm, round, rank) != 0,
-        None => false,
-    };
-    if !filled {
-        return Next::Answer(plain(Reply::Pending));
-    }
-    let following = number.saturating_add(1);
-    if following == size {
-        seat.phase = Phase::Cache;
-        seat.at = block;
+    seat.phase = Phase::Block;
+    seat.known = with_bit(seat.known, seat.at);
+    seat.at = seat.at.saturating_add(1);
+    state.put_seat(turn.rank, seat);
+    Next::Again
+}
+
+/// A call of which nothing changes but what is next stands before a step of this phase.
+fn stand_before<A: Allocator + Copy + Drop>(
+    state: &mut State<A>,
+    turn: Turn,
+    phase: Phase,
+) -> Next {
+    let mut seat = state.seat(turn.rank);
+    seat.phase = phase;
+    state.put_seat(turn.rank, seat);
+    Next::Step
+}
+
+/// The place that a reading stands at, as `Phase::Slot` has it: a first block that is known is passed over.
+fn place_in_blocks(seat: Seat) -> u8 {
+    if seat.at < 16 && has_bit(seat.known, 0) {
+        seat.at.saturating_add(16)
     } else {
-        seat.at = block.saturating_mul(16).saturating_add(following);
+        seat.at
+    }
+}
+
+/// A member's place was read: the next member's comes, or the block.
+fn go_past_slot<A: Allocator + Copy + Drop>(state: &mut State<A>, turn: Turn) -> Next {
+    let mut seat = state.seat(turn.rank);
+    let (_, size) = blocks_of(state.comm(turn.comm).members);
+    let at = place_in_blocks(seat);
+    if (at & 15).saturating_add(1) == size {
+        seat.phase = Phase::CacheWing;
+        seat.at = at >> 4;
+    } else {
+        seat.phase = Phase::Slot;
+        seat.at = at.saturating_add(1);
     }
     state.put_seat(turn.rank, seat);
     Next::Step

@@ -87,7 +87,7 @@ fn has_open_shrink<A: Allocator + Copy + Drop>(state: &State<A>, rank: u8) -> bo
     found
 }
 
-/// An agree or a shrink goes on to its contribution.
+/// An agree or a shrink goes on to its contribution, of which the wing comes first.
 fn begin_round<A: Allocator + Copy + Drop>(state: &mut State<A>, turn: Turn, seat: Seat) -> Next {
     let held = state.held(turn.rank, turn.comm);
     let shrinks = turn.ask == Ask::Shrink;
@@ -105,7 +105,7 @@ fn begin_round<A: Allocator + Copy + Drop>(state: &mut State<A>, turn: Turn, sea
     if needed >= state.layout.rounds {
         return Next::Answer(refused(Refusal::RoundsUsedUp));
     }
-    stand_at(state, turn, seat, Phase::Settle)
+    stand_at(state, turn, seat, Phase::Spread)
 }
 
 /// A barrier goes on to its arrival.

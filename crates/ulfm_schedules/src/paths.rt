@@ -1,5 +1,5 @@
 //! Paths: the acts that lead to a state, and what they come to when they are taken again.
-use crate::choices::{Act, can_act, is_settled, take_act};
+use crate::choices::{Act, MOST_STEPS, can_act, goes_along, is_settled, take_act};
 use crate::engine::Engine;
 use crate::finding::{Found, Part, parts_of};
 use crate::state::{Phase, State};
@@ -35,6 +35,7 @@ pub(crate) fn path_to<A: Allocator + Copy + Drop>(
 fn step_name(phase: Phase) -> StepName {
     match phase {
         Phase::Idle | Phase::Look | Phase::ReadOn => StepName::List,
+        Phase::Spread | Phase::BlockWing | Phase::SlotWing | Phase::CacheWing => StepName::Wing,
         Phase::Settle => StepName::Settle,
         Phase::Arrive => StepName::Arrive,
         Phase::Revoke => StepName::Revoke,
@@ -59,7 +60,7 @@ struct Walk {
     made: u16,
 }
 
-/// The number of a step's name, 0 to 11.
+/// The number of a step's name, 0 to 12.
 fn name_number(name: StepName) -> u32 {
     match name {
         StepName::List => 0,
@@ -68,12 +69,13 @@ fn name_number(name: StepName) -> u32 {
         StepName::Mark => 3,
         StepName::Slot => 4,
         StepName::Cache => 5,
-        StepName::Comm => 6,
-        StepName::Spawn => 7,
-        StepName::Arrive => 8,
-        StepName::Arrival => 9,
-        StepName::Revoke => 10,
-        StepName::Revocation => 11,
+        StepName::Wing => 6,
+        StepName::Comm => 7,
+        StepName::Spawn => 8,
+        StepName::Arrive => 9,
+        StepName::Arrival => 10,
+        StepName::Revoke => 11,
+        StepName::Revocation => 12,
     }
 }
 
@@ -147,7 +149,7 @@ impl<A: Allocator + Copy + Drop> Writing<A> {
     }
 }
 
-/// Takes a rank's step, and writes its lines.
+/// Takes a rank's step, with those that go along with it, and writes its lines.
 fn write_step<A: Allocator + Copy + Drop>(
     engine: &mut Engine<A>,
     state: &mut State<A>,
@@ -162,19 +164,26 @@ fn write_step<A: Allocator + Copy + Drop>(
         engine.step(state, rank)?;
         return Ok(());
     }
-    let phase = state.seat(rank).phase;
-    if phase == Phase::Idle {
+    if state.seat(rank).phase == Phase::Idle {
         if let Some(turn) = engine.turn(state, rank) {
-            let asked: Call<FlagAnd> = engine.call_of(turn);
-            writing.add(StepLine::Called(asked))?;
+            let call: Call<FlagAnd> = engine.call_of(turn);
+            writing.add(StepLine::Called {
+                call,
+                padded: false,
+            })?;
         }
     }
-    writing.step(rank, step_name(phase));
-    if engine.step(state, rank)? {
-        writing.walk = None;
-        return writing.add(StepLine::Finished {
-            rank: u16::from(rank),
-        });
+    for number in 0..MOST_STEPS {
+        if number != 0 && !goes_along(state, rank) {
+            break;
+        }
+        writing.step(rank, step_name(state.seat(rank).phase));
+        if engine.step(state, rank)? {
+            writing.walk = None;
+            return writing.add(StepLine::Finished {
+                rank: u16::from(rank),
+            });
+        }
     }
     Ok(())
 }

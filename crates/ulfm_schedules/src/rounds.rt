@@ -20,9 +20,9 @@ pub(crate) enum Offer {
     /// Nothing: the member is marked as failed.
     Nothing,
     /// A flag's bits.
-    Flag(u32),
+    Flag(u64),
     /// A set of context ids.
-    Contexts(u32),
+    Contexts(u64),
     /// Both, of two members.
     Both,
 }

@@ -3,7 +3,7 @@ use std::alloc::{AllocError, Allocator};
 use ulfm_laws::FlagAnd;
 use ulfm_lines::step_word;
 use ulfm_model::Limits;
-use ulfm_script::{HeaderKind, print_call, print_header, print_number};
+use ulfm_script::{HeaderKind, print_header, print_number, print_spelled_call};
 use ulfm_trace_model::StepLine;
 
 /// A word, and the number of a rank.
@@ -22,9 +22,9 @@ fn print_step<A: Allocator>(
     line: &StepLine<FlagAnd>,
 ) -> Result<(), AllocError> {
     match *line {
-        StepLine::Called(asked) => {
+        StepLine::Called { call, padded } => {
             text.extend_from_slice(b"call ")?;
-            print_call(text, &asked)?;
+            print_spelled_call(text, &call, padded)?;
         }
         StepLine::Stepped { rank, count } => {
             print_rank(text, b"step ", rank)?;

@@ -12,7 +12,9 @@ pub(crate) enum Phase {
     Idle,
     /// A load of the list of failures. `at` is 1 once it was found at its end.
     Look,
-    /// The exchange of the rank's own place in an agreement round.
+    /// The exchange of the wing of the rank's own place in an agreement round.
+    Spread,
+    /// The exchange of that place.
     Settle,
     /// The exchange of its own place in a barrier round.
     Arrive,
@@ -22,10 +24,16 @@ pub(crate) enum Phase {
     Revocation,
     /// A load of a block, of which `at` is the number; `known` has those that are known.
     Block,
+    /// A load of the wing of the block of number `at`, which is set.
+    BlockWing,
     /// The exchange of the place of a failed member, of which `at` is the number.
     Mark,
     /// A load of a member's place; `at` is its number in the block, and 16 for each block before it.
     Slot,
+    /// A load of the wing of that place, which has a contribution.
+    SlotWing,
+    /// The exchange of the wing of the block of number `at`.
+    CacheWing,
     /// The exchange of the block of number `at`.
     Cache,
     /// A load of the list of failures, once a shrink's round is decided.
@@ -136,18 +144,22 @@ fn phase_of(number: u8) -> Phase {
     match number {
         0 => Phase::Idle,
         1 => Phase::Look,
-        2 => Phase::Settle,
-        3 => Phase::Arrive,
-        4 => Phase::Revoke,
-        5 => Phase::Revocation,
-        6 => Phase::Block,
-        7 => Phase::Mark,
-        8 => Phase::Slot,
-        9 => Phase::Cache,
-        10 => Phase::ReadOn,
-        11 => Phase::Comm,
-        12 => Phase::Spawn,
-        13 => Phase::Arrival,
+        2 => Phase::Spread,
+        3 => Phase::Settle,
+        4 => Phase::Arrive,
+        5 => Phase::Revoke,
+        6 => Phase::Revocation,
+        7 => Phase::Block,
+        8 => Phase::BlockWing,
+        9 => Phase::Mark,
+        10 => Phase::Slot,
+        11 => Phase::SlotWing,
+        12 => Phase::CacheWing,
+        13 => Phase::Cache,
+        14 => Phase::ReadOn,
+        15 => Phase::Comm,
+        16 => Phase::Spawn,
+        17 => Phase::Arrival,
         _ => Phase::Ending,
     }
 }
@@ -156,19 +168,34 @@ fn phase_number(phase: Phase) -> u8 {
     match phase {
         Phase::Idle => 0,
         Phase::Look => 1,
-        Phase::Settle => 2,
-        Phase::Arrive => 3,
-        Phase::Revoke => 4,
-        Phase::Revocation => 5,
-        Phase::Block => 6,
-        Phase::Mark => 7,
-        Phase::Slot => 8,
-        Phase::Cache => 9,
-        Phase::ReadOn => 10,
-        Phase::Comm => 11,
-        Phase::Spawn => 12,
-        Phase::Arrival => 13,
-        Phase::Ending => 14,
+        Phase::Spread => 2,
+        Phase::Settle => 3,
+        Phase::Arrive => 4,
+        Phase::Revoke => 5,
+        Phase::Revocation => 6,
+        Phase::Block => 7,
+        Phase::BlockWing => 8,
+        Phase::Mark => 9,
+        Phase::Slot => 10,
+        Phase::SlotWing => 11,
+        Phase::CacheWing => 12,
+        Phase::Cache => 13,
+        Phase::ReadOn => 14,
+        Phase::Comm => 15,
+        Phase::Spawn => 16,
+        Phase::Arrival => 17,
+        Phase::Ending => 18,
+    }
+}
+
+/// Whether the step of a phase is a load or an exchange of a wing. Nobody can tell whether such a step was made, so a state has no wings.
+///
+/// For a wing is loaded only where its word was found, and who set that had set the wing. That of a rank's own place is set by this rank alone,
+/// and once in a round. All who set a block's wing set it to the same.
+pub(crate) fn is_of_wing(phase: Phase) -> bool {
+    match phase {
+        Phase::Spread | Phase::BlockWing | Phase::SlotWing | Phase::CacheWing => true,
+        _ => false,
     }
 }
 
@@ -361,13 +388,12 @@ impl<A: Allocator + Copy + Drop> State<A> {
     pub(crate) fn seat(&self, rank: u8) -> Seat {
         let at = self.layout.seat(rank);
         let (stands, seen) = self.bytes_at(at);
-        let (phase, fate) = halves(stands);
         let (first, second) = self.bytes_at(at.saturating_add(6));
         let (third, fourth) = self.bytes_at(at.saturating_add(8));
         let (step, current) = self.bytes_at(at.saturating_add(10));
         Seat {
-            fate: fate_of(fate),
-            phase: phase_of(phase),
+            fate: fate_of(stands >> 6),
+            phase: phase_of(stands & 63),
             place: self.two(at.saturating_add(2)),
             last: self.two(at.saturating_add(4)),
             notes: u32::from_le_bytes([first, second, third, fourth]),
@@ -381,7 +407,7 @@ impl<A: Allocator + Copy + Drop> State<A> {
     /// Writes what is kept of a rank.
     pub(crate) fn put_seat(&mut self, rank: u8, seat: Seat) {
         let at = self.layout.seat(rank);
-        let stands = joined(phase_number(seat.phase), fate_number(seat.fate));
+        let stands = phase_number(seat.phase) | (fate_number(seat.fate) << 6);
         self.set(at, stands);
         self.set(at.saturating_add(1), seat.seen);
         self.set_two(at.saturating_add(2), seat.place);

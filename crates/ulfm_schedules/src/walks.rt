@@ -1,5 +1,6 @@
-//! Walks for the tests: acts drawn at random, each step a line of a script of its own, so that the model and the step engine go along step by step.
-use crate::choices::{Act, act_of, can_act, take_act};
+//! Walks for the tests: acts drawn at random, each atomic step an act and a line of a script of its own, so that the model and the step engine go
+//! along step by step.
+use crate::choices::{Act, act_of, can_act};
 use crate::engine::Engine;
 use crate::finding::parts_of;
 use crate::paths::OUTSIDE;
@@ -50,7 +51,10 @@ fn add_step<A: Allocator + Copy + Drop>(
     }
     if state.seat(rank).phase == Phase::Idle {
         if let Some(turn) = engine.turn(state, rank) {
-            lines.push(StepLine::Called(engine.call_of(turn)))?;
+            lines.push(StepLine::Called {
+                call: engine.call_of(turn),
+                padded: false,
+            })?;
         }
     }
     lines.push(StepLine::Stepped {
@@ -78,15 +82,18 @@ pub fn walk<A: Allocator + Copy + Drop>(
             break;
         };
         match act {
-            Act::Step(rank) => add_step(&engine, &state, rank, &mut lines, &mut callers)?,
+            Act::Step(rank) => {
+                add_step(&engine, &state, rank, &mut lines, &mut callers)?;
+                engine.step(&mut state, rank)?;
+            }
             Act::Declare(rank) => {
                 callers.push(OUTSIDE)?;
                 lines.push(StepLine::Failed {
                     rank: u16::from(rank),
                 })?;
+                engine.declare(&mut state, rank);
             }
         }
-        take_act(&mut engine, &mut state, act)?;
     }
     let parts = parts_of(alloc, &state)?;
     Ok(Script {

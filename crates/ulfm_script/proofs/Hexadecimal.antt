@@ -1,16 +1,16 @@
 -- A flag is read just where it is printed.
-use Rattle.std.proofs.Common.{◌≡◌, ◌≢◌, ℕ, zero, suc, ◌+◌, ◌-◌, ◌*◌, ◌/◌, ◌%◌, ◌^◌, ◌<◌, ◌≤◌, List, [], ◌∷◌, ◌++◌, length, drop, Option, Some, None, Result, Ok, Err, Bool, true, false, cond, refl, sym, ap, ◌∙◌, append_assoc, inl, inr, arith, add-one, mod-eq_of_lt, mod-lt, lit<, length-append}
-use Rattle.std.specs.{Prelude.{slice_set, ◌==◌}, List.{AllByRecursion}}
-use Rattle.std.proofs.lemmas.{Bool.{cases_lt, lt-ltb, le-ltb, lt-leb, le-leb}, Bool.Decides.{nat_tests}, List.{drop-set, drop_all}, Nat.{div-mul-add, mod-mul-add, div-add-mod'}}
-use Rattle.ulfm_laws.specs.{declared.flag_and.FlagAnd.{FlagAnd}, Flags.{same_flag}}
+use Rattle.std.proofs.Common.{◌≡◌, ◌≢◌, ℕ, zero, suc, ◌+◌, ◌-◌, ◌*◌, ◌/◌, ◌%◌, ◌^◌, ◌<◌, ◌≤◌, List, [], ◌∷◌, ◌++◌, length, drop, Option, Some, None, Result, Ok, Err, Bool, true, false, cond, refl, sym, ap, ◌∙◌, append_assoc, inl, inr, arith, add-one, mod-eq_of_lt, mod-lt, lit<, lit≤, length-append, subst}
+use Rattle.std.specs.{Prelude.{◌⊎◌, ◌&&◌, ◌==◌, if◌then◌else◌, nat_lt, not, slice_index, slice_set}, List.{AllByRecursion}}
+use Rattle.std.proofs.lemmas.{Bool.{cases_lt, eq-eqb, eqb-true, lt-ltb, le-ltb, lt-leb, le-leb, ne_eqb}, Bool.Decides.{nat_tests}, List.{append-nil, drop-set, get_or-append-add}, Nat.{div-mul-add, mod-mul-add, div-add-mod', pow-add}}
+use Rattle.ulfm_laws.specs.{declared.flag_and.FlagAnd.{FlagAnd}, Flags.{same_flag}, Ranges.{payload_bits}}
 use Rattle.ulfm_script.specs.declared.line_kind.LineKind.{LineKind}
 use Rattle.ulfm_script.specs.declared.line_kind.LineKind.TheVariants.{Flag}
-use Rattle.ulfm_script.specs.Digits.{digits_after, read_flag, flag_text, hex_digit, hex_digits, hex_of}
-use Rattle.ulfm_script.specs.Steps.{◌>>=◌, or_fault}
+use Rattle.ulfm_script.specs.Digits.{MayPad, digits_after, read_flag, read_printed_flag, flag_text, half_digits, hex_digit, hex_digits, hex_of, padded_text, printed_digits, spelled_flag, spells_flag, whole_digits}
+use Rattle.ulfm_script.specs.{Spelling.{has_more}, Steps.{◌>>=◌, or_fault}}
 
 -- the flag of a word
 abbrev as_flag : ℕ → FlagAnd
-as_flag n = record { bits = n % 2 ^ 32; fits = mod-lt n (lit< tt) }
+as_flag n = record { bits = n % 2 ^ payload_bits; fits = mod-lt n (lit< tt) }
 
 digit_again : (d : ℕ) → d < 16 → hex_of (hex_digit d) ≡ Some d
 digit_again d h = elim (cases_lt d 10) [
@@ -18,7 +18,7 @@ digit_again d h = elim (cases_lt d 10) [
   | inr high ↦ rw (le-ltb d 10 high, le-leb 48 (87 + d) (omega arith), lt-leb (87 + d) 57 (omega (arith, high)), le-leb 97 (87 + d) (omega (arith, high)), le-leb (87 + d) 102 (omega (arith, h))) (ap (λ (k : ℕ). Some k) (omega (arith, high)))
 ]
 
-digit_found : (c d : ℕ) → hex_of c ≡ Some d → (d < 16) × (hex_digit d ≡ c)
+pub digit_found : (c d : ℕ) → hex_of c ≡ Some d → (d < 16) × (hex_digit d ≡ c)
 digit_found c d e = (grind (arith, nat_tests, e), grind (arith, nat_tests, e))
 
 -- what one more digit behind a value gives
@@ -78,40 +78,152 @@ digits_found : (value n : ℕ) (w : List ℕ) → hex_after value w ≡ Ok n →
 digits_found value n [] e = (refl, cc)
 digits_found value n (c ∷ cs) e = more_found value n c cs (hex_of c) refl e (λ v k. digits_found v n cs k)
 
-bits_kept : (n : ℕ) → n < 2 ^ 32 → n % 2 ^ 32 ≡ n
+bits_kept : (n : ℕ) → n < 2 ^ payload_bits → n % 2 ^ payload_bits ≡ n
 bits_kept n h = mod-eq_of_lt h
+
+-- nothing is left of a number that has no more digits than are cut off
+cut_small : (count n : ℕ) → n < 16 ^ count → cut_off count n ≡ 0
+cut_small zero n h = omega (arith, h)
+cut_small (suc count) n h = cut_small count (n / 16) (let next : 16 ^ suc count ≡ 16 ^ count * 16 = rw add-one at (pow-add 16 count 1) in omega (arith, h, next))
+
+small_cut : (count n : ℕ) → cut_off count n ≡ 0 → n < 16 ^ count
+small_cut zero n h = omega (arith, h)
+small_cut (suc count) n h =
+    let some : n / 16 < 16 ^ count = small_cut count (n / 16) h in
+    let next : 16 ^ suc count ≡ 16 ^ count * 16 = rw add-one at (pow-add 16 count 1) in
+    omega (arith, some, next)
+
+-- the counts of digits that spell a flag
+abbrev pub IsLength : ℕ → Type 0
+IsLength count = (count ≡ half_digits) ⊎ (count ≡ whole_digits)
+
+length_found : (count : ℕ) → spells_flag count ≡ true → IsLength count
+length_found count is = go (count == half_digits) refl
+  where
+    go : (b : Bool) → (count == half_digits) ≡ b → IsLength count
+    go true half = inl (eqb-true count half_digits half)
+    go false half = inr (eqb-true count whole_digits (rw half at is))
+
+length_spells : (count : ℕ) → IsLength count → spells_flag count ≡ true
+length_spells count (inl is) = rw is refl
+length_spells count (inr is) = rw is refl
+
+length_fits : (count n : ℕ) → IsLength count → n < 16 ^ count → n < 2 ^ payload_bits
+length_fits count n (inl is) small = let few : n < 16 ^ half_digits = subst (λ k. n < 16 ^ k) is small in omega (arith, few)
+length_fits count n (inr is) small = subst (λ k. n < 16 ^ k) is small
+
+-- the digits of a flag are read, where it has no more
+digits_are_flag : (count : ℕ) (flag : FlagAnd) → spells_flag count ≡ true → flag.bits < 16 ^ count → read_flag (hex_digits count flag.bits) ≡ Ok flag
+unfolding read_flag
+digits_are_flag count flag is small =
+    let all : cut_off count flag.bits ≡ 0 = cut_small count flag.bits small in
+    let read : hex_after 0 (hex_digits count flag.bits) ≡ Ok flag.bits = rw all at (digits_again count flag.bits) in
+    rw (length_digits count flag.bits, is, read) (ap (λ (x : FlagAnd). Ok x) (same_flag (as_flag flag.bits) flag (bits_kept flag.bits flag.fits)))
+
+-- a word that was read as a flag has its digits
+record IsRead (w : List ℕ) (flag : FlagAnd) : Type 0 where
+  long : IsLength (length w)
+  word_is : w ≡ hex_digits (length w) flag.bits
+  small : flag.bits < 16 ^ length w
+
+flag_from : (w : List ℕ) (flag : FlagAnd) (b : Bool) (r : Result ℕ LineKind) → spells_flag (length w) ≡ b → hex_after 0 w ≡ r
+    → cond b (r >>= λ n. Ok (as_flag n)) (Err Flag) ≡ Ok flag → IsRead w flag
+flag_from w flag false r long read e = absurd cc
+flag_from w flag true (Err kind) long read e = absurd cc
+flag_from w flag true (Ok n) long read e =
+    let h = digits_found 0 n w read in
+    let is_long = length_found (length w) long in
+    let small : n < 16 ^ length w = small_cut (length w) n h.1 in
+    let is : as_flag n ≡ flag = cc in
+    let bits : n ≡ flag.bits = sym (bits_kept n (length_fits (length w) n is_long small)) ∙ ap (λ (x : FlagAnd). x.bits) is in
+    record { long = is_long; word_is = h.0 ∙ ap (λ (k : ℕ). hex_digits (length w) k) bits; small = subst (λ k. k < 16 ^ length w) bits small }
+
+was_read : (w : List ℕ) (flag : FlagAnd) → read_flag w ≡ Ok flag → IsRead w flag
+unfolding read_flag
+was_read w flag e = flag_from w flag (spells_flag (length w)) (hex_after 0 w) refl refl e
+
+-- how many digits are printed
+few_printed : (flag : FlagAnd) → flag.bits < 16 ^ half_digits → printed_digits flag ≡ half_digits
+few_printed flag small = rw (lt-ltb flag.bits (16 ^ half_digits) small) refl
+
+all_printed : (flag : FlagAnd) → 16 ^ half_digits ≤ flag.bits → printed_digits flag ≡ whole_digits
+all_printed flag great = rw (le-ltb flag.bits (16 ^ half_digits) great) refl
 
 -- a flag that was printed is read
 pub flag_again : (flag : FlagAnd) → read_flag (flag_text flag) ≡ Ok flag
-unfolding read_flag flag_text
-flag_again flag =
-    let all : cut_off 8 flag.bits ≡ 0 = (let h = flag.fits in omega arith) in
-    let read : hex_after 0 (hex_digits 8 flag.bits) ≡ Ok flag.bits = rw all at (digits_again 8 flag.bits) in
-    rw read (ap (λ (x : FlagAnd). Ok x) (same_flag (as_flag flag.bits) flag (bits_kept flag.bits flag.fits)))
-
-flag_from : (w : List ℕ) (flag : FlagAnd) (b : Bool) (r : Result ℕ LineKind) → length w == 8 ≡ b → hex_after 0 w ≡ r
-    → cond b (r >>= λ n. Ok (as_flag n)) (Err Flag) ≡ Ok flag → w ≡ flag_text flag
 unfolding flag_text
-flag_from w flag false r eight read e = absurd cc
-flag_from w flag true (Err kind) eight read e = absurd cc
-flag_from w flag true (Ok n) eight read e =
-    let h = digits_found 0 n w read in
-    let long : length w ≡ 8 = grind (arith, nat_tests, eight) in
-    let none : cut_off 8 n ≡ 0 = ap (λ (k : ℕ). cut_off k n) (sym long) ∙ h.1 in
-    let small : n < 2 ^ 32 = omega (arith, none) in
-    let is : as_flag n ≡ flag = cc in
-    let bits : n ≡ flag.bits = sym (bits_kept n small) ∙ ap (λ (x : FlagAnd). x.bits) is in
-    h.0 ∙ ap (λ (k : ℕ). hex_digits k n) long ∙ ap (λ (k : ℕ). hex_digits 8 k) bits
+flag_again flag = elim (cases_lt flag.bits (16 ^ half_digits)) [
+  | inl small ↦ rw (few_printed flag small) (digits_are_flag half_digits flag refl small)
+  | inr great ↦ rw (all_printed flag great) (digits_are_flag whole_digits flag refl flag.fits)
+]
 
--- a flag that was read is printed so
-pub flag_found : (w : List ℕ) (flag : FlagAnd) → read_flag w ≡ Ok flag → w ≡ flag_text flag
-unfolding read_flag
-flag_found w flag e = flag_from w flag (length w == 8) (hex_after 0 w) refl refl e
+-- and so is one with all its digits
+pub spelled_flag_again : (padded : Bool) (flag : FlagAnd) → read_flag (spelled_flag padded flag) ≡ Ok flag
+unfolding padded_text
+spelled_flag_again false flag = flag_again flag
+spelled_flag_again true flag = digits_are_flag whole_digits flag refl flag.fits
 
--- a flag has eight digits
-pub length-flag_text : (flag : FlagAnd) → length (flag_text flag) ≡ 8
+-- how a word spells a flag
+pub record IsSpelledFlag (w : List ℕ) (flag : FlagAnd) : Type 0 where
+  pub padded : Bool
+  pub may_pad : MayPad padded flag
+  pub word_is : w ≡ spelled_flag padded flag
+
+-- a flag that was read is spelled so
+pub flag_found : (w : List ℕ) (flag : FlagAnd) → read_flag w ≡ Ok flag → IsSpelledFlag w flag
+unfolding flag_text padded_text
+flag_found w flag e = by_length (was_read w flag e).long
+  where
+    as_long : (count : ℕ) → length w ≡ count → w ≡ hex_digits count flag.bits
+    as_long count is = (was_read w flag e).word_is ∙ ap (λ (k : ℕ). hex_digits k flag.bits) is
+
+    by_length : IsLength (length w) → IsSpelledFlag w flag
+    by_length (inl half) =
+        let small : flag.bits < 16 ^ half_digits = subst (λ k. flag.bits < 16 ^ k) half (was_read w flag e).small in
+        record { padded = false; may_pad = tt; word_is = as_long half_digits half ∙ ap (λ (k : ℕ). hex_digits k flag.bits) (sym (few_printed flag small)) }
+    by_length (inr whole) = elim (cases_lt flag.bits (16 ^ half_digits)) [
+      | inl small ↦ record { padded = true; may_pad = small; word_is = as_long whole_digits whole }
+      | inr great ↦ record { padded = false; may_pad = tt; word_is = as_long whole_digits whole ∙ ap (λ (k : ℕ). hex_digits k flag.bits) (sym (all_printed flag great)) }
+    ]
+
+-- a flag has as many digits as are printed
+length-flag_text : (flag : FlagAnd) → length (flag_text flag) ≡ printed_digits flag
 unfolding flag_text
-length-flag_text flag = length_digits 8 flag.bits
+length-flag_text flag = length_digits (printed_digits flag) flag.bits
+
+printed_few : (flag : FlagAnd) → (0 < printed_digits flag) × (printed_digits flag ≤ whole_digits)
+printed_few flag = elim (cases_lt flag.bits (16 ^ half_digits)) [
+  | inl small ↦ rw (few_printed flag small) (lit< tt, lit≤ tt)
+  | inr great ↦ rw (all_printed flag great) (lit< tt, lit≤ tt)
+]
+
+-- a flag has some digits, and no more than sixteen
+pub spelled_few : (padded : Bool) (flag : FlagAnd) → (0 < length (spelled_flag padded flag)) × (length (spelled_flag padded flag) ≤ whole_digits)
+unfolding padded_text
+spelled_few false flag = rw (length-flag_text flag) (printed_few flag)
+spelled_few true flag = rw (length_digits whole_digits flag.bits) (lit< tt, lit≤ tt)
+
+-- a flag that was printed has as many digits as are printed
+pub printed_again : (flag : FlagAnd) → read_printed_flag (flag_text flag) ≡ Ok flag
+unfolding read_printed_flag
+printed_again flag = rw (flag_again flag, length-flag_text flag, eq-eqb (printed_digits flag) (printed_digits flag) refl) refl
+
+printed_from : (w : List ℕ) (flag : FlagAnd) (r : Result FlagAnd LineKind) → read_flag w ≡ r
+    → (r >>= λ f. if length w == printed_digits f then Ok f else Err Flag) ≡ Ok flag → w ≡ flag_text flag
+unfolding flag_text
+printed_from w flag (Err kind) read e = absurd cc
+printed_from w flag (Ok f) read e = go (length w == printed_digits f) refl e
+  where
+    go : (b : Bool) → (length w == printed_digits f) ≡ b → cond b (Ok f) (Err Flag) ≡ Ok flag → w ≡ flag_text flag
+    go false long e = absurd cc
+    go true long e =
+        let same : f ≡ flag = cc in
+        (was_read w f read).word_is ∙ ap (λ (k : ℕ). hex_digits k f.bits) (eqb-true (length w) (printed_digits f) long) ∙ ap flag_text same
+
+-- a flag that was read so is printed so
+pub printed_found : (w : List ℕ) (flag : FlagAnd) → read_printed_flag w ≡ Ok flag → w ≡ flag_text flag
+unfolding read_printed_flag
+printed_found w flag e = printed_from w flag (read_flag w) refl e
 
 all_snoc : (xs : List ℕ) (x : ℕ) → AllByRecursion (λ y. y ≢ 32) xs → x ≢ 32 → AllByRecursion (λ y. y ≢ 32) (xs ++ x ∷ [])
 all_snoc [] x h k = (k, tt)
@@ -128,24 +240,73 @@ no_spaces zero n = tt
 no_spaces (suc count) n = all_snoc (hex_digits count (n / 16)) (hex_digit (n % 16)) (no_spaces count (n / 16)) (no_space (n % 16))
 
 -- a flag has no space in it
-pub flag_free : (flag : FlagAnd) → AllByRecursion (λ x. x ≢ 32) (flag_text flag)
-unfolding flag_text
-flag_free flag = no_spaces 8 flag.bits
+pub spelled_free : (padded : Bool) (flag : FlagAnd) → AllByRecursion (λ x. x ≢ 32) (spelled_flag padded flag)
+unfolding flag_text padded_text
+spelled_free false flag = no_spaces (printed_digits flag) flag.bits
+spelled_free true flag = no_spaces whole_digits flag.bits
 
--- writing digits from the last to the first
-pub digit_written : (count rest : ℕ) (digits all : List ℕ) → 0 < count → count ≤ length digits → hex_digits count rest ++ drop count digits ≡ all
-    → hex_digits (count - 1) (rest / 16) ++ drop (count - 1) (slice_set digits (count - 1) (hex_digit (rest % 16))) ≡ all
-digit_written zero rest digits all some fits e = absurd (omega arith)
-digit_written (suc count) rest digits all some fits e =
+-- the first digits of a number, and the others
+digits_split : (first count n : ℕ) → hex_digits (first + count) n ≡ hex_digits first (cut_off count n) ++ hex_digits count n
+digits_split first zero n = let none : first + 0 ≡ first = omega arith in ap (λ (k : ℕ). hex_digits k n) none ∙ sym (append-nil (hex_digits first n))
+digits_split first (suc count) n =
+    let more : first + suc count ≡ suc (first + count) = omega arith in
+    ap (λ (k : ℕ). hex_digits k n) more
+    ∙ ap (λ (ds : List ℕ). ds ++ hex_digit (n % 16) ∷ []) (digits_split first count (n / 16))
+    ∙ append_assoc (hex_digits first (cut_off count (n / 16))) (hex_digits count (n / 16)) (hex_digit (n % 16) ∷ [])
+
+-- what stands so many places before the end
+before_end : (front back : List ℕ) (x count : ℕ) → length back ≡ count
+    → (nat_lt count (length (front ++ x ∷ back)) ≡ true) × (slice_index (front ++ x ∷ back) (length (front ++ x ∷ back) - count - 1) ≡ x)
+before_end front back x count is =
+    let long : length (front ++ x ∷ back) ≡ length front + suc (length back) = length-append front (x ∷ back) in
+    let at : length (front ++ x ∷ back) - count - 1 ≡ length front + 0 = omega (arith, long, is) in
+    (lt-ltb count (length (front ++ x ∷ back)) (omega (arith, long, is)), ap (λ (i : ℕ). slice_index (front ++ x ∷ back) i) at ∙ get_or-append-add front (x ∷ back) 0 0)
+
+-- all digits of a short flag: the last half stands behind further ones
+module _ (front : List ℕ) (flag : FlagAnd) (small : flag.bits < 16 ^ half_digits) where
+  abbrev upper : ℕ
+  upper = cut_off half_digits flag.bits
+
+  abbrev further : List ℕ
+  further = front ++ 32 ∷ hex_digits (half_digits - 1) (upper / 16)
+
+  whole_is : front ++ 32 ∷ hex_digits whole_digits flag.bits ≡ further ++ hex_digit (upper % 16) ∷ hex_digits half_digits flag.bits
+  whole_is =
+      ap (λ (ds : List ℕ). front ++ 32 ∷ ds) (digits_split half_digits half_digits flag.bits ∙ append_assoc (hex_digits (half_digits - 1) (upper / 16)) (hex_digit (upper % 16) ∷ []) (hex_digits half_digits flag.bits))
+      ∙ sym (append_assoc front (32 ∷ hex_digits (half_digits - 1) (upper / 16)) (hex_digit (upper % 16) ∷ hex_digits half_digits flag.bits))
+
+-- a line that ends in a flag tells how it is spelled
+pub padded_told : (line front : List ℕ) (padded : Bool) (flag : FlagAnd) → MayPad padded flag → line ≡ front ++ 32 ∷ spelled_flag padded flag
+    → nat_lt flag.bits (16 ^ half_digits) && has_more line half_digits ≡ padded
+unfolding flag_text padded_text
+padded_told line front false flag may is = elim (cases_lt flag.bits (16 ^ half_digits)) [
+  | inl small ↦
+      let line_is : line ≡ front ++ 32 ∷ hex_digits half_digits flag.bits = is ∙ ap (λ (k : ℕ). front ++ 32 ∷ hex_digits k flag.bits) (few_printed flag small) in
+      let at = before_end front (hex_digits half_digits flag.bits) 32 half_digits (length_digits half_digits flag.bits) in
+      ap (λ (l : List ℕ). nat_lt flag.bits (16 ^ half_digits) && has_more l half_digits) line_is ∙ rw (lt-ltb flag.bits (16 ^ half_digits) small, at.0, at.1) refl
+  | inr great ↦ rw (le-ltb flag.bits (16 ^ half_digits) great) refl
+]
+padded_told line front true flag small is =
+    let line_is : line ≡ further front flag small ++ hex_digit (upper front flag small % 16) ∷ hex_digits half_digits flag.bits = is ∙ whole_is front flag small in
+    let at = before_end (further front flag small) (hex_digits half_digits flag.bits) (hex_digit (upper front flag small % 16)) half_digits (length_digits half_digits flag.bits) in
+    ap (λ (l : List ℕ). nat_lt flag.bits (16 ^ half_digits) && has_more l half_digits) line_is
+    ∙ rw (lt-ltb flag.bits (16 ^ half_digits) small, at.0, at.1, ne_eqb (hex_digit (upper front flag small % 16)) 32 (no_space (upper front flag small % 16))) refl
+
+-- writing digits from the last to the first, behind places that are left out
+pub digit_written : (count first rest : ℕ) (digits all : List ℕ) → 0 < count → first + count ≤ length digits → hex_digits count rest ++ drop (first + count) digits ≡ all
+    → hex_digits (count - 1) (rest / 16) ++ drop (first + (count - 1)) (slice_set digits (first + (count - 1)) (hex_digit (rest % 16))) ≡ all
+digit_written zero first rest digits all some fits e = absurd (omega arith)
+digit_written (suc count) first rest digits all some fits e =
     let back : suc count - 1 ≡ count = omega arith in
-    let put : drop count (slice_set digits count (hex_digit (rest % 16))) ≡ hex_digit (rest % 16) ∷ drop (suc count) digits = drop-set digits count (hex_digit (rest % 16)) (omega arith) ∙ ap (λ (k : ℕ). hex_digit (rest % 16) ∷ drop k digits) (add-one count) in
-    rw (back, put) (sym (append_assoc (hex_digits count (rest / 16)) (hex_digit (rest % 16) ∷ []) (drop (suc count) digits)) ∙ e)
+    let more : first + suc count ≡ first + count + 1 = omega arith in
+    let put : drop (first + count) (slice_set digits (first + count) (hex_digit (rest % 16))) ≡ hex_digit (rest % 16) ∷ drop (first + suc count) digits =
+    drop-set digits (first + count) (hex_digit (rest % 16)) (omega (arith, fits)) ∙ ap (λ (k : ℕ). hex_digit (rest % 16) ∷ drop k digits) (sym more) in
+    rw (back, put) (sym (append_assoc (hex_digits count (rest / 16)) (hex_digit (rest % 16) ∷ []) (drop (first + suc count) digits)) ∙ e)
 
--- reading digits from the first to the last
-pub flag_read : (w : List ℕ) (bits i : ℕ) → length w ≡ 8 → length w ≤ i → hex_after bits (drop i w) ≡ hex_after 0 w → (fits : bits < 2 ^ 32) → read_flag w ≡ Ok (record { bits = bits; fits = fits })
+-- a flag of the word that was read
+pub flag_read : (w : List ℕ) (r : Result ℕ LineKind) (bits : ℕ) → IsLength (length w) → r ≡ hex_after 0 w → r ≡ Ok bits → (fits : bits < 2 ^ payload_bits) → read_flag w ≡ Ok (record { bits = bits; fits = fits })
 unfolding read_flag
-flag_read w bits i eight past e fits =
-    let none : drop i w ≡ [] = drop_all i w past in
-    let read : hex_after 0 w ≡ Ok bits = sym e ∙ ap (λ (ds : List ℕ). hex_after bits ds) none in
+flag_read w r bits long is ok fits =
+    let read : hex_after 0 w ≡ Ok bits = sym is ∙ ok in
     let flag : FlagAnd = record { bits = bits; fits = fits } in
-    rw (eight, read) (ap (λ (x : FlagAnd). Ok x) (same_flag (as_flag bits) flag (bits_kept bits fits)))
+    rw (length_spells (length w) long, read) (ap (λ (x : FlagAnd). Ok x) (same_flag (as_flag bits) flag (bits_kept bits fits)))

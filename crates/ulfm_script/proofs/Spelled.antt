@@ -6,8 +6,8 @@ use Rattle.ulfm_laws.specs.declared.flag_and.FlagAnd.{FlagAnd}
 use Rattle.ulfm_model.specs.declared.call.Call.TheVariants.{Fail, GetFailed, Ack, Agree, Shrink, Barrier, Poll, Revoke, IsRevoked, Free}
 use Rattle.ulfm_script.specs.declared.line_kind.LineKind.{LineKind}
 use Rattle.ulfm_script.specs.declared.line_kind.LineKind.TheVariants.{Verb}
-use Rattle.ulfm_script.specs.{Calls.{ScriptCall, read_rank_comm, fail_of, ack_of, agree_of, read_plain_call, call_from, call_of}, Digits.{read_rank, read_comm, read_number, read_flag, flag_text}, Spelling.{IsOnComm, Spells}, Steps.{◌>>=◌}, Words.{first_word, one_of, two_of, three_of}}
-use Rattle.ulfm_script.proofs.{Hexadecimal.{flag_again, flag_found}, Numerals.{number_again, number_found, number_to_again, number_to_found}, WordLemmas.{IsWord, decimal_is_word, flag_is_word, joined, joined_word, one_again, one_found, same_done, step_found, three_again, three_found, two_again, two_found}}
+use Rattle.ulfm_script.specs.{Calls.{ScriptCall, read_rank_comm, fail_of, ack_of, agree_of, read_plain_call, call_from, call_of}, Digits.{read_rank, read_comm, read_number, read_flag, half_digits, spelled_flag}, Spelling.{IsOnComm, Spells, SpellsAs, is_padded, spelled_text}, Steps.{◌>>=◌}, Words.{first_word, one_of, two_of, three_of}}
+use Rattle.ulfm_script.proofs.{Hexadecimal.{flag_found, padded_told, spelled_flag_again}, Numerals.{number_again, number_found, number_to_again, number_to_found}, WordLemmas.{IsWord, decimal_is_word, joined, joined_word, one_again, one_found, same_done, spelled_is_word, step_found, three_again, three_found, two_again, two_found}}
 
 -- a rank that was printed is read
 pub rank_again : (rank : ℕ) → rank < 1024 → read_rank (decimal rank) ≡ Ok rank
@@ -42,10 +42,10 @@ unfolding call_of ack_of
 ack_again rank comm count h k l =
     rw (three_again (decimal rank) (decimal comm) (decimal count) (number_is_word rank (omega (arith, h))) (number_is_word comm (omega (arith, k))) (number_is_word count l), rank_again rank h, comm_again comm k, number_again count l) refl
 
-agree_again : (rank comm : ℕ) (flag : FlagAnd) → rank < 1024 → comm < 256 → call_of (codes "agree " ++ (decimal rank ++ 32 ∷ (decimal comm ++ 32 ∷ flag_text flag))) ≡ Ok (Agree rank comm flag)
+agree_again : (rank comm : ℕ) (padded : Bool) (flag : FlagAnd) → rank < 1024 → comm < 256 → call_of (codes "agree " ++ (decimal rank ++ 32 ∷ (decimal comm ++ 32 ∷ spelled_flag padded flag))) ≡ Ok (Agree rank comm flag)
 unfolding call_of agree_of
-agree_again rank comm flag h k =
-    rw (three_again (decimal rank) (decimal comm) (flag_text flag) (number_is_word rank (omega (arith, h))) (number_is_word comm (omega (arith, k))) (flag_is_word flag), rank_again rank h, comm_again comm k, flag_again flag) refl
+agree_again rank comm padded flag h k =
+    rw (three_again (decimal rank) (decimal comm) (spelled_flag padded flag) (number_is_word rank (omega (arith, h))) (number_is_word comm (omega (arith, k))) (spelled_is_word padded flag), rank_again rank h, comm_again comm k, spelled_flag_again padded flag) refl
 
 plain_line : (verb : List ℕ) (rank comm : ℕ) → verb ++ (decimal rank ++ 32 ∷ (decimal comm ++ [])) ≡ verb ++ (decimal rank ++ 32 ∷ decimal comm)
 plain_line verb rank comm = ap (λ (t : List ℕ). verb ++ (decimal rank ++ 32 ∷ t)) (append-nil (decimal comm))
@@ -56,7 +56,7 @@ unfolding call_of
 spelled_again line (Fail rank) h = ap call_of h.1 ∙ fail_again rank h.0
 spelled_again line (GetFailed rank comm) h = ap call_of (h.line_is ∙ plain_line (codes "get ") rank comm) ∙ plain_again GetFailed rank comm h.rank_fits h.comm_fits
 spelled_again line (Ack rank comm count) h = ap call_of h.1.line_is ∙ ack_again rank comm count h.1.rank_fits h.1.comm_fits h.0
-spelled_again line (Agree rank comm flag) h = ap call_of h.line_is ∙ agree_again rank comm flag h.rank_fits h.comm_fits
+spelled_again line (Agree rank comm flag) h = ap call_of h.2.line_is ∙ agree_again rank comm h.0 flag h.2.rank_fits h.2.comm_fits
 spelled_again line (Shrink rank comm) h = ap call_of (h.line_is ∙ plain_line (codes "shrink ") rank comm) ∙ plain_again Shrink rank comm h.rank_fits h.comm_fits
 spelled_again line (Barrier rank comm) h = ap call_of (h.line_is ∙ plain_line (codes "barrier ") rank comm) ∙ plain_again Barrier rank comm h.rank_fits h.comm_fits
 spelled_again line (Poll rank comm) h = ap call_of (h.line_is ∙ plain_line (codes "poll ") rank comm) ∙ plain_again Poll rank comm h.rank_fits h.comm_fits
@@ -156,8 +156,9 @@ agree_found fields call e =
     let w = step_found (three_of fields) (λ w. on_comm (agree_rest w.2) w.0 w.1) call e in
     let p = place_found (agree_rest w.0.2) w.0.0 w.0.1 call w.2 in
     let n = step_found (read_flag w.0.2) (λ flag. Ok (Agree p.rank p.comm flag)) call p.rest in
+    let f = flag_found w.0.2 n.0 n.1 in
     subst (Spells (joined (codes "agree") fields)) (same_done (Agree p.rank p.comm n.0) call n.2)
-    (three_line (codes "agree") fields w.0.0 w.0.1 w.0.2 (flag_text n.0) p.rank p.comm (three_found fields w.0 w.1) p.rank_fits p.comm_fits p.a_is p.b_is (flag_found w.0.2 n.0 n.1))
+    (f.padded, f.may_pad, three_line (codes "agree") fields w.0.0 w.0.1 w.0.2 (spelled_flag f.padded n.0) p.rank p.comm (three_found fields w.0 w.1) p.rank_fits p.comm_fits p.a_is p.b_is f.word_is)
 
 -- one of two ways
 pub chosen : {A : Type 0} (b : Bool) (x y z : A) → cond b x y ≡ z → ((b ≡ true) × (x ≡ z)) ⊎ ((b ≡ false) × (y ≡ z))
@@ -197,3 +198,29 @@ read_is_spelled line call e = subst (λ (t : List ℕ). Spells t call) (joined_w
 pub found : (line : List ℕ) (r : Result ScriptCall LineKind) → r ≡ call_of line → IfOk r (λ call. Spells line call)
 found line (Ok call) e = read_is_spelled line call (sym e)
 found line (Err kind) e = tt
+
+-- how a line spells its call's flag is told by its length
+told_padded : (line : List ℕ) (rank comm : ℕ) (flag : FlagAnd) (h : Spells line (Agree rank comm flag)) → is_padded line (Agree rank comm flag) ≡ h.0
+told_padded line rank comm flag h =
+    let front : List ℕ = codes "agree " ++ (decimal rank ++ 32 ∷ decimal comm) in
+    let digits = spelled_flag h.0 flag in
+    let behind : front ++ 32 ∷ digits ≡ codes "agree " ++ (decimal rank ++ 32 ∷ (decimal comm ++ 32 ∷ digits)) =
+    append_assoc (codes "agree ") (decimal rank ++ 32 ∷ decimal comm) (32 ∷ digits) ∙ ap (λ (t : List ℕ). codes "agree " ++ t) (append_assoc (decimal rank) (32 ∷ decimal comm) (32 ∷ digits)) in
+    padded_told line front h.0 flag h.1 (h.2.line_is ∙ sym behind)
+
+-- a line that spells a call is the call's text, with its flag spelled as it is there
+pub spelled_is : (line : List ℕ) (call : ScriptCall) → Spells line call → line ≡ spelled_text (is_padded line call) call
+spelled_is line (Fail rank) h = h.1
+spelled_is line (GetFailed rank comm) h = h.line_is
+spelled_is line (Ack rank comm count) h = h.1.line_is
+spelled_is line (Agree rank comm flag) h = h.2.line_is ∙ ap (λ (padded : Bool). spelled_text padded (Agree rank comm flag)) (sym (told_padded line rank comm flag h))
+spelled_is line (Shrink rank comm) h = h.line_is
+spelled_is line (Barrier rank comm) h = h.line_is
+spelled_is line (Poll rank comm) h = h.line_is
+spelled_is line (Revoke rank comm) h = h.line_is
+spelled_is line (IsRevoked rank comm) h = h.line_is
+spelled_is line (Free rank comm) h = h.line_is
+
+-- the same, where it is spelled so
+pub spelled_as : (padded : Bool) (line : List ℕ) (call : ScriptCall) → SpellsAs padded line call → line ≡ spelled_text padded call
+spelled_as padded line call h = spelled_is line call h.spells ∙ ap (λ (is : Bool). spelled_text is call) (sym h.padded_is)

@@ -5,8 +5,8 @@ use Rattle.std.proofs.lemmas.{Bool.{ne_eqb, cases_eq, eq-eqb}, List.{append-nil}
 use Rattle.ulfm_laws.specs.declared.flag_and.FlagAnd.{FlagAnd}
 use Rattle.ulfm_script.specs.declared.line_kind.LineKind.{LineKind}
 use Rattle.ulfm_script.specs.declared.line_kind.LineKind.TheVariants.{Words}
-use Rattle.ulfm_script.specs.{Digits.{flag_text}, Steps.{◌>>=◌}, Words.{word_from, first_word, next_word, if_last, one_of, two_of, three_of, four_of}}
-use Rattle.ulfm_script.proofs.{Hexadecimal.{flag_free, length-flag_text}, Numerals.{AreDigits, own}}
+use Rattle.ulfm_script.specs.{Digits.{flag_text, spelled_flag}, Steps.{◌>>=◌}, Words.{word_from, first_word, next_word, if_last, one_of, two_of, three_of, four_of}}
+use Rattle.ulfm_script.proofs.{Hexadecimal.{spelled_few, spelled_free}, Numerals.{AreDigits, own}}
 
 -- a text that can be a word
 pub record IsWord (text : List ℕ) : Type 0 where
@@ -22,8 +22,11 @@ pub decimal_is_word : (n : ℕ) → n < 2 ^ 64 → IsWord (decimal n)
 decimal_is_word n h = record { free = digits_free (decimal n) (digits_decimal own n h); some = decimal_nonempty n h }
 
 -- a flag can be a word
+pub spelled_is_word : (padded : Bool) (flag : FlagAnd) → IsWord (spelled_flag padded flag)
+spelled_is_word padded flag = record { free = spelled_free padded flag; some = (spelled_few padded flag).0 }
+
 pub flag_is_word : (flag : FlagAnd) → IsWord (flag_text flag)
-flag_is_word flag = record { free = flag_free flag; some = omega (arith, length-flag_text flag) }
+flag_is_word flag = spelled_is_word false flag
 
 abbrev parts : List ℕ → Option (List ℕ) → List ℕ × Option (List ℕ)
 parts word rest = (word, rest)

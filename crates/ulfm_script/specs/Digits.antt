@@ -1,8 +1,8 @@
 -- Numbers and flags in words.
-use Rattle.std.specs.Prelude.{ℕ, zero, suc, ◌+◌, ◌*◌, ◌-◌, ◌/◌, ◌%◌, ◌&&◌, ◌||◌, ◌==◌, nat_lt, nat_le, if◌then◌else◌}
+use Rattle.std.specs.Prelude.{ℕ, zero, suc, ◌+◌, ◌*◌, ◌-◌, ◌/◌, ◌%◌, ◌^◌, ◌<◌, Bool, true, false, ⊤, ◌&&◌, ◌||◌, ◌==◌, nat_lt, nat_le, if◌then◌else◌}
 use Rattle.std.specs.Prelude.{List, [], ◌∷◌, ◌++◌, length, slice_index, Option, Some, None, Result, Ok, Err}
 use Rattle.ulfm_laws.specs.declared.flag_and.FlagAnd.{FlagAnd}
-use Rattle.ulfm_laws.specs.Flags.{flag_unpack}
+use Rattle.ulfm_laws.specs.{Flags.{flag_unpack}, Ranges.{payload_bits}}
 use Rattle.ulfm_script.specs.declared.line_kind.LineKind.{LineKind}
 use Rattle.ulfm_script.specs.declared.line_kind.LineKind.TheVariants.{Number, Flag}
 use Rattle.ulfm_script.specs.Steps.{◌>>=◌, or_fault}
@@ -46,10 +46,22 @@ read_rank word = number_to 1023 word
 abbrev pub read_comm : List ℕ → Result ℕ LineKind
 read_comm word = number_to 255 word
 
--- a flag has eight hexadecimal digits, whose value is its word
+-- how many hexadecimal digits half of a flag has
+abbrev pub half_digits : ℕ
+half_digits = payload_bits / 8
+
+-- how many a whole flag has
+abbrev pub whole_digits : ℕ
+whole_digits = payload_bits / 4
+
+-- whether so many digits spell a flag
+abbrev pub spells_flag : ℕ → Bool
+spells_flag count = (count == half_digits) || (count == whole_digits)
+
+-- a flag has eight or sixteen hexadecimal digits, whose value is its word
 unfoldable pub read_flag : List ℕ → Result FlagAnd LineKind
 read_flag word =
-    if length word == 8 then (digits_after Flag 16 hex_of 0 word >>= λ n. or_fault Flag (flag_unpack n)) else Err Flag
+    if spells_flag (length word) then (digits_after Flag 16 hex_of 0 word >>= λ n. or_fault Flag (flag_unpack n)) else Err Flag
 
 -- the digit of a value below 16
 abbrev pub hex_digit : ℕ → ℕ
@@ -60,6 +72,28 @@ abbrev pub hex_digits : ℕ → ℕ → List ℕ
 hex_digits zero n = []
 hex_digits (suc count) n = hex_digits count (n / 16) ++ hex_digit (n % 16) ∷ []
 
+-- how many digits of a flag are printed: half of them where its upper half is 0
+abbrev pub printed_digits : FlagAnd → ℕ
+printed_digits flag = if nat_lt flag.bits (16 ^ half_digits) then half_digits else whole_digits
+
 -- a flag as it is printed
 unfoldable pub flag_text : FlagAnd → List ℕ
-flag_text flag = hex_digits 8 flag.bits
+flag_text flag = hex_digits (printed_digits flag) flag.bits
+
+-- a flag with all its digits
+unfoldable pub padded_text : FlagAnd → List ℕ
+padded_text flag = hex_digits whole_digits flag.bits
+
+-- a flag that has as many digits as are printed
+unfoldable pub read_printed_flag : List ℕ → Result FlagAnd LineKind
+read_printed_flag word = read_flag word >>= λ flag. if length word == printed_digits flag then Ok flag else Err Flag
+
+-- a flag as a line spells it: as it is printed, or with all its digits
+abbrev pub spelled_flag : Bool → FlagAnd → List ℕ
+spelled_flag false flag = flag_text flag
+spelled_flag true flag = padded_text flag
+
+-- only a flag whose upper half is 0 is spelled with more digits than are printed
+abbrev pub MayPad : Bool → FlagAnd → Type 0
+MayPad false flag = ⊤
+MayPad true flag = flag.bits < 16 ^ half_digits

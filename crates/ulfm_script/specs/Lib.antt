@@ -1,6 +1,7 @@
 pub mod Buffers
 pub mod Calls
 pub mod Digits
+pub mod Kept
 pub mod Ends
 pub mod Headers
 pub mod Printed

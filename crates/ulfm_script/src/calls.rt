@@ -2,9 +2,10 @@
 ghost use Rattle.std.specs.Prelude.{◌≡◌, ℕ, List, Option, Ok, IfOk};
 ghost use Rattle.ulfm_script.specs.Calls.{ScriptCall, call_from, call_of, read_rank_comm, fail_of, ack_of, agree_of, read_plain_call};
 ghost use Rattle.ulfm_script.specs.Verbs.{call_at, found_call, plain_word, verb_call, verb_word};
-ghost use Rattle.ulfm_script.specs.Spelling.{Spells};
+ghost use Rattle.ulfm_script.specs.Spelling.{Spells, is_padded, spelled_text};
 ghost use Rattle.ulfm_script.specs.Words.{rest_at};
 
+use crate::digits::{HALF_DIGITS, LEAST_LONG};
 use crate::line_kind::LineKind;
 use crate::words::{
     LAST_COMM, LAST_RANK, one_word, read_flag, read_number, read_number_to, split_word,
@@ -17,7 +18,7 @@ use ulfm_model::Call;
 ///
 /// A line is `fail R`, `get R C`, `ack R C N`, `agree R C F`, `shrink R C`, `barrier R C`, `poll R C`, `revoke R C`,
 /// `isrevoked R C` or `free R C`: ranks R are 0 to 1023, communicators C 0 to 255, counts N 0 to 9999, in decimal without
-/// leading zeros, and a flag F is eight lower case hexadecimal digits.
+/// leading zeros, and a flag F is eight or sixteen lower case hexadecimal digits.
 ///
 /// ```
 /// assert!(rt; read_call(b"free 0 1") == Ok(Call::Free { rank, comm }));
@@ -30,6 +31,29 @@ pub fn read_call(line: &[u8]) -> Result<Call<FlagAnd>, LineKind>
     ensures exact { result ≡ call_of line.now }
 {
     parse_call(line)
+}
+
+/// Whether a line that spells this call has all digits of its flag, though the upper half is 0.
+pub fn is_padded(line: &[u8], call: &Call<FlagAnd>) -> bool
+    // The line is the call's text, spelled so.
+    ensures spelled { Spells line.now call.now → line.now ≡ spelled_text result call.now }
+    ensures exact { result ≡ is_padded line.now call.now }
+{
+    has_padding(line, call)
+}
+
+/// Whether no space stands before the last half of the digits.
+fn has_padding(line: &[u8], call: &Call<FlagAnd>) -> bool
+    ensures { result ≡ is_padded line.now call.now }
+{
+    match *call {
+        Call::Agree { value, .. } => {
+            value.bits < LEAST_LONG
+                && line.len() > HALF_DIGITS
+                && line[line.len() - HALF_DIGITS - 1] != b' '
+        }
+        _ => false,
+    }
 }
 
 #[tactic(auto, unfolding(crate::specs::Calls::call_of))]

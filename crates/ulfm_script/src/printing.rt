@@ -1,12 +1,12 @@
 //! The lines that replies and calls are printed as.
 ghost use Rattle.std.specs.Prelude.{◌≡◌, ◌++◌, ◌∷◌, [], OnOk};
-ghost use Rattle.ulfm_script.specs.Digits.{flag_text};
+ghost use Rattle.ulfm_script.specs.Digits.{flag_text, spelled_flag};
 ghost use Rattle.std.specs.Fmt.{decimal};
-ghost use Rattle.ulfm_script.specs.Spelling.{call_text, fields_text, on_comm_text, verb_text};
+ghost use Rattle.ulfm_script.specs.Spelling.{call_text, fields_text, on_comm_text, spelled_text, verb_text};
 ghost use Rattle.ulfm_script.specs.Printed.{acked_text, agreed_text, error_text, failed_text, ranks_text, refused_text, reply_text, shrunk_text, standing_text};
 
+use crate::digits::{flag_digits, spelled_digits};
 use crate::last_group::LastGroup;
-use crate::words::flag_digits;
 use itoa::Buffer;
 use std::alloc::{AllocError, Allocator};
 use ulfm_laws::FlagAnd;
@@ -162,8 +162,19 @@ pub fn print_call<A: Allocator>(
 ) -> Result<(), AllocError>
     ensures { OnOk result (text.new.items ≡ text.old.items ++ call_text call.now) }
 {
+    print_spelled_call(text, call, false)
+}
+
+/// Appends a call as [`print_call`] does, but its flag with all digits, if it is padded.
+pub fn print_spelled_call<A: Allocator>(
+    text: &mut Vec<u8, A>,
+    call: &Call<FlagAnd>,
+    padded: bool,
+) -> Result<(), AllocError>
+    ensures { OnOk result (text.new.items ≡ text.old.items ++ spelled_text padded call.now) }
+{
     text.extend_from_slice(verb(call))?;
-    print_fields(text, call)
+    print_fields(text, call, padded)
 }
 
 /// The verb of a call, and a space.
@@ -185,8 +196,12 @@ fn verb(call: &Call<FlagAnd>) -> &'static [u8]
 }
 
 /// What stands behind the verb.
-fn print_fields<A: Allocator>(text: &mut Vec<u8, A>, call: &Call<FlagAnd>) -> Result<(), AllocError>
-    ensures { OnOk result (text.new.items ≡ text.old.items ++ fields_text call.now) }
+fn print_fields<A: Allocator>(
+    text: &mut Vec<u8, A>,
+    call: &Call<FlagAnd>,
+    padded: bool,
+) -> Result<(), AllocError>
+    ensures { OnOk result (text.new.items ≡ text.old.items ++ fields_text padded call.now) }
 {
     match *call {
         Call::Fail { rank } => print_number(text, rank),
@@ -196,7 +211,9 @@ fn print_fields<A: Allocator>(text: &mut Vec<u8, A>, call: &Call<FlagAnd>) -> Re
         }
         Call::Agree { rank, comm, value } => {
             print_place(text, rank, comm)?;
-            print_flag(text, b" ", value)
+            text.push(b' ')?;
+            let digits = spelled_digits(padded, value);
+            text.extend_from_slice(digits.text())
         }
         Call::GetFailed { rank, comm }
         | Call::Shrink { rank, comm }
@@ -249,5 +266,6 @@ fn print_flag<A: Allocator>(
     ensures { OnOk result (text.new.items ≡ text.old.items ++ (label.now ++ flag_text flag)) }
 {
     text.extend_from_slice(label)?;
-    text.extend_from_slice(&flag_digits(flag))
+    let digits = flag_digits(flag);
+    text.extend_from_slice(digits.text())
 }

@@ -1,8 +1,10 @@
 //! The words of a line, and the numbers and flags that they are.
-ghost use Rattle.std.specs.Prelude.{◌≡◌, ◌<◌, ◌≤◌};
-ghost use Rattle.ulfm_script.specs.Digits.{digit_of, hex_of, number_in, read_number, read_point, number_to, read_flag, hex_digit, flag_text};
+ghost use Rattle.std.specs.Prelude.{◌≡◌, ◌≤◌, length};
+ghost use Rattle.ulfm_script.specs.Digits.{digit_of, digits_after, hex_of, number_in, read_number, read_point, number_to, read_flag, read_printed_flag, whole_digits};
 ghost use Rattle.ulfm_script.specs.Words.{first_word, next_word, one_of, two_of, three_of, four_of, rest_at, word_seen, two_at, three_at, four_at, Gives};
+ghost use Rattle.ulfm_script.specs.declared.line_kind.LineKind.TheVariants.{Flag};
 
+use crate::digits::{HALF_DIGITS, WHOLE_DIGITS, printed_digits};
 use crate::line_kind::LineKind;
 use ulfm_laws::FlagAnd;
 
@@ -137,14 +139,35 @@ fn digit_value(byte: u8) -> Option<u32>
     }
 }
 
-/// Eight lower case hexadecimal digits.
+/// A flag: eight or sixteen lower case hexadecimal digits.
 #[tactic(auto, unfolding(crate::specs::Digits::read_flag))]
 pub fn read_flag(word: &[u8]) -> Result<FlagAnd, LineKind>
     ensures { result ≡ read_flag word.now }
 {
-    if word.len() != 8 {
+    if word.len() != HALF_DIGITS && word.len() != WHOLE_DIGITS {
         return Err(LineKind::Flag);
     }
+    let bits = read_hex(word)?;
+    Ok(FlagAnd { bits })
+}
+
+/// A flag that has as many digits as are printed.
+#[tactic(auto, unfolding(crate::specs::Digits::read_printed_flag))]
+pub fn read_printed_flag(word: &[u8]) -> Result<FlagAnd, LineKind>
+    ensures { result ≡ read_printed_flag word.now }
+{
+    let flag = read_flag(word)?;
+    if word.len() != printed_digits(flag) {
+        return Err(LineKind::Flag);
+    }
+    Ok(flag)
+}
+
+/// The value of lower case hexadecimal digits, no more than a flag has.
+fn read_hex(word: &[u8]) -> Result<u64, LineKind>
+    requires { length word.now ≤ whole_digits }
+    ensures { result ≡ digits_after Flag 16 hex_of 0 word.now }
+{
     let mut bits = 0;
     for byte in word {
         let Some(digit) = hex_value(*byte) else {
@@ -152,44 +175,17 @@ pub fn read_flag(word: &[u8]) -> Result<FlagAnd, LineKind>
         };
         bits = bits * 16 + digit;
     }
-    Ok(FlagAnd { bits })
+    Ok(bits)
 }
 
-fn hex_value(byte: u8) -> Option<u32>
+fn hex_value(byte: u8) -> Option<u64>
     ensures { result ≡ hex_of byte }
 {
     if byte >= b'0' && byte <= b'9' {
-        Some(u32::from(byte - b'0'))
+        Some(u64::from(byte - b'0'))
     } else if byte >= b'a' && byte <= b'f' {
-        Some(u32::from(byte - b'a') + 10)
+        Some(u64::from(byte - b'a') + 10)
     } else {
         None
-    }
-}
-
-/// A flag as eight lower case hexadecimal digits.
-#[tactic(auto, unfolding(crate::specs::Digits::flag_text))]
-pub fn flag_digits(flag: FlagAnd) -> [u8; 8]
-    ensures { result ≡ flag_text flag }
-{
-    let mut digits = [b'0'; 8];
-    let mut rest = flag.bits;
-    let mut place = 8;
-    'places: while place > 0 {
-        place -= 1;
-        digits[place] = hex_glyph((rest % 16) as u8);
-        rest /= 16;
-    }
-    digits
-}
-
-fn hex_glyph(value: u8) -> u8
-    requires { value < 16 }
-    ensures { result ≡ hex_digit value }
-{
-    if value < 10 {
-        b'0' + value
-    } else {
-        b'a' - 10 + value
     }
 }

@@ -1,5 +1,5 @@
 -- What one line of a step script tells: a call that begins, a call of a rank that the world doesn't have, and steps.
-use Rattle.std.proofs.Common.{◌≡◌, ◌⊎◌, ℕ, ◌<◌, ◌≤◌, ◌==◌, true, false, List, [], ◌∷◌, ◌++◌, length, find, get_or, set, Option, Some, None, is_some, refl, ap, sym, ◌∙◌, subst, arith, append-nil, inl, inr, IsTrue}
+use Rattle.std.proofs.Common.{◌≡◌, ◌⊎◌, ℕ, ◌<◌, ◌≤◌, ◌==◌, Bool, true, false, List, [], ◌∷◌, ◌++◌, length, find, get_or, set, Option, Some, None, is_some, refl, ap, sym, ◌∙◌, subst, arith, append-nil, inl, inr, IsTrue}
 use Rattle.std.specs.Prelude.{slice_get}
 use Rattle.std.proofs.lemmas.Bool.{eqb-true}
 use Rattle.ulfm_laws.specs.{Flags.{flag_meld}, declared.flag_and.FlagAnd.{FlagAnd}}
@@ -7,7 +7,7 @@ use Rattle.ulfm_model.specs.declared.call.Call.TheVariants as call
 use Rattle.ulfm_model.specs.declared.{call.Call.{Call}, event.Caller.{Caller}, refusal.Refusal.{Refusal}, reply.Reply.{Reply}}
 use Rattle.ulfm_model.specs.{Answers.{rank_of, traits_of}, Records.{Record}}
 use Rattle.ulfm_comm.specs.Phase.{UnderWay}
-use Rattle.ulfm_words.specs.Steps.{view_of, IsView, Name, Sight}
+use Rattle.ulfm_words.specs.Steps.{view_at, IsView, Name, Sight}
 use Rattle.ulfm_trace_model.specs.declared.{line.Line.{Line}, step_line.StepLine.TheVariants.{Called}}
 use Rattle.ulfm_trace_model.specs.{Follows.{AreOf, IsPiece}, Traces.{AnswersRank, AreLegalAfter, IsOpen, MayCome, Told, Traced, Under, after, after_reply, call_by, caller_of, record_in, said_by, same_caller, taken_in}}
 use Rattle.ulfm_trace_model.proofs.Callers.{same_rank}
@@ -16,7 +16,7 @@ use Rattle.ulfm_lines.specs.declared.step_machine.Reach.{Reach}
 use Rattle.ulfm_lines.specs.declared.step_machine.Taken.TheVariants.{Open, Run}
 use Rattle.ulfm_stepping.specs.Stepping.{reply_told}
 use Rattle.ulfm_stepping.specs.{Seats.{Sits, SitsAt as SitsWith, begun_piece, next_in, reply_piece}, declared.told.Answer.{Answer}}
-use Rattle.ulfm_seats.specs.{Lines.{BeginsCall, unknown_piece}, Table.{IsNobody, StandsFor}, Walks.{FlagSeat, SitsOn, WalksUntil}}
+use Rattle.ulfm_seats.specs.{Lines.{BeginsCall, unknown_piece}, Table.{IsNobody, StandsFor}, Walks.{FlagSeat, flag_words, SitsOn, WalksUntil}}
 use Rattle.ulfm_seats.proofs.{Pieces.{AllBy, are_by, find_no_record, piece_call, piece_entries, piece_history}, Standing.{find_last, get_there, ranks_differ, reply_frees, stands_on, stands_seat, tells_step}}
 use Rattle.ulfm_seats.specs.Walks.{stage}
 
@@ -35,12 +35,12 @@ by_its_rank (call.Free rank c) own = refl
 
 module _ (name : Name) (pass : Sight FlagAnd) (seats : List FlagSeat) (now : Traced FlagAnd) (stands : StandsFor name pass seats now) where
   -- a call of a rank that the world doesn't have
-  module _ (r : ℕ) (asked : Call FlagAnd) (above : name.limits.ranks ≤ r) (mine : (traits_of asked).by ≡ Caller.Rank r) where
+  module _ (r : ℕ) (asked : Call FlagAnd) (padded : Bool) (above : name.limits.ranks ≤ r) (mine : (traits_of asked).by ≡ Caller.Rank r) where
     abbrev unknown : List (Told FlagAnd)
-    unknown = unknown_piece r (length pass.seen) asked
+    unknown = unknown_piece r (length pass.seen) asked padded
 
     abbrev begun : Traced FlagAnd
-    begun = after now (Line.Called asked)
+    begun = after now (Line.Called asked padded)
 
     abbrev refused : Reply FlagAnd
     refused = Reply.Refused Refusal.NoSuchRank
@@ -72,7 +72,7 @@ module _ (name : Name) (pass : Sight FlagAnd) (seats : List FlagSeat) (now : Tra
     unknown_by : AllBy (Caller.Rank r) unknown
     unknown_by = (mine, (refl, tt))
 
-    unknown_is : IsPiece now (Called asked) unknown
+    unknown_is : IsPiece now (Called asked padded) unknown
     unknown_is = (reply_told r (length pass.seen) [] refused ∷ [], refl, inr (reply_told r (length pass.seen) [] refused, refl, ap (λ c. same_caller (Caller.Rank r) c) mine ∙ same_rank r))
 
     no_record : (t : Traced FlagAnd) (point : ℕ) (answered : Option (Under FlagAnd)) → record_in t r ≡ None → record_in (after_reply t (Caller.Rank r) point refused answered) r ≡ None
@@ -84,10 +84,10 @@ module _ (name : Name) (pass : Sight FlagAnd) (seats : List FlagSeat) (now : Tra
         subst (IsNobody (said_by now unknown)) (eqb-true r s same)
         (record { record_is = no_record begun (length pass.seen) (call_by begun (Caller.Rank r)) nobody.record_is; free = reply_frees begun (Caller.Rank r) (length pass.seen) refused })
 
-    pub unknown_tells : (text more : List ℕ) → more ≡ text ++ lines_text unknown → TellsStep (StandsFor name pass seats) now (Called asked) Run text more
+    pub unknown_tells : (text more : List ℕ) → more ≡ text ++ lines_text unknown → TellsStep (StandsFor name pass seats) now (Called asked padded) Run text more
     unknown_tells text more told =
-        tells_step (StandsFor name pass seats) now (Called asked) unknown text more unknown_legal unknown_is
-        (stands_on name pass seats now stands unknown (Caller.Rank r) unknown_by pass (piece_history now unknown ∙ (append-nil now.history ∙ stands.history)) stands.of (omega arith)
+        tells_step (StandsFor name pass seats) now (Called asked padded) unknown text more unknown_legal unknown_is
+        (stands_on name pass seats now stands unknown (Caller.Rank r) unknown_by pass (piece_history now unknown ∙ (append-nil now.history ∙ stands.history)) stands.of (omega arith) ([], append-nil pass.cached)
         (piece_call now unknown (Caller.Rank r) Caller.Outside unknown_by refl ∙ stands.no_declaration) (λ s below. ranks_differ r s (λ same. absurd (omega (arith, same, below, above)))) (λ s over same. still_nobody s same))
         told
 
@@ -97,18 +97,18 @@ module _ (name : Name) (pass : Sight FlagAnd) (seats : List FlagSeat) (now : Tra
     number = (stands.each r seat there).number
 
     -- a call that begins
-    pub begin_tells : (asked : Call FlagAnd) (left : FlagSeat) (text more : List ℕ) → (traits_of asked).by ≡ Caller.Rank seat.own.number → BeginsCall name asked pass seat text left more
-        → TellsStep (StandsFor name pass (set seats r left)) now (Called asked) Run text more
-    begin_tells asked left text more mine b =
-        tells_step (StandsFor name pass (set seats r left)) now (Called asked) piece text more (b.tells.legal now sits) (reply_piece seat.own.number [] b.answer, refl, b.tells.at_once)
+    pub begin_tells : (asked : Call FlagAnd) (padded : Bool) (left : FlagSeat) (text more : List ℕ) → (traits_of asked).by ≡ Caller.Rank seat.own.number → BeginsCall name asked padded pass seat text left more
+        → TellsStep (StandsFor name pass (set seats r left)) now (Called asked padded) Run text more
+    begin_tells asked padded left text more mine b =
+        tells_step (StandsFor name pass (set seats r left)) now (Called asked padded) piece text more (b.tells.legal now sits) (reply_piece seat.own.number [] b.answer, refl, b.tells.at_once)
         (stands_seat name pass seats now stands piece (Caller.Rank seat.own.number) (mine, all b.answer) pass (piece_history now piece ∙ (ap (λ h. now.history ++ h) (none b.answer) ∙ (append-nil now.history ∙ stands.history)))
-        stands.of (omega arith) r (ap Caller.Rank number) seat left there b.tells.number (b.tells.sits now sits))
+        stands.of (omega arith) ([], append-nil pass.cached) r (ap Caller.Rank number) seat left there b.tells.number (b.tells.sits now sits))
         b.told
       where
         piece : List (Told FlagAnd)
-        piece = begun_piece seat.own.number asked b.answer
+        piece = begun_piece seat.own.number asked padded b.answer
 
-        sits : Sits flag_meld name now pass seat
+        sits : Sits flag_meld (flag_words name) now pass seat
         sits = (stands.each r seat there).sits
 
         all : (answer : Option (Answer FlagAnd)) → AllBy (Caller.Rank seat.own.number) (reply_piece seat.own.number [] answer)
@@ -120,22 +120,22 @@ module _ (name : Name) (pass : Sight FlagAnd) (seats : List FlagSeat) (now : Tra
         none (Some answer) = refl
 
     -- a call is under way exactly where the seat has one
-    open_there : (t : Traced FlagAnd) (later : Sight FlagAnd) (own : Record) (found : ℕ) (call : Option (UnderWay FlagAnd)) → SitsWith flag_meld name t later own found call → IsOpen t (Caller.Rank own.number) → IsTrue (is_some call)
+    open_there : (t : Traced FlagAnd) (later : Sight FlagAnd) (own : Record) (found : ℕ) (call : Option (UnderWay FlagAnd)) → SitsWith flag_meld (flag_words name) t later own found call → IsOpen t (Caller.Rank own.number) → IsTrue (is_some call)
     open_there t later own found None sits is_open = absurd (cc (ap is_some sits.free, is_open))
     open_there t later own found (Some doing) sits is_open = refl
 
-    there_open : (t : Traced FlagAnd) (later : Sight FlagAnd) (own : Record) (found : ℕ) (call : Option (UnderWay FlagAnd)) → SitsWith flag_meld name t later own found call → IsTrue (is_some call) → IsOpen t (Caller.Rank own.number)
+    there_open : (t : Traced FlagAnd) (later : Sight FlagAnd) (own : Record) (found : ℕ) (call : Option (UnderWay FlagAnd)) → SitsWith flag_meld (flag_words name) t later own found call → IsTrue (is_some call) → IsOpen t (Caller.Rank own.number)
     there_open t later own found None sits is = absurd (cc is)
     there_open t later own found (Some doing) (inl begun) is = ap is_some begun.call
     there_open t later own found (Some doing) (inr called) is = ap is_some called.call
 
     -- a call of a rank that has one under way
-    pub open_tells : (asked : Call FlagAnd) (text : List ℕ) (left : List FlagSeat) → (traits_of asked).by ≡ Caller.Rank r → IsTrue (is_some seat.call) → TellsStep (StandsFor name pass left) now (Called asked) Open text text
-    open_tells asked text left mine is =
-        ((asked, refl, subst (IsOpen now) (ap Caller.Rank number ∙ sym mine) (there_open now pass seat.own seat.found seat.call (stands.each r seat there).sits is)), refl)
+    pub open_tells : (asked : Call FlagAnd) (padded : Bool) (text : List ℕ) (left : List FlagSeat) → (traits_of asked).by ≡ Caller.Rank r → IsTrue (is_some seat.call) → TellsStep (StandsFor name pass left) now (Called asked padded) Open text text
+    open_tells asked padded text left mine is =
+        ((asked, (padded, refl), subst (IsOpen now) (ap Caller.Rank number ∙ sym mine) (there_open now pass seat.own seat.found seat.call (stands.each r seat there).sits is)), refl)
 
     -- what lines say is what the pass has seen
-    said_seen : (t : Traced FlagAnd) (later : Sight FlagAnd) (own : Record) (found : ℕ) (call : Option (UnderWay FlagAnd)) → SitsWith flag_meld name t later own found call → t.history ≡ later.seen
+    said_seen : (t : Traced FlagAnd) (later : Sight FlagAnd) (own : Record) (found : ℕ) (call : Option (UnderWay FlagAnd)) → SitsWith flag_meld (flag_words name) t later own found call → t.history ≡ later.seen
     said_seen t later own found None sits = sits.history
     said_seen t later own found (Some doing) (inl begun) = begun.history
     said_seen t later own found (Some doing) (inr called) = called.history
@@ -147,7 +147,7 @@ module _ (name : Name) (pass : Sight FlagAnd) (seats : List FlagSeat) (now : Tra
         absurd (cc (ap is_some none, is))
 
     -- steps of its call
-    module _ (later : Sight FlagAnd) (left : FlagSeat) (of : IsView flag_meld (view_of name later)) (text more : List ℕ) (reach : Reach) (made : ℕ) (w : WalksUntil reach made name (stage pass seat text) (stage later left more))
+    module _ (later : Sight FlagAnd) (left : FlagSeat) (of : IsView flag_meld (view_at (flag_words name) later)) (text more : List ℕ) (reach : Reach) (made : ℕ) (w : WalksUntil reach made name (stage pass seat text) (stage later left more))
         (is_open : IsTrue (is_some seat.call)) (few : length later.seen ≤ 4294967295) where
       abbrev said : Traced FlagAnd
       said = said_by now w.walks.piece
@@ -193,7 +193,7 @@ module _ (name : Name) (pass : Sight FlagAnd) (seats : List FlagSeat) (now : Tra
         ends = λ was closed. w.walks.ends is_open (over left.call refl closed);
         stops = λ unnamed. stops unnamed w.stops;
         room = omega (arith, few, ap length history);
-        stands = stands_seat name pass seats now stands w.walks.piece (Caller.Rank seat.own.number) (are_by (Caller.Rank seat.own.number) w.walks.piece w.walks.by) later history of w.walks.onward
+        stands = stands_seat name pass seats now stands w.walks.piece (Caller.Rank seat.own.number) (are_by (Caller.Rank seat.own.number) w.walks.piece w.walks.by) later history of w.walks.onward w.walks.keeps
             r (ap Caller.Rank number) seat left there w.walks.number goes.sits;
       }
 
@@ -228,7 +228,7 @@ module _ (name : Name) (pass : Sight FlagAnd) (seats : List FlagSeat) (now : Tra
   pub number_there : r < length seats → (get_or seats r d).own.number ≡ r
   number_there below = (stands.each r (get_or seats r d) (get_there seats r d below)).number
 
-  pub sits_there : r < length seats → Sits flag_meld name now pass (get_or seats r d)
+  pub sits_there : r < length seats → Sits flag_meld (flag_words name) now pass (get_or seats r d)
   sits_there below = (stands.each r (get_or seats r d) (get_there seats r d below)).sits
 
 -- a seat without a call

@@ -7,12 +7,12 @@ use Rattle.ulfm_laws.specs.declared.flag_and.FlagAnd.{FlagAnd}
 use Rattle.ulfm_model.specs.declared.limits.Limits.{Limits}
 use Rattle.ulfm_model.specs.{History.{first_ranks}, Records.{Fits, Record, new_record}}
 use Rattle.ulfm_model.proofs.Groups.{first_at, first_length}
-use Rattle.ulfm_words.specs.Steps.{view_of, IsNew, Name, Sight}
+use Rattle.ulfm_words.specs.Steps.{view_at, IsNew, Name, Sight}
 use Rattle.ulfm_comm.specs.Counts.{Ranked, new_rank, records_of}
 use Rattle.ulfm_comm.proofs.InOrder.{rank_missing}
 use Rattle.ulfm_trace_model.specs.Traces.{nothing}
 use Rattle.ulfm_stepping.proofs.Newly.{sits_new}
-use Rattle.ulfm_seats.specs.{Table.{IsNobody, IsSeatOf, StandsFor, idle_seat}, Walks.{FlagSeat}}
+use Rattle.ulfm_seats.specs.{Table.{IsNobody, IsSeatOf, StandsFor, idle_seat}, Walks.{FlagSeat, flag_words}}
 use Rattle.ulfm_seats.proofs.Standing.{get_below, get_there}
 
 -- the element of a mapped list
@@ -39,7 +39,7 @@ numbers : (limits : Limits) (ranks : List ℕ) → map (λ (x : Record). x.numbe
 numbers limits [] = refl
 numbers limits (r ∷ ranks) = ap (λ ns. r ∷ ns) (numbers limits ranks)
 
-module _ (name : Name) (pass : Sight FlagAnd) (new : IsNew flag_meld (view_of name pass)) (ranks : List Ranked) (are : ranks ≡ map (new_rank name.limits) (first_ranks name.limits.ranks)) (fit : AllByRecursion (Fits flag_meld name.limits []) (records_of ranks)) where
+module _ (name : Name) (pass : Sight FlagAnd) (new : IsNew flag_meld (view_at (flag_words name) pass)) (ranks : List Ranked) (are : ranks ≡ map (new_rank name.limits) (first_ranks name.limits.ranks)) (fit : AllByRecursion (Fits flag_meld name.limits []) (records_of ranks)) where
   each : (r : ℕ) (seat : FlagSeat) → slice_get (map idle_seat ranks) r ≡ Some seat → IsSeatOf name (nothing name.limits) pass r seat
   each r seat is =
       let own = get_map idle_seat ranks r seat is in
@@ -48,7 +48,7 @@ module _ (name : Name) (pass : Sight FlagAnd) (new : IsNew flag_meld (view_of na
       let rank_is : own.0 ≡ new_rank name.limits r = rank.2 ∙ ap (new_rank name.limits) at.0 in
       let seat_is : seat ≡ idle_seat (new_rank name.limits r) = own.2 ∙ ap idle_seat rank_is in
       let fits : Fits flag_meld name.limits [] (new_record name.limits r) = subst (λ (w : Ranked). Fits flag_meld name.limits [] w.own) rank_is (all_get (Fits flag_meld name.limits []) (λ (w : Ranked). w.own) ranks r own.0 fit own.1) in
-      subst (IsSeatOf name (nothing name.limits) pass r) (sym seat_is) (record { number = refl; sits = sits_new flag_meld name pass 0 r new.seen at.1 fits })
+      subst (IsSeatOf name (nothing name.limits) pass r) (sym seat_is) (record { number = refl; sits = sits_new flag_meld (flag_words name) pass 0 r new.seen at.1 fits })
 
   beyond : (r : ℕ) → name.limits.ranks ≤ r → IsNobody (nothing name.limits) r
   beyond r above =

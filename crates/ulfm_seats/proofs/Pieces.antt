@@ -63,7 +63,7 @@ module _ {P : Type 0} where
 
   -- nor does any line of another's
   pub line_call : (now : Traced P) (line : Line P) (by other : Caller) → line_by line ≡ by → same_caller by other ≡ false → call_by (after now line) other ≡ call_by now other
-  line_call now (Line.Called asked) by other is differ =
+  line_call now (Line.Called asked padded) by other is differ =
       find_behind (λ v. same_caller (caller_of v) other) now.calls _ (ap (λ c. same_caller c other) is ∙ differ)
   line_call now (Line.Looked r count) by other is differ = find_unchanged (Caller.Rank r) other (λ u. record u { look = Some count }) (λ u. refl) (ap (λ c. same_caller c other) is ∙ differ) now.calls
   line_call now (Line.Happened c None) by other is differ = refl
@@ -83,7 +83,7 @@ module _ {P : Type 0} where
 
   -- a line changes no other's record
   pub line_record : (now : Traced P) (line : Line P) (by : Caller) (s : ℕ) → line_by line ≡ by → same_caller by (Caller.Rank s) ≡ false → record_in (after now line) s ≡ record_in now s
-  line_record now (Line.Called asked) by s is differ = refl
+  line_record now (Line.Called asked padded) by s is differ = refl
   line_record now (Line.Looked r count) by s is differ = refl
   line_record now (Line.Happened c None) by s is differ = refl
   line_record now (Line.Happened c (Some event)) by s is differ = refl
@@ -96,7 +96,7 @@ module _ {P : Type 0} where
 
   -- a line adds the event that it tells
   pub line_history : (now : Traced P) (line : Line P) → (after now line).history ≡ now.history ++ line_entries line
-  line_history now (Line.Called asked) = sym (append-nil now.history)
+  line_history now (Line.Called asked padded) = sym (append-nil now.history)
   line_history now (Line.Looked r count) = sym (append-nil now.history)
   line_history now (Line.Happened c None) = sym (append-nil now.history)
   line_history now (Line.Happened c (Some event)) = refl
@@ -122,7 +122,7 @@ module _ {P : Type 0} where
 
   -- looks, events and replies in a caller's name are its lines
   of_by : (line : Line P) (by : Caller) → is_of by line ≡ true → line_by line ≡ by
-  of_by (Line.Called asked) by is = absurd (cc is)
+  of_by (Line.Called asked padded) by is = absurd (cc is)
   of_by (Line.Looked r count) by is = same_is (Caller.Rank r) by is
   of_by (Line.Happened c event) by is = same_is c by is
   of_by (Line.Replied c point reply) by is = same_is c by is

@@ -1,11 +1,12 @@
 -- The machine of step scripts stands on for what lines say.
 use Rattle.std.proofs.Common.{◌≡◌, ◌≢◌, ◌⊎◌, ℕ, zero, suc, ◌<◌, ◌≤◌, Bool, true, false, List, [], ◌∷◌, ◌++◌, length, find, get_or, set, Option, Some, None, refl, ap, sym, ◌∙◌, subst, arith, append-nil, inl, inr, if◌then◌else◌}
 use Rattle.std.specs.{Prelude.{slice_get}}
+use mathlib.Core.List.{IsPrefix}
 use Rattle.std.proofs.lemmas.Bool.{ne_eqb}
 use Rattle.std.proofs.lemmas.List.{length-set}
 use Rattle.ulfm_laws.specs.{Flags.{flag_meld}, declared.flag_and.FlagAnd.{FlagAnd}}
 use Rattle.ulfm_model.specs.declared.{call.Call.{Call}, event.Caller.{Caller}, reply.Reply.{Reply}}
-use Rattle.ulfm_words.specs.Steps.{view_of, IsView, Name, Sight}
+use Rattle.ulfm_words.specs.Steps.{view_at, IsView, Name, Sight}
 use Rattle.ulfm_trace_model.specs.declared.{line.Line.{Line}, step_line.StepLine.TheVariants.{Failed}}
 use Rattle.ulfm_trace_model.specs.{Follows.{IsPiece, fail_event, fail_piece}, Traces.{AreLegalAfter, Told, Traced, Under, after, after_reply, call_by, said_by, same_caller}}
 use Rattle.ulfm_trace_model.proofs.{Kept.{limits_stay}, Parts.{said_append}}
@@ -13,7 +14,7 @@ use Rattle.ulfm_stepping.specs.{Failing.{TellsFail}, Seats.{AreOthers, Sits}}
 use Rattle.ulfm_stepping.proofs.Others.{sits_lasts}
 use Rattle.ulfm_lines.specs.{LineTexts.{lines_text}, StepLines.{ScriptStep}, Stepped.{TellsStep}}
 use Rattle.ulfm_lines.specs.declared.step_machine.Taken.TheVariants.{Run}
-use Rattle.ulfm_seats.specs.{Table.{IsNobody, OthersStay, IsSeatOf, StandsFor}, Walks.{FlagSeat}}
+use Rattle.ulfm_seats.specs.{Table.{IsNobody, OthersStay, IsSeatOf, StandsFor}, Walks.{FlagSeat, flag_words}}
 use Rattle.ulfm_lines.proofs.Calls.{find_left_out}
 use Rattle.ulfm_seats.proofs.{Pieces.{AllBy, piece_call, piece_record}}
 
@@ -85,13 +86,13 @@ pub ranks_differ : (r s : ℕ) → r ≢ s → same_caller (Caller.Rank r) (Call
 ranks_differ r s ne = ne_eqb r s ne
 
 module _ (name : Name) (pass : Sight FlagAnd) (seats : List FlagSeat) (now : Traced FlagAnd) (stands : StandsFor name pass seats now) (piece : List (Told FlagAnd)) (by : Caller) (all : AllBy by piece) (later : Sight FlagAnd)
-    (history : (said_by now piece).history ≡ later.seen) (of : IsView flag_meld (view_of name later)) (onward : pass.steps ≤ later.steps) where
+    (history : (said_by now piece).history ≡ later.seen) (of : IsView flag_meld (view_at (flag_words name) later)) (onward : pass.steps ≤ later.steps) (keeps : IsPrefix pass.cached later.cached) where
   -- another rank sits on
   other_sits : (r : ℕ) (seat : FlagSeat) → IsSeatOf name now pass r seat → same_caller by (Caller.Rank r) ≡ false → IsSeatOf name (said_by now piece) later r seat
   other_sits r seat sits differ =
       record {
         number = sits.number;
-        sits = sits_lasts flag_meld name now piece pass later seat (others_of by (Caller.Rank seat.own.number) piece all (ap (λ n. same_caller by (Caller.Rank n)) sits.number ∙ differ)) history of onward sits.sits;
+        sits = sits_lasts flag_meld (flag_words name) now piece pass later seat (others_of by (Caller.Rank seat.own.number) piece all (ap (λ n. same_caller by (Caller.Rank n)) sits.number ∙ differ)) history of onward keeps sits.sits;
       }
 
   -- a rank that the world doesn't have is still nobody
@@ -121,7 +122,7 @@ module _ (name : Name) (pass : Sight FlagAnd) (seats : List FlagSeat) (now : Tra
       nobody r above false is = still_nobody r (stands.beyond r above) is
 
   -- lines of a rank that has a seat
-  pub stands_seat : (r : ℕ) → by ≡ Caller.Rank r → (seat left : FlagSeat) → slice_get seats r ≡ Some seat → left.own.number ≡ seat.own.number → Sits flag_meld name (said_by now piece) later left
+  pub stands_seat : (r : ℕ) → by ≡ Caller.Rank r → (seat left : FlagSeat) → slice_get seats r ≡ Some seat → left.own.number ≡ seat.own.number → Sits flag_meld (flag_words name) (said_by now piece) later left
       → StandsFor name later (set seats r left) (said_by now piece)
   stands_seat r mine seat left there number sits =
       record {
@@ -139,13 +140,13 @@ module _ (name : Name) (pass : Sight FlagAnd) (seats : List FlagSeat) (now : Tra
 
       each : (s : ℕ) (other : FlagSeat) → ((s ≡ r) × (other ≡ left)) ⊎ ((s ≢ r) × (slice_get seats s ≡ Some other)) → IsSeatOf name (said_by now piece) later s other
       each s other (inl (same, is)) =
-          record { number = ap (λ (x : FlagSeat). x.own.number) is ∙ (number ∙ ((stands.each r seat there).number ∙ sym same)); sits = subst (λ x. Sits flag_meld name (said_by now piece) later x) (sym is) sits }
+          record { number = ap (λ (x : FlagSeat). x.own.number) is ∙ (number ∙ ((stands.each r seat there).number ∙ sym same)); sits = subst (λ x. Sits flag_meld (flag_words name) (said_by now piece) later x) (sym is) sits }
       each s other (inr (differ, is)) =
           other_sits s other (stands.each s other is) (ap (λ c. same_caller c (Caller.Rank s)) mine ∙ ranks_differ r s (λ same. differ (sym same)))
 
 -- a whole declaration
-module _ (name : Name) (pass later : Sight FlagAnd) (seats : List FlagSeat) (now : Traced FlagAnd) (stands : StandsFor name pass seats now) (r : ℕ) (reply : Reply FlagAnd) (tells : TellsFail flag_meld r (view_of name pass) reply (view_of name later))
-    (of : IsView flag_meld (view_of name later)) (onward : pass.steps ≤ later.steps) where
+module _ (name : Name) (pass later : Sight FlagAnd) (seats : List FlagSeat) (now : Traced FlagAnd) (stands : StandsFor name pass seats now) (r : ℕ) (reply : Reply FlagAnd) (tells : TellsFail flag_meld r (view_at (flag_words name) pass) reply (view_at (flag_words name) later))
+    (of : IsView flag_meld (view_at (flag_words name) later)) (onward : pass.steps ≤ later.steps) (keeps : IsPrefix pass.cached later.cached) where
   abbrev failed : List (Told FlagAnd)
   failed = fail_piece r (length later.seen) reply
 
@@ -163,11 +164,11 @@ module _ (name : Name) (pass later : Sight FlagAnd) (seats : List FlagSeat) (now
         failed,
         said_by now failed,
         runs,
-        stands_on name pass seats now stands failed Caller.Outside failed_by later both.1 of onward free (λ s below. refl) (λ s above is. absurd (cc is)),
+        stands_on name pass seats now stands failed Caller.Outside failed_by later both.1 of onward keeps free (λ s below. refl) (λ s above is. absurd (cc is)),
         told,
       )
     where
       free : call_by (said_by now failed) Caller.Outside ≡ None
       free =
-          ap (λ t. call_by t Caller.Outside) (said_append (after now (Line.Called (Call.Fail r))) (fail_event r reply) (record { line = Line.Replied Caller.Outside (length later.seen) (Some reply); group = [] } ∷ []))
-          ∙ reply_frees (said_by (after now (Line.Called (Call.Fail r))) (fail_event r reply)) Caller.Outside (length later.seen) reply
+          ap (λ t. call_by t Caller.Outside) (said_append (after now (Line.Called (Call.Fail r) false)) (fail_event r reply) (record { line = Line.Replied Caller.Outside (length later.seen) (Some reply); group = [] } ∷ []))
+          ∙ reply_frees (said_by (after now (Line.Called (Call.Fail r) false)) (fail_event r reply)) Caller.Outside (length later.seen) reply

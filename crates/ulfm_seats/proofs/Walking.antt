@@ -4,6 +4,7 @@ use Rattle.std.specs.{List.{AllByRecursion}, Prelude.{OnOk, Result, Ok, Err}}
 use Rattle.ulfm_laws.specs.{Flags.{flag_meld}, declared.flag_and.FlagAnd.{FlagAnd}}
 use Rattle.ulfm_model.specs.declared.event.Caller.{Caller}
 use Rattle.ulfm_words.specs.Steps.{Name, Sight}
+use Rattle.ulfm_model.proofs.Lists.{prefix_trans}
 use Rattle.ulfm_trace_model.specs.{Follows.{AreOf, EndsInReply, NoneBy}, Traces.{Told, Traced, said_by}}
 use Rattle.ulfm_trace_model.proofs.Parts.{legal_append, said_append}
 use Rattle.ulfm_lines.proofs.Joined.{all_append, ends_append, lines_append, steps_append as pieces_append}
@@ -15,7 +16,7 @@ use Rattle.ulfm_stepping.specs.declared.told.{Answer.{Answer}, StepTold.{StepTol
 use Rattle.ulfm_stepping.specs.Seats.{AreToldBy, GoesOrEnds, Sits, TellsPiece, asked_in, comm_in, group_in, call_steps_left, next_in, piece_of}
 use Rattle.ulfm_lines.specs.declared.step_machine.Reach.{Reach}
 use Rattle.ulfm_lines.specs.Walked.{IsCountOf}
-use Rattle.ulfm_seats.specs.Walks.{stage, AreOther, FlagSeat, SitsOn, KnowsGroup, MakesNamedSteps, SeatWalks}
+use Rattle.ulfm_seats.specs.Walks.{stage, AreOther, FlagSeat, flag_words, SitsOn, KnowsGroup, MakesNamedSteps, SeatWalks}
 
 -- how many steps a call has still to go, with its reply
 abbrev pub to_go : Limits → Record → Option (UnderWay FlagAnd) → ℕ
@@ -65,12 +66,13 @@ module _ (name : Name) (pass : Sight FlagAnd) (seat : FlagSeat) (text : List ℕ
         ends = λ is_open over. absurd (cc (is_open, ap is_some over));
         number = refl;
         onward = omega arith;
+        keeps = ([], append-nil pass.cached);
         goes = λ now sits. record { legal = tt; sits = sits };
       }
 
   module _ (after : Sight FlagAnd) (left : FlagSeat) (more : List ℕ) where
     -- one step
-    pub walks_one : (told : StepTold FlagAnd) → TellsPiece flag_meld name seat pass told left after → pass.steps ≤ after.steps → (asked : Call FlagAnd) → asked_in seat.call ≡ Some asked
+    pub walks_one : (told : StepTold FlagAnd) → TellsPiece flag_meld (flag_words name) seat pass told left after → pass.steps ≤ after.steps → (asked : Call FlagAnd) → asked_in seat.call ≡ Some asked
         → ((ranks : ℕ) (h : History FlagAnd) → KnowsGroup ranks h (comm_of asked) told.reply left.own → more ≡ text ++ lines_text (piece_of left.own.number told (group_in ranks h (comm_of asked) told.reply)))
         → SeatWalks name (next_in seat.call ∷ []) (stage pass seat text) (stage after left more)
     walks_one told t onward asked asked_is tells =
@@ -86,6 +88,7 @@ module _ (name : Name) (pass : Sight FlagAnd) (seat : FlagSeat) (text : List ℕ
           ends = λ is_open over. ends told.reply t.next over;
           number = t.number;
           onward = onward;
+          keeps = t.keeps;
           goes = λ now sits. record { legal = t.legal now sits; sits = t.sits now sits };
         }
       where
@@ -122,6 +125,7 @@ module _ (name : Name) (pass : Sight FlagAnd) (seat : FlagSeat) (text : List ℕ
             ends = λ was_open over. ends_append w.piece v.piece (v.ends is_open over);
             number = v.number ∙ w.number;
             onward = omega (arith, on_w, on_v);
+            keeps = prefix_trans pass.cached after.cached later.cached w.keeps v.keeps;
             goes = λ now sits. goes now (w.goes now sits);
           }
         where
@@ -130,7 +134,7 @@ module _ (name : Name) (pass : Sight FlagAnd) (seat : FlagSeat) (text : List ℕ
               let h = v.goes (said_by now w.piece) g.sits in
               record {
                 legal = legal_append flag_meld now w.piece v.piece g.legal h.legal;
-                sits = subst (λ t. Sits flag_meld name t later last) (sym (said_append now w.piece v.piece)) h.sits;
+                sits = subst (λ t. Sits flag_meld (flag_words name) t later last) (sym (said_append now w.piece v.piece)) h.sits;
               }
 
 -- one step more is counted

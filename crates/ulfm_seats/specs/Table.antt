@@ -2,14 +2,14 @@
 use Rattle.std.specs.Prelude.{◌≡◌, ◌≢◌, ℕ, ◌≤◌, List, length, slice_get, Option, Some, None}
 use Rattle.ulfm_laws.specs.{Flags.{flag_meld}, declared.flag_and.FlagAnd.{FlagAnd}}
 use Rattle.ulfm_model.specs.declared.{event.Caller.{Caller}, step_name.StepName.{StepName}}
-use Rattle.ulfm_words.specs.Steps.{view_of, IsView, Name, Sight}
+use Rattle.ulfm_words.specs.Steps.{view_at, IsView, Name, Sight}
 use Rattle.ulfm_model.specs.Answers.{rank_of}
 use Rattle.ulfm_comm.specs.Counts.{Ranked}
 use Rattle.ulfm_trace_model.specs.Traces.{Traced, call_by, record_in}
 use Rattle.ulfm_trace_model.specs.declared.step_line.StepLine.TheVariants.{Before, Called, Failed, Finished, Stepped}
 use Rattle.ulfm_lines.specs.{Progress.{Progress}, StepLines.{ScriptStep}}
 use Rattle.ulfm_stepping.specs.Seats.{Sits, next_in}
-use Rattle.ulfm_seats.specs.Walks.{FlagSeat}
+use Rattle.ulfm_seats.specs.Walks.{FlagSeat, flag_words}
 
 -- what contracts see of the machine: its words, its pass, and the ranks in the order of their numbers
 pub record Table : Type 0 where
@@ -29,12 +29,12 @@ pub record IsNobody (now : Traced FlagAnd) (r : ℕ) : Type 0 where
 -- the seat is that of rank r, who sits so
 pub record IsSeatOf (name : Name) (now : Traced FlagAnd) (pass : Sight FlagAnd) (r : ℕ) (seat : FlagSeat) : Type 0 where
   pub number : seat.own.number ≡ r
-  pub sits : Sits flag_meld name now pass seat
+  pub sits : Sits flag_meld (flag_words name) now pass seat
 
 -- The lines so far say what the pass has seen, and no declaration is under way. Each rank of the world sits in its seat, in the order of
 -- their numbers, and the world has no others.
 pub record StandsFor (name : Name) (pass : Sight FlagAnd) (seats : List FlagSeat) (now : Traced FlagAnd) : Type 0 where
-  pub of : IsView flag_meld (view_of name pass)
+  pub of : IsView flag_meld (view_at (flag_words name) pass)
   pub limits : now.limits ≡ name.limits
   pub history : now.history ≡ pass.seen
   pub no_declaration : call_by now Caller.Outside ≡ None
@@ -61,7 +61,7 @@ OthersStay r old new = (q : ℕ) → q ≢ r → slice_get new q ≡ slice_get o
 
 -- a script's line leaves all seats as they are but that of its rank, and a declaration leaves that too
 abbrev pub SeatsStay : ScriptStep → List FlagSeat → List FlagSeat → Type 0
-SeatsStay (Called asked) old new = OthersStay (rank_of asked) old new
+SeatsStay (Called asked padded) old new = OthersStay (rank_of asked) old new
 SeatsStay (Stepped r count) old new = OthersStay r old new
 SeatsStay (Before r name) old new = OthersStay r old new
 SeatsStay (Finished r) old new = OthersStay r old new

@@ -1,10 +1,11 @@
 -- What steps of one rank's call tell.
 use Rattle.std.specs.Prelude.{◌≡◌, ◌≢◌, ◌⊎◌, ℕ, ◌+◌, ◌≤◌, ⊤, List, [], ◌∷◌, ◌++◌, length, take, is_some, IsTrue, Option, Some, None}
 use Rattle.std.specs.List.{AllByRecursion}
+use mathlib.Core.List.{IsPrefix}
 use Rattle.ulfm_laws.specs.{Flags.{flag_meld}, declared.flag_and.FlagAnd.{FlagAnd}}
 use Rattle.ulfm_model.specs.declared.{event.Caller.{Caller}, step_name.StepName.{StepName}}
 use Rattle.ulfm_model.specs.{History.{History}, Records.{Record}}
-use Rattle.ulfm_words.specs.Steps.{Name, Sight}
+use Rattle.ulfm_words.specs.Steps.{Name, Over, Sight, over}
 use Rattle.ulfm_comm.specs.StepsLeft.{MakesStep}
 use Rattle.ulfm_trace_model.specs.{Follows.{AreOf, EndsInReply, NoneBy, steps_in}, Traces.{AreLegalAfter, Told, Traced, said_by}}
 use Rattle.ulfm_lines.specs.declared.step_machine.Reach.{Reach}
@@ -14,6 +15,10 @@ use Rattle.ulfm_stepping.specs.{Seats.{MayList, Seated, Sits, comm_in, call_step
 -- the ranks that have a seat, with flags as contributions
 abbrev pub FlagSeat : Type 0
 FlagSeat = Seated FlagAnd
+
+-- the words of this identity, with each flag as it is
+abbrev pub flag_words : Name → Over FlagAnd
+flag_words name = over (λ (flag : FlagAnd). flag.bits) name
 
 -- how many steps are left of the call under way, at most
 abbrev pub left_of : Name → FlagSeat → ℕ
@@ -27,7 +32,7 @@ KnowsGroup ranks h c (Some answer) own = MayList ranks (take answer.point h) c a
 -- a rank's call goes on by lines in its name, each of which may come, and the rank sits on, where this was said before
 pub record SitsOn (name : Name) (now : Traced FlagAnd) (piece : List (Told FlagAnd)) (after : Sight FlagAnd) (seat : FlagSeat) : Type 0 where
   pub legal : AreLegalAfter flag_meld now piece
-  pub sits : Sits flag_meld name (said_by now piece) after seat
+  pub sits : Sits flag_meld (flag_words name) (said_by now piece) after seat
 
 -- the names of the steps that a seat's call made, one after another
 abbrev pub MakesNamedSteps : List (Option StepName) → Sight FlagAnd → FlagSeat → Sight FlagAnd → FlagSeat → Type 0
@@ -50,7 +55,7 @@ abbrev pub stage : Sight FlagAnd → FlagSeat → List ℕ → Stage
 stage pass seat text = record { pass = pass; seat = seat; text = text }
 
 -- Steps of these names were made of a rank's call and told: lines in its name, no more looks and events than steps, none by a step of a name that none
--- of them has, and a reply at last where the call is over. They may come wherever the rank sits so.
+-- of them has, and a reply at last where the call is over. What the pass knew to be set it still knows. They may come wherever the rank sits so.
 pub record SeatWalks (name : Name) (names : List (Option StepName)) (old new : Stage) : Type 0 where
   pub piece : List (Told FlagAnd)
   pub told : new.text ≡ old.text ++ lines_text piece
@@ -61,7 +66,8 @@ pub record SeatWalks (name : Name) (names : List (Option StepName)) (old new : S
   pub ends : IsTrue (is_some old.seat.call) → new.seat.call ≡ None → EndsInReply piece
   pub number : new.seat.own.number ≡ old.seat.own.number
   pub onward : old.pass.steps ≤ new.pass.steps
-  pub goes : (now : Traced FlagAnd) → Sits flag_meld name now old.pass old.seat → SitsOn name now piece new.pass new.seat
+  pub keeps : IsPrefix old.pass.cached new.pass.cached
+  pub goes : (now : Traced FlagAnd) → Sits flag_meld (flag_words name) now old.pass old.seat → SitsOn name now piece new.pass new.seat
 
 -- Steps of a rank's call were made and told, as far as they are taken, and this was counted: no more than may be, and none that has the name before
 -- which they stop. The call is over then, or as far as is said.

@@ -3,14 +3,13 @@ ghost use Rattle.std.specs.Prelude.{◌≡◌, ◌++◌, ◌+◌, ◌*◌, ◌�
 ghost use Rattle.ulfm_laws.specs.{Flags.{flag_meld}, declared.flag_and.FlagAnd.{FlagAnd}};
 ghost use Rattle.ulfm_model.specs.Answers.{rank_of as caller_in, traits_of};
 ghost use Rattle.ulfm_model.specs.declared.{event.Caller.TheVariants.{Rank as OfRank}, reply.Reply.{Reply}};
-ghost use Rattle.ulfm_words.specs.Steps.{IsView};
-ghost use Rattle.ulfm_words.specs.Steps.{view_of};
+ghost use Rattle.ulfm_words.specs.Steps.{IsView, view_at};
 ghost use Rattle.ulfm_trace_model.specs.Traces.{Traced};
 ghost use Rattle.ulfm_trace_model.specs.declared.step_line.StepLine.TheVariants.{Called, Failed};
 ghost use Rattle.ulfm_lines.specs.declared.step_machine.Taken.TheVariants.{Run};
 ghost use Rattle.ulfm_lines.specs.Progress.{GoesAsSaid, GoesFar};
 ghost use Rattle.ulfm_lines.specs.{LineTexts.{lines_text}, StepLines.{IsByRank}, Stepped.{IsSpelledStep, TellsStep}, Walked.{TellsSteps}};
-ghost use Rattle.ulfm_seats.specs.{Lines.{BeginsCall}, Table.{OthersStay, SeatsStay, StandsFor, progress_of}};
+ghost use Rattle.ulfm_seats.specs.{Lines.{BeginsCall}, Table.{OthersStay, SeatsStay, StandsFor, progress_of}, Walks.{flag_words}};
 
 use crate::telling::{tell_begun, tell_declaration, tell_unknown};
 use crate::walks::walk_until;
@@ -30,16 +29,17 @@ fn begin_at<A: Allocator + Copy + Drop>(
     world: &World<PlainWords<FlagAnd>, FlagAnd, A>,
     pass: &PlainPass<FlagAnd, A>,
     asked: Call<FlagAnd>,
+    padded: bool,
     teller: &mut Teller<A>,
 ) -> Result<(), AllocError>
     requires mine { (traits_of asked).by ≡ OfRank seat.old.own.number }
     requires closed { seat.old.call ≡ None }
-    requires of { IsView flag_meld (view_of world.now pass.now) }
-    ensures { OnOk result (BeginsCall world.now asked pass.now seat.old teller.old.text.items seat.new teller.new.text.items) }
+    requires of { IsView flag_meld (view_at (flag_words world.now) pass.now) }
+    ensures { OnOk result (BeginsCall world.now asked padded pass.now seat.old teller.old.text.items seat.new teller.new.text.items) }
 {
     let rank = seat.number();
     let answer = seat.begin(world, pass, asked);
-    tell_begun(rank, asked, answer, teller)
+    tell_begun(rank, asked, padded, answer, teller)
 }
 
 // A rank begins a call, where the world has the rank, and it has none under way.
@@ -49,26 +49,27 @@ fn run_call<A: Allocator + Copy + Drop>(
     pass: &PlainPass<FlagAnd, A>,
     seats: &mut [Seat<FlagAnd, A>],
     asked: Call<FlagAnd>,
+    padded: bool,
     teller: &mut Teller<A>,
 ) -> Result<Taken, AllocError>
     requires by_rank { IsByRank asked }
     requires stands { (now : Traced FlagAnd) × StandsFor world.now pass.now seats.old now }
     ensures tells { (now : Traced FlagAnd) → StandsFor world.now pass.now seats.old now
-        → IfOk result (λ taken. TellsStep (StandsFor world.now pass.now seats.new) now (Called asked) taken
+        → IfOk result (λ taken. TellsStep (StandsFor world.now pass.now seats.new) now (Called asked padded) taken
         teller.old.text.items teller.new.text.items) }
     ensures stands { OnOk result ((next : Traced FlagAnd) × StandsFor world.now pass.now seats.new next) }
     ensures others { OthersStay (caller_in asked) seats.old seats.new }
 {
     let rank = rank_of(&asked);
     if rank as usize >= seats.len() {
-        tell_unknown(rank, asked, pass.count(), teller)?;
+        tell_unknown(rank, asked, padded, pass.count(), teller)?;
         return Ok(Taken::Run);
     }
     let seat = &mut seats[rank as usize];
     if seat.is_open() {
         return Ok(Taken::Open);
     }
-    begin_at(seat, world, pass, asked, teller)?;
+    begin_at(seat, world, pass, asked, padded, teller)?;
     Ok(Taken::Run)
 }
 
@@ -148,7 +149,9 @@ pub(crate) fn run_line<A: Allocator + Copy + Drop>(
     ensures others { OnOk result (SeatsStay step.now seats.old seats.new) }
 {
     match *step {
-        StepLine::Called(asked) => return run_call(world, pass, seats, asked, teller),
+        StepLine::Called { call, padded } => {
+            return run_call(world, pass, seats, call, padded, teller);
+        }
         StepLine::Failed { rank } => run_fail(world, pass, seats, rank, teller)?,
         StepLine::Stepped { rank, count } => {
             let reach = Reach {

@@ -106,12 +106,17 @@ pub(crate) fn tell_step<A: Allocator + Copy + Drop>(
 pub(crate) fn tell_begun<A: Allocator>(
     rank: u16,
     asked: Call<FlagAnd>,
+    padded: bool,
     answer: Option<Answer<FlagAnd>>,
     teller: &mut Teller<A>,
 ) -> Result<(), AllocError>
-    ensures { OnOk result (teller.new.text.items ≡ teller.old.text.items ++ lines_text (begun_piece rank asked answer)) }
+    ensures { OnOk result (teller.new.text.items ≡ teller.old.text.items ++ lines_text (begun_piece rank asked padded answer)) }
 {
-    teller.tell(&Line::Called(asked), &[])?;
+    let line = Line::Called {
+        call: asked,
+        padded,
+    };
+    teller.tell(&line, &[])?;
     tell_reply(rank, answer, &[], teller)
 }
 
@@ -119,14 +124,19 @@ pub(crate) fn tell_begun<A: Allocator>(
 pub(crate) fn tell_unknown<A: Allocator>(
     rank: u16,
     asked: Call<FlagAnd>,
+    padded: bool,
     point: u32,
     teller: &mut Teller<A>,
 ) -> Result<(), AllocError>
-    ensures { OnOk result (teller.new.text.items ≡ teller.old.text.items ++ lines_text (unknown_piece rank point asked)) }
+    ensures { OnOk result (teller.new.text.items ≡ teller.old.text.items ++ lines_text (unknown_piece rank point asked padded)) }
 {
     let by = Caller::Rank(rank);
     let reply = Some(Reply::Refused(Refusal::NoSuchRank));
-    teller.tell(&Line::Called(asked), &[])?;
+    let line = Line::Called {
+        call: asked,
+        padded,
+    };
+    teller.tell(&line, &[])?;
     teller.tell(&Line::Replied { by, point, reply }, &[])
 }
 
@@ -169,7 +179,11 @@ pub(crate) fn tell_declaration<A: Allocator>(
     ensures { OnOk result (teller.new.text.items ≡ teller.old.text.items ++ lines_text (fail_piece rank point (reply_of declared told))) }
 {
     let answer = reply_to(told);
-    teller.tell(&Line::Called(Call::Fail { rank }), &[])?;
+    let line = Line::Called {
+        call: Call::Fail { rank },
+        padded: false,
+    };
+    teller.tell(&line, &[])?;
     tell_declared(rank, answer, teller)?;
     let by = Caller::Outside;
     let reply = Some(answer);

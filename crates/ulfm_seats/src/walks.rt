@@ -1,13 +1,12 @@
 // Steps of one rank's call, and the lines that they tell.
 ghost use Rattle.std.specs.Prelude.{◌≡◌, ◌≢◌, ◌+◌, ◌<◌, ◌≤◌, ℕ, [], ◌∷◌, Some, false, is_some, IfOk, IsTrue, OnOk};
 ghost use Rattle.ulfm_laws.specs.{Flags.{flag_meld}, declared.flag_and.FlagAnd.{FlagAnd}};
-ghost use Rattle.ulfm_words.specs.Steps.{IsView};
-ghost use Rattle.ulfm_words.specs.Steps.{view_of};
+ghost use Rattle.ulfm_words.specs.Steps.{IsView, view_at};
 ghost use Rattle.ulfm_trace_model.specs.Traces.{Traced};
 ghost use Rattle.ulfm_model.specs.declared.step_name.StepName.{StepName as TheStep};
 ghost use Rattle.ulfm_stepping.specs.Seats.{Sits, next_in};
 ghost use Rattle.ulfm_lines.specs.Progress.{IsReached};
-ghost use Rattle.ulfm_seats.specs.Walks.{stage, SeatWalks, WalksUntil, left_of};
+ghost use Rattle.ulfm_seats.specs.Walks.{stage, flag_words, SeatWalks, WalksUntil, left_of};
 
 use crate::telling::tell_step;
 use std::alloc::{AllocError, Allocator};
@@ -27,10 +26,10 @@ fn walk_one<A: Allocator + Copy + Drop>(
     group: &mut Vec<u16, A>,
     teller: &mut Teller<A>,
 ) -> Result<(), AllocError>
-    requires of { IsView flag_meld (view_of world.now pass.old) }
-    requires sits { (now : Traced FlagAnd) × Sits flag_meld world.now now pass.old seat.old }
+    requires of { IsView flag_meld (view_at (flag_words world.now) pass.old) }
+    requires sits { (now : Traced FlagAnd) × Sits flag_meld (flag_words world.now) now pass.old seat.old }
     requires is_open { IsTrue (is_some seat.old.call) }
-    ensures of { IsView flag_meld (view_of world.now pass.new) }
+    ensures of { IsView flag_meld (view_at (flag_words world.now) pass.new) }
     ensures walks { OnOk result (SeatWalks world.now (next_in seat.old.call ∷ []) (stage pass.old seat.old teller.old.text.items)
         (stage pass.new seat.new teller.new.text.items)) }
     ensures step { OnOk result (pass.new.steps ≡ pass.old.steps + 1) }
@@ -70,9 +69,9 @@ pub(crate) fn walk_until<A: Allocator + Copy + Drop>(
     group: &mut Vec<u16, A>,
     teller: &mut Teller<A>,
 ) -> Result<u32, AllocError>
-    requires of { IsView flag_meld (view_of world.now pass.old) }
-    requires sits { (now : Traced FlagAnd) × Sits flag_meld world.now now pass.old seat.old }
-    ensures of { IsView flag_meld (view_of world.now pass.new) }
+    requires of { IsView flag_meld (view_at (flag_words world.now) pass.old) }
+    requires sits { (now : Traced FlagAnd) × Sits flag_meld (flag_words world.now) now pass.old seat.old }
+    ensures of { IsView flag_meld (view_at (flag_words world.now) pass.new) }
     ensures walks { IfOk result (λ made. WalksUntil reach made world.now (stage pass.old seat.old teller.old.text.items)
         (stage pass.new seat.new teller.new.text.items)) }
 {

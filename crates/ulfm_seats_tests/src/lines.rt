@@ -254,11 +254,12 @@ fn late_arrival(rt: HostRuntime) -> Result<(), Fail> {
     all(&rt, rt.alloc(), limits(2, 1, 2), &script)
 }
 
-// A look makes a load for each failure that wasn't seen before and one more, unless all have failed; a start makes one exchange.
+// A look makes a load for each failure that wasn't seen before and one more, unless all have failed; the start of an agree makes two exchanges, of
+// its wing and of its place.
 #[test]
 fn step_makes_so_many(rt: HostRuntime) -> Result<(), Fail> {
     let none: &[&str] = &[];
-    let script: [(&str, &[&str]); 14] = [
+    let script: [(&str, &[&str]); 15] = [
         (
             "fail 1",
             &["call fail 1", "event - fail 1", "reply - 1 declared"],
@@ -266,6 +267,7 @@ fn step_makes_so_many(rt: HostRuntime) -> Result<(), Fail> {
         ("call agree 0 0 00000001", &["call agree 0 0 00000001"]),
         ("step 0 1", none),
         ("step 0 1", &["look 0 1"]),
+        ("step 0 1", none),
         (
             "step 0 1",
             &[
@@ -316,6 +318,40 @@ fn before_stops_there(rt: HostRuntime) -> Result<(), Fail> {
     all(&rt, rt.alloc(), limits(2, 1, 2), &script)
 }
 
+// Exchanges and loads of wings tell nothing, and have a name.
+#[test]
+fn wings_tell_nothing(rt: HostRuntime) -> Result<(), Fail> {
+    let none: &[&str] = &[];
+    let script: [(&str, &[&str]); 11] = [
+        (
+            "call agree 0 0 ffffffff0000000f",
+            &["call agree 0 0 ffffffff0000000f"],
+        ),
+        ("before 0 wing", &["look 0 0"]),
+        ("step 0 1", none),
+        ("before 0 settle", none),
+        (
+            "finish 0",
+            &[
+                "event 0 settle 0 0 0 flag ffffffff0000000f known 0 acked 0",
+                "reply 0 1 started",
+            ],
+        ),
+        ("call poll 0 0", &["call poll 0 0"]),
+        // It stops behind the load of the slot.
+        ("before 0 wing", &["look 0 0"]),
+        ("step 0 1", none),
+        // The block's wing is set before the block.
+        ("before 0 wing", none),
+        ("before 0 cache", none),
+        (
+            "step 0 1",
+            &["reply 0 1 agreed ffffffff0000000f failed 0 clean"],
+        ),
+    ];
+    all(&rt, rt.alloc(), limits(1, 1, 2), &script)
+}
+
 // The poll of a shrink marks, reads the round, and makes its communicator at the first empty place.
 #[test]
 fn shrinks_step_by_step(rt: HostRuntime) -> Result<(), Fail> {
@@ -330,7 +366,7 @@ fn shrinks_step_by_step(rt: HostRuntime) -> Result<(), Fail> {
             "finish 0",
             &[
                 "look 0 1",
-                "event 0 settle 0 0 0 ctx fffffffe known 1 acked 0",
+                "event 0 settle 0 0 0 ctx fffffffffffffffe known 1 acked 0",
                 "reply 0 2 started",
             ],
         ),
@@ -339,7 +375,7 @@ fn shrinks_step_by_step(rt: HostRuntime) -> Result<(), Fail> {
             "finish 1",
             &[
                 "look 1 1",
-                "event 1 settle 0 0 1 ctx fffffffe known 1 acked 0",
+                "event 1 settle 0 0 1 ctx fffffffffffffffe known 1 acked 0",
                 "reply 1 3 started",
             ],
         ),

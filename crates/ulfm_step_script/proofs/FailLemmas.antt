@@ -29,7 +29,7 @@ ranks_fewer (told ∷ rest) = go told.line (ranks_fewer rest)
   where
     go : (line : Line FlagAnd) → ranks_events rest ≤ steps_in rest
         → ranks_event line + ranks_events rest ≤ length (if takes_step line then told ∷ filter (λ (t : Told FlagAnd). takes_step t.line) rest else filter (λ (t : Told FlagAnd). takes_step t.line) rest)
-    go (Line.Called asked) less = omega (arith, less)
+    go (Line.Called asked padded) less = omega (arith, less)
     go (Line.Looked r count) less = omega (arith, less)
     go (Line.Happened Caller.Outside None) less = omega (arith, less)
     go (Line.Happened Caller.Outside (Some event)) less = omega (arith, less)
@@ -44,7 +44,7 @@ reply_room now by point reply None = omega arith
 reply_room now by point reply (Some u) = omega arith
 
 line_room : (now : TraceState) (line : Line FlagAnd) → ranks_event line + length now.history ≤ length (after now line).history
-line_room now (Line.Called asked) = omega arith
+line_room now (Line.Called asked padded) = omega arith
 line_room now (Line.Looked r count) = omega arith
 line_room now (Line.Happened Caller.Outside None) = omega arith
 line_room now (Line.Happened (Caller.Rank r) None) = omega arith
@@ -71,11 +71,11 @@ failed_events now r piece is = ap ranks_events is.2 ∙ go is.1
     go _ = refl
 
 -- nor a call that begins
-pub called_events : (now : TraceState) (asked : Call FlagAnd) (piece : Lines) → IsPiece now (Called asked) piece → ranks_events piece ≡ 0
-called_events now asked piece is = let none = go is.2 in ap ranks_events is.1 ∙ omega (arith, none)
+pub called_events : (now : TraceState) (asked : Call FlagAnd) (padded : Bool) (piece : Lines) → IsPiece now (Called asked padded) piece → ranks_events piece ≡ 0
+called_events now asked padded piece is = let none = go is.2 in ap ranks_events is.1 ∙ omega (arith, none)
   where
     reply_event : (line : Line FlagAnd) → is_reply line ≡ true → ranks_event line ≡ 0
-    reply_event (Line.Called asked) is = absurd (cc is)
+    reply_event (Line.Called asked padded) is = absurd (cc is)
     reply_event (Line.Looked r count) is = absurd (cc is)
     reply_event (Line.Happened by event) is = absurd (cc is)
     reply_event (Line.Replied by point reply) is = refl
@@ -121,7 +121,7 @@ still_open limits plan false steps trace rest l q is = open_with limits plan.ran
 -- the piece of a line that is taken at what is said with the declaration is one at what is said without it
 piece_without : (limits : Limits) (plan : Failing) (waits : Bool) (steps : ℕ) (trace rest : Lines) → LeavesSoFar limits plan waits steps trace rest
     → (step : ScriptStep) (piece : Lines) → IsPiece (said_by (nothing limits) trace) step piece → IsPiece (said_by (nothing limits) rest) step piece
-piece_without limits plan waits steps trace rest l (Called asked) piece is = is
+piece_without limits plan waits steps trace rest l (Called asked padded) piece is = is
 piece_without limits plan waits steps trace rest l (Stepped q count) piece is = is
 piece_without limits plan waits steps trace rest l (Before q name) piece is = is
 piece_without limits plan waits steps trace rest l (Finished q) piece is = (is.0, λ was. is.1 (still_open limits plan waits steps trace rest l q was))
@@ -322,7 +322,7 @@ pub declared_by : (was : EngineState) (After : TraceState → Type 0) (limits : 
     → was.plan.at ≤ was.made → was.waits ≡ true → (taken : Taken) (new : List ℕ)
     → TellsStep After (said_by (nothing limits) trace) (Failed was.plan.rank) taken was.text new → DeclaresIfDue was (declared was After new) limits trace rest true
 declared_by was After limits trace rest at due is Run new t = stands_declared was After limits trace rest at due is new t
-declared_by was After limits trace rest at due is IsOpenStill new t = absurd (cc t.0.1)
+declared_by was After limits trace rest at due is IsOpenStill new t = absurd (cc t.0.1.1)
 
 -- a line of the script that makes no step was run, or couldn't be
 pub took_other : {E : Type 0} (was : EngineState) (After : TraceState → Type 0) (limits : Limits) (trace rest : Lines)
@@ -603,9 +603,10 @@ module _ (plan : Failing) (was own : EngineState) (before : RunSoFar failing_scr
       let found : (behind : List ScriptStep) → FindsOpenBehind before.limits (lines ++ step ∷ behind) (length lines + 2) Open before.out = λ behind. record {
         first = lines;
         asked = is.0;
+        padded = is.1.0;
         behind = behind;
         kind_is = refl;
-        lines_are = ap (λ (s : ScriptStep). lines ++ s ∷ behind) is.1;
+        lines_are = ap (λ (s : ScriptStep). lines ++ s ∷ behind) is.1.1;
         number_is = refl;
         at = was.plan.at;
         r = was.plan.rank;

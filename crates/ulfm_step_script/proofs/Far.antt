@@ -1,5 +1,5 @@
 -- How far a script's line takes a call, with the declaration in between.
-use Rattle.std.proofs.Common.{◌≡◌, ◌≢◌, ℕ, ◌+◌, ◌-◌, ◌≤◌, option_map, Option, Some, None, Result, Ok, Err, refl, ap, sym, ◌∙◌, subst, arith, inl, inr}
+use Rattle.std.proofs.Common.{◌≡◌, ◌≢◌, ℕ, ◌+◌, ◌-◌, ◌≤◌, Bool, option_map, Option, Some, None, Result, Ok, Err, refl, ap, sym, ◌∙◌, subst, arith, inl, inr}
 use Rattle.std.specs.Prelude.{◌⊎◌, OnOk, min}
 use Rattle.std.proofs.Math.Nat.{add-zero}
 use Rattle.ulfm_laws.specs.declared.flag_and.FlagAnd.{FlagAnd}
@@ -80,11 +80,11 @@ pub counts_walk : (was now : Progress) (q : ℕ) (reach : Reach) (old n sum : �
 counts_walk was now q reach old n sum g all = (g.count, g.steps, λ steps is. made_on steps g.count n old sum is g.counted all)
 
 -- a line whose call begins makes none
-pub counts_called : {E : Type 0} (was now : Progress) (made : ℕ) (asked : Call FlagAnd) (result : Result Taken E) → OnOk result (GoesAsSaid was now (Called asked))
-    → OnOk result (CountsAsSaid was now made made (Called asked))
-counts_called was now made asked (Ok taken) same =
+pub counts_called : {E : Type 0} (was now : Progress) (made : ℕ) (asked : Call FlagAnd) (padded : Bool) (result : Result Taken E) → OnOk result (GoesAsSaid was now (Called asked padded))
+    → OnOk result (CountsAsSaid was now made made (Called asked padded))
+counts_called was now made asked padded (Ok taken) same =
     (0, same ∙ sym (add-zero was.steps), λ steps is. subst (λ n. IsCountOf n made) (sym (add-zero steps)) is)
-counts_called was now made asked (Err fault) same = tt
+counts_called was now made asked padded (Err fault) same = tt
 
 -- of one that declares a rank none is counted
 pub counts_failed : {E : Type 0} (was now : Progress) (made r : ℕ) (result : Result Taken E) → OnOk result (CountsAsSaid was now made made (Failed r))

@@ -60,8 +60,9 @@ finds_open Before before line step h e is =
       record {
         first = lines;
         asked = is.0;
+        padded = is.1.0;
         behind = behind;
-        lines_are = ap (λ (s : ScriptStep). lines ++ s ∷ behind) is.1;
+        lines_are = ap (λ (s : ScriptStep). lines ++ s ∷ behind) is.1.1;
         number_is = refl;
         now = h.1;
         runs = h.2;

@@ -73,9 +73,10 @@ FailsSomewhere limits lines out = (at r number : ℕ) × (r < 1024) × FailsAfte
 pub record FindsOpenBehind (limits : Limits) (lines : List ScriptStep) (number : ℕ) (kind : LineKind) (out : List ℕ) : Type 0 where
   pub first : List ScriptStep
   pub asked : Call FlagAnd
+  pub padded : Bool
   pub behind : List ScriptStep
   pub kind_is : kind ≡ Open
-  pub lines_are : lines ≡ first ++ Called asked ∷ behind
+  pub lines_are : lines ≡ first ++ Called asked padded ∷ behind
   pub number_is : number ≡ length first + 2
   pub at : ℕ
   pub r : ℕ

@@ -155,7 +155,7 @@ impl<M: StepMachine<A>, A: Allocator + Copy> FailingLines<M, A> {
                 let name = None;
                 self.walk(rank, Reach { most: None, name })?;
             }
-            StepLine::Called(_) => return self.machine.run(step, &mut self.teller),
+            StepLine::Called { .. } => return self.machine.run(step, &mut self.teller),
             StepLine::Failed { .. } => return self.machine.run(step, &mut self.teller),
         }
         Ok(Taken::Run)

@@ -2,7 +2,7 @@
 use Rattle.std.proofs.Common.{◌≡◌, Bool, true, false, List, [], ◌∷◌, ◌++◌, length, find, take, Some, None, refl, ap, sym, ◌∙◌, subst, arith, inl, if◌then◌else◌}
 use Rattle.ulfm_model.specs.declared.{call.Call.{Call}, event.Caller.TheVariants.{Rank}, refusal.Refusal.TheVariants.{SelfFailed}, reply.Reply.{Reply}, reply.Reply.TheVariants.{Refused}}
 use Rattle.ulfm_model.specs.{Answers.{comm_of, traits_of}, Records.{Record}}
-use Rattle.ulfm_words.specs.Steps.{view_of, Name, Sight}
+use Rattle.ulfm_words.specs.Steps.{Sight, Over, view_at}
 use Rattle.ulfm_comm.specs.Phase.{Stands, UnderWay, is_looking}
 use Rattle.ulfm_comm.specs.declared.phases.phase.{Phase.TheVariants.{Begun}}
 use Rattle.ulfm_comm.specs.Local.{local}
@@ -22,21 +22,21 @@ find_push {X} p (y ∷ ys) x none is = go (p y) none (λ more. find_push p ys x 
     go true none more = absurd (cc none)
     go false none more = more none
 
-module _ {P : Type 0} (meld : P → P → P) (name : Name) (now : Traced P) (pass : Sight P) (own : Record) (idle : IsIdle meld name now pass own) (asked : Call P) (mine : (traits_of asked).by ≡ Rank own.number) where
+module _ {P : Type 0} (meld : P → P → P) (name : Over P) (now : Traced P) (pass : Sight P) (own : Record) (idle : IsIdle meld name now pass own) (asked : Call P) (mine : (traits_of asked).by ≡ Rank own.number) where
   abbrev told : Traced P
-  told = after now (Called asked)
+  told = after now (Called asked false)
 
   abbrev u : Under P
   u = record { asked = asked; begun = length now.history; look = None; own = [] }
 
-  pub may_call : MayCome meld now [] (Called asked)
+  pub may_call : MayCome meld now [] (Called asked false)
   may_call = ap (call_by now) mine ∙ idle.free
 
   call_is : call_by told (Rank own.number) ≡ Some u
   call_is = find_push (λ (v : Under P). same_caller (traits_of v.asked).by (Rank own.number)) now.calls u idle.free (ap (λ by. same_caller by (Rank own.number)) mine ∙ same_rank own.number)
 
   -- it looks next
-  pub begun : (doing : UnderWay P) → doing.asked ≡ asked → own.refused ≡ false → doing.phase ≡ Begun → Stands meld false (local own (view_of name pass)) doing (local own (view_of name pass)) → HasBegun meld name told pass own doing
+  pub begun : (doing : UnderWay P) → doing.asked ≡ asked → own.refused ≡ false → doing.phase ≡ Begun → Stands meld false (local own (view_at name pass)) doing (local own (view_at name pass)) → HasBegun meld name told pass own doing
   begun doing asked_is in_use phase stands =
       record {
         limits = idle.limits;

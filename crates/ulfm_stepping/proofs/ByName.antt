@@ -6,10 +6,10 @@ use Rattle.ulfm_model.specs.declared.{call.Call.{Call}, call.Request.{Request}, 
 use Rattle.ulfm_model.specs.declared.step_name.StepName.TheVariants as step
 use Rattle.ulfm_model.specs.declared.step_name.StepName.{StepName}
 use Rattle.ulfm_model.specs.{Answers.{CallAdds, PollAdds}, History.{History, entries_by}, Records.{Held, Record}, Runs.{Did}}
-use Rattle.ulfm_words.specs.Steps.{view_of, Name, Sight}
+use Rattle.ulfm_words.specs.Steps.{Sight, Over as Named, view_at}
 use Rattle.ulfm_words.proofs.Trails.{did_quiet}
 use Rattle.ulfm_comm.specs.{Exchange.{StartsWith}, Phase.{StandsAt, is_looking, next_step}, Step.{Adds, Makes, StepAdds}}
-use Rattle.ulfm_comm.specs.declared.phases.phase.{Phase.{Phase}, Phase.TheVariants.{Over, Begun, Looking, Settling, Arriving, Revoking, Asking, Peeking, Marking, Reading, ReadingOn, Spawning, Waiting, Checking}}
+use Rattle.ulfm_comm.specs.declared.phases.phase.{Phase.{Phase}, Phase.TheVariants.{Over, Begun, Looking, Spreading, Settling, Arriving, Revoking, Asking, Peeking, Marking, Reading, ReadingOn, Spawning, Waiting, Checking}}
 use Rattle.ulfm_comm.specs.Local.{local}
 use Rattle.ulfm_trace_model.specs.Follows.{step_of}
 use Rattle.ulfm_stepping.proofs.{ByPhase.{in_look}, Stepped.{did_is}}
@@ -80,10 +80,10 @@ pub look_named : {P : Type 0} (phase : Phase P) → is_looking phase ≡ true �
 look_named {P} = in_look (λ (phase : Phase P). next_step phase ≡ Some step.List) refl refl
 
 -- the event of a step is told by the one that the call makes next, where it says by which
-module _ {P : Type 0} (meld : P → P → P) (name : Name) (asked : Call P) (old : Record) (before : Sight P) (group : List ℕ) (was : Record) (stood : Sight P) (own : Record) (reply : Option (Reply P)) (x y : History P) (event : Event P)
+module _ {P : Type 0} (meld : P → P → P) (name : Named P) (asked : Call P) (old : Record) (before : Sight P) (group : List ℕ) (was : Record) (stood : Sight P) (own : Record) (reply : Option (Reply P)) (x y : History P) (event : Event P)
     (added : x ++ record { by = Rank own.number; event = event } ∷ [] ≡ y) (n : StepName) (is : step_of event ≡ Some n) where
   abbrev Here : Phase P → Type 0
-  Here phase = StandsAt meld false asked (local old (view_of name before)) phase group (local was (view_of name stood))
+  Here phase = StandsAt meld false asked (local old (view_at name before)) phase group (local was (view_at name stood))
 
   quiet : (phase : Phase P) → Did true [] x y → next_step phase ≡ Some n
   quiet phase did = absurd (none_came (record { by = Rank own.number; event = event }) x y added (did_quiet true x y did refl))
@@ -95,6 +95,7 @@ module _ {P : Type 0} (meld : P → P → P) (name : Name) (asked : Call P) (old
   event_named Over at did = quiet Over did
   event_named Begun at did = quiet Begun did
   event_named Looking at did = quiet Looking did
+  event_named (Spreading request offer) at did = quiet (Spreading request offer) did
   event_named (Settling request offer) at adds =
       let m = made own.seen adds in started old at.0.x m.x request offer own.seen own.number event asked at.1 m.adds ∙ is
   event_named (Arriving round) at adds =

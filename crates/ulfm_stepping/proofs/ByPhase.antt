@@ -5,7 +5,7 @@ use Rattle.ulfm_model.specs.{History.{History}, Records.{Record}}
 use Rattle.ulfm_model.specs.Records.{moment}
 use Rattle.ulfm_steps.specs.declared.arrivals.Missing.{Missing}
 use Rattle.ulfm_comm.specs.Phase.{is_looking}
-use Rattle.ulfm_comm.specs.declared.phases.phase.{Phase.{Phase}, Phase.TheVariants.{Over, Begun, Looking, Settling, Arriving, Revoking, Asking, Peeking, Marking, Reading, ReadingOn, Spawning, Waiting, Checking}}
+use Rattle.ulfm_comm.specs.declared.phases.phase.{Phase.{Phase}, Phase.TheVariants.{Over, Begun, Looking, Spreading, Settling, Arriving, Revoking, Asking, Peeking, Marking, Reading, ReadingOn, Spawning, Waiting, Checking}}
 use Rattle.ulfm_stepping.specs.Stepping.{FoundAt}
 
 -- what holds when a call has begun and when it looks holds all through its look
@@ -13,6 +13,7 @@ pub in_look : {P : Type 0} (Holds : Phase P → Type 0) → Holds Begun → Hold
 in_look Holds begun looks Begun looking = begun
 in_look Holds begun looks Looking looking = looks
 in_look Holds begun looks Over looking = absurd (cc looking)
+in_look Holds begun looks (Spreading request offer) looking = absurd (cc looking)
 in_look Holds begun looks (Settling request offer) looking = absurd (cc looking)
 in_look Holds begun looks (Arriving round) looking = absurd (cc looking)
 in_look Holds begun looks Revoking looking = absurd (cc looking)
@@ -33,6 +34,7 @@ module _ {P : Type 0} (Given : Phase P → Type 0) (meld : P → P → P) (limit
   found_by_check Over given = tt
   found_by_check Begun given = tt
   found_by_check Looking given = tt
+  found_by_check (Spreading request offer) given = tt
   found_by_check (Settling request offer) given = tt
   found_by_check (Arriving round) given = tt
   found_by_check Revoking given = tt

@@ -8,7 +8,7 @@ use Rattle.ulfm_model.specs.declared.reply.Reply.TheVariants as reply_of
 use Rattle.ulfm_model.specs.{Answers.{IsReply, IsSelfFailed, closed, comm_of, left_by}, History.{History, failures, members}, Records.{Fits, Held, Record, held_at, new_held}}
 use Rattle.ulfm_model.proofs.{Histories.{failures_begin}, LeftRuns.{left_keeps}, Lists.{find_holds}}
 use Rattle.ulfm_model.specs.Records.{moment}
-use Rattle.ulfm_words.specs.Steps.{Name, Sight}
+use Rattle.ulfm_words.specs.Steps.{Sight, Over}
 use Rattle.ulfm_comm.specs.Ends.{IsEndRun}
 use Rattle.ulfm_comm.proofs.ReplyKinds.{answered_on, counted_seen}
 use Rattle.ulfm_trace_model.specs.declared.line.Line.TheVariants.{Replied}
@@ -112,10 +112,10 @@ lists_none ranks h c reply_of.Freed own early = tt
 lists_none ranks h c (reply_of.Refused refusal) own early = tt
 
 -- The judge's test of a reply holds at `at`, of which the pass has seen more, `later`; the look was made at `start`. Then its line may come.
-module _ {P : Type 0} (meld : P → P → P) (name : Name) (t : Traced P) (after_it : Sight P) (r : ℕ) (old : Record) (seen : List ℕ) (u : Under P) (asked : Call P) (start at rest later : History P) (reply : Reply P) (new : Record)
+module _ {P : Type 0} (meld : P → P → P) (name : Over P) (t : Traced P) (after_it : Sight P) (r : ℕ) (old : Record) (seen : List ℕ) (u : Under P) (asked : Call P) (start at rest later : History P) (reply : Reply P) (new : Record)
     (limits_t : t.limits ≡ name.limits) (history_t : t.history ≡ after_it.seen) (call_t : call_by t (Rank r) ≡ Some u) (record_t : record_in t r ≡ Some (reseen old seen)) (number : r ≡ old.number) (in_use : IsFalse old.refused)
     (asked_t : u.asked ≡ asked) (begun_t : u.begun ≤ length start) (look_t : u.look ≡ Some (length (failures start))) (since : start ++ rest ≡ at) (goes_on : at ++ later ≡ after_it.seen)
-    (answers : IsSelfFailed (record { look = failures start; history = at; own = u.own }) old asked reply ⊎ IsReply meld name.limits (record { look = failures start; history = at; own = u.own }) old asked reply)
+    (answers : IsSelfFailed (record { look = failures start; history = at; own = u.own; spread = true }) old asked reply ⊎ IsReply meld name.limits (record { look = failures start; history = at; own = u.own; spread = true }) old asked reply)
     (ended : IsEndRun meld name.limits false (moment old start) asked reply (moment new at)) (fits : Fits meld name.limits after_it.seen new) (list : MayList name.limits.ranks at (comm_of asked) reply new) where
   at_point : take (length at) after_it.seen ≡ at
   at_point = ap (take (length at)) (sym goes_on) ∙ take-append_seam at later
@@ -136,8 +136,8 @@ module _ {P : Type 0} (meld : P → P → P) (name : Name) (t : Traced P) (after
 
   may : MayCome meld t (listed name.limits.ranks (take (length at) after_it.seen) (comm_of asked) reply) (Replied (Rank r) (length at) (Some reply))
   may =
-      let again = answer_reseen meld name.limits (record { look = failures start; history = at; own = u.own }) old seen asked reply answers in
-      let there : IsSelfFailed (record { look = found_by t u; history = take (length at) t.history; own = u.own }) (reseen old seen) u.asked reply ⊎ IsReply meld t.limits (record { look = found_by t u; history = take (length at) t.history; own = u.own }) (reseen old seen) u.asked reply =
+      let again = answer_reseen meld name.limits (record { look = failures start; history = at; own = u.own; spread = true }) old seen asked reply answers in
+      let there : IsSelfFailed (record { look = found_by t u; history = take (length at) t.history; own = u.own; spread = true }) (reseen old seen) u.asked reply ⊎ IsReply meld t.limits (record { look = found_by t u; history = take (length at) t.history; own = u.own; spread = true }) (reseen old seen) u.asked reply =
       rw (asked_t, limits_t, found, whole) again in
       let one = ap length since in
       let two = ap length goes_on in

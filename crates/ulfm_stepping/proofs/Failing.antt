@@ -5,20 +5,20 @@ use Rattle.std.proofs.lemmas.Bool.{eq-eqb}
 use Rattle.ulfm_model.specs.declared.{call.Call.{Call}, event.Caller.{Caller}, event.Event.{Event}, refusal.Refusal.{Refusal}, reply.Reply.{Reply}}
 use Rattle.ulfm_model.specs.{Answers.{AnswersFail}, History.{History, IsLegal, MayFollow, entries_by, failures, has}, Terms.{rests_on}}
 use Rattle.ulfm_model.proofs.Histories.{legal_parts}
-use Rattle.ulfm_words.specs.Steps.{view_of, Name, Sight}
+use Rattle.ulfm_words.specs.Steps.{Sight, Over, view_at}
 use Rattle.ulfm_comm.specs.Fails.{Fails}
 use Rattle.ulfm_trace_model.specs.declared.{line.Line.{Line}, step_line.StepLine.{StepLine}}
-use Rattle.ulfm_trace_model.specs.{Follows.{Runs, fail_piece}, Traces.{MayCome, Traced, Under, after, after_reply, call_by, caller_of, is_owned, listed, said_by, same_caller, view_at, with_event}}
+use Rattle.ulfm_trace_model.specs.{Follows.{Runs, fail_piece}, Traces.{MayCome, Traced, Under, after, after_reply, call_by, caller_of, is_owned, listed, said_by, same_caller, view_at as point_at, with_event}}
 use Rattle.ulfm_trace_model.proofs.Callers.{find_change}
 use Rattle.ulfm_stepping.specs.Failing.{TellsFail}
 use Rattle.ulfm_stepping.proofs.Beginning.{find_push}
 
-module _ {P : Type 0} (meld : P → P → P) (name : Name) (r : ℕ) (old new : Sight P) (now : Traced P) (limits : now.limits ≡ name.limits) (history : now.history ≡ old.seen) (free : call_by now Caller.Outside ≡ None) where
+module _ {P : Type 0} (meld : P → P → P) (name : Over P) (r : ℕ) (old new : Sight P) (now : Traced P) (limits : now.limits ≡ name.limits) (history : now.history ≡ old.seen) (free : call_by now Caller.Outside ≡ None) where
   abbrev u : Under P
   u = record { asked = Call.Fail r; begun = length now.history; look = None; own = [] }
 
   abbrev begun : Traced P
-  begun = after now (Line.Called (Call.Fail r))
+  begun = after now (Line.Called (Call.Fail r) false)
 
   call_is : call_by begun Caller.Outside ≡ Some u
   call_is = find_push (λ (v : Under P). same_caller (caller_of v) Caller.Outside) now.calls u free refl
@@ -81,7 +81,7 @@ module _ {P : Type 0} (meld : P → P → P) (name : Name) (r : ℕ) (old new : 
     history_same : now.history ≡ new.seen
     history_same = history ∙ sym same
 
-    may_answer : (reply : Reply P) → AnswersFail begun.limits (view_at begun u (length new.seen)) r reply → [] ≡ listed now.limits.ranks (take (length new.seen) now.history) 0 reply
+    may_answer : (reply : Reply P) → AnswersFail begun.limits (point_at begun u (length new.seen)) r reply → [] ≡ listed now.limits.ranks (take (length new.seen) now.history) 0 reply
         → MayCome meld begun [] (Line.Replied Caller.Outside (length new.seen) (Some reply))
     may_answer reply answers lists =
         let as_long : length now.history ≡ length new.seen = ap length history_same in
@@ -93,7 +93,7 @@ module _ {P : Type 0} (meld : P → P → P) (name : Name) (r : ℕ) (old new : 
     pub runs_already : IsTrue (has (failures new.seen) r) → Tells Reply.AlreadyFailed
     runs_already is_declared =
         let whole : take (length new.seen) now.history ≡ new.seen = ap (take (length new.seen)) history_same ∙ take-length new.seen in
-        let answers : AnswersFail begun.limits (view_at begun u (length new.seen)) r Reply.AlreadyFailed = inr (inl (refl, refl, subst (λ h. IsTrue (has (failures h) r)) (sym whole) is_declared)) in (
+        let answers : AnswersFail begun.limits (point_at begun u (length new.seen)) r Reply.AlreadyFailed = inr (inl (refl, refl, subst (λ h. IsTrue (has (failures h) r)) (sym whole) is_declared)) in (
           record {
             legal = (free, (may_answer Reply.AlreadyFailed answers refl, tt));
             follows = (fail_piece r (length new.seen) Reply.AlreadyFailed, [], refl, (length new.seen, Reply.AlreadyFailed, refl), refl);
@@ -104,7 +104,7 @@ module _ {P : Type 0} (meld : P → P → P) (name : Name) (r : ℕ) (old new : 
 
     pub runs_unknown : name.limits.ranks ≤ r → Tells (Reply.Refused Refusal.NoSuchRank)
     runs_unknown out =
-        let answers : AnswersFail begun.limits (view_at begun u (length new.seen)) r (Reply.Refused Refusal.NoSuchRank) = inr (inr (refl, refl, subst (λ l. l.ranks ≤ r) (sym limits) out)) in (
+        let answers : AnswersFail begun.limits (point_at begun u (length new.seen)) r (Reply.Refused Refusal.NoSuchRank) = inr (inr (refl, refl, subst (λ l. l.ranks ≤ r) (sym limits) out)) in (
           record {
             legal = (free, (may_answer (Reply.Refused Refusal.NoSuchRank) answers refl, tt));
             follows = (fail_piece r (length new.seen) (Reply.Refused Refusal.NoSuchRank), [], refl, (length new.seen, Reply.Refused Refusal.NoSuchRank, refl), refl);
@@ -113,7 +113,7 @@ module _ {P : Type 0} (meld : P → P → P) (name : Name) (r : ℕ) (old new : 
           history_left (Reply.Refused Refusal.NoSuchRank),
         )
 
-module _ {P : Type 0} (meld : P → P → P) (name : Name) (r : ℕ) (old : Sight P) (reply : Reply P) (new : Sight P) (fails : Fails meld true r (view_of name old) reply (view_of name new)) where
+module _ {P : Type 0} (meld : P → P → P) (name : Over P) (r : ℕ) (old : Sight P) (reply : Reply P) (new : Sight P) (fails : Fails meld true r (view_at name old) reply (view_at name new)) where
   abbrev so_far : List (Event P) → History P
   so_far own = old.seen ++ entries_by Caller.Outside own
 
@@ -138,5 +138,5 @@ module _ {P : Type 0} (meld : P → P → P) (name : Name) (r : ℕ) (old : Sigh
     by_answer (inr (inr (is, own, out))) =
         subst (Tells meld name r old new now limits history free) (sym is) (runs_unknown meld name r old new now limits history free (nothing_added own) out)
 
-pub tells_fail : {P : Type 0} (meld : P → P → P) (name : Name) (r : ℕ) (old : Sight P) (reply : Reply P) (new : Sight P) → Fails meld true r (view_of name old) reply (view_of name new) → TellsFail meld r (view_of name old) reply (view_of name new)
+pub tells_fail : {P : Type 0} (meld : P → P → P) (name : Over P) (r : ℕ) (old : Sight P) (reply : Reply P) (new : Sight P) → Fails meld true r (view_at name old) reply (view_at name new) → TellsFail meld r (view_at name old) reply (view_at name new)
 tells_fail meld name r old reply new fails = λ now limits history free. by_answer meld name r old reply new fails now limits history free fails.run.answer

@@ -7,12 +7,12 @@ use Rattle.ulfm_model.specs.{Answers.{first_refusal, refusal_of, refusal_on}, Hi
 use Rattle.ulfm_model.specs.Terms.{comm_of}
 use Rattle.ulfm_model.proofs.{Histories.{failures_begin}, Lists.{prefix_trans}, Stable.{fits_stays}}
 use Rattle.ulfm_model.specs.Records.{moment}
-use Rattle.ulfm_words.specs.Steps.{view_of, IsView, Name, Sight}
+use Rattle.ulfm_words.specs.Steps.{IsView, Sight, Over as Named, view_at}
 use Rattle.ulfm_words.proofs.Trails.{did_none, did_prefix}
 use Rattle.ulfm_laws.specs.declared.ctx_mask.CtxMask.{CtxMask}
 use Rattle.ulfm_comm.specs.{Look.{HasLooked, Looked as HasFound}, Spawning.{HasReadMask}}
 use Rattle.ulfm_comm.specs.Phase.{Stands, StandsAt, UnderWay, is_looking}
-use Rattle.ulfm_comm.specs.declared.phases.phase.{Phase.{Phase}, Phase.TheVariants.{Over, Begun, Looking, Settling, Arriving, Revoking, Asking, Peeking, Marking, Reading, ReadingOn, Spawning, Waiting, Checking}}
+use Rattle.ulfm_comm.specs.declared.phases.phase.{Phase.{Phase}, Phase.TheVariants.{Over, Begun, Looking, Spreading, Settling, Arriving, Revoking, Asking, Peeking, Marking, Reading, ReadingOn, Spawning, Waiting, Checking}}
 use Rattle.ulfm_comm.proofs.{Polls.{not_refused}, WholeCall.{held_before}}
 use Rattle.ulfm_comm.specs.Local.{frame, local}
 use Rattle.ulfm_comm.specs.Spawning.{decided_as}
@@ -49,7 +49,7 @@ poll_passes : (P : Type 0) (old : Record) (c : ℕ) (x : Held) (request : Reques
 poll_passes P old c x request held open_is =
     ap (λ w. refusal_on {P = P} old w (call.Poll old.number c)) held ∙ ap (λ r. first_refusal ((not (is_some r), Idle) ∷ [])) open_is
 
-module _ {P : Type 0} (meld : P → P → P) (name : Name) (asked : Call P) (old : Record) (before : Sight P) (group : List ℕ) (own : Record) (now : Sight P) (in_use : IsFalse old.refused) where
+module _ {P : Type 0} (meld : P → P → P) (name : Named P) (asked : Call P) (old : Record) (before : Sight P) (group : List ℕ) (own : Record) (now : Sight P) (in_use : IsFalse old.refused) where
   -- where exactly what the look found was seen
   just_found : (look : History P) → IsPrefix before.seen look → IsPrefix look now.seen → own ≡ record old { seen = failures look } → IsFalse (has (failures look) old.number) → refusal_of old asked ≡ None → Found asked old own before.seen now.seen
   just_found look begins ends record_is not_declared not_refused =
@@ -91,10 +91,11 @@ module _ {P : Type 0} (meld : P → P → P) (name : Name) (asked : Call P) (old
   looked_found : (p : HasLooked (frame meld name.limits false) asked (moment old before.seen) (moment own now.seen)) → Found asked old own before.seen now.seen
   looked_found l = just_found l.look (did_prefix false [] before.seen l.look l.looked.did) (did_prefix false [] l.look now.seen l.waited) l.looked.record_is l.looked.not_declared l.passed
 
-  pub found_by_phase : (phase : Phase P) → is_looking phase ≡ false → StandsAt meld false asked (local old (view_of name before)) phase group (local own (view_of name now)) → Found asked old own before.seen now.seen
+  pub found_by_phase : (phase : Phase P) → is_looking phase ≡ false → StandsAt meld false asked (local old (view_at name before)) phase group (local own (view_at name now)) → Found asked old own before.seen now.seen
   found_by_phase Over past p = absurd (cc (p.0, in_use))
   found_by_phase Begun past p = absurd (cc past)
   found_by_phase Looking past p = absurd (cc past)
+  found_by_phase (Spreading request offer) past p = looked_found p.0
   found_by_phase (Settling request offer) past p = looked_found p.0
   found_by_phase (Arriving round) past p = looked_found p.0
   found_by_phase Revoking past p = looked_found p.0
@@ -122,9 +123,9 @@ found_all asked old own before now f same =
     let all = ap failures (squeeze before f.look now f.begins f.ends same) in (all, squeeze (failures f.look) own.seen (failures now) f.low f.high all)
 
 -- a call in its look may as well begin now
-pub begins_again : {P : Type 0} (meld : P → P → P) (name : Name) (old : Record) (before : Sight P) (doing : UnderWay P) (own : Record) (now : Sight P) → is_looking doing.phase ≡ true → Stands meld false (local old (view_of name before)) doing (local own (view_of name now)) → IsView meld (view_of name now) → IsPrefix before.seen now.seen
-    → Stands meld false (local old (view_of name now)) doing (local own (view_of name now))
+pub begins_again : {P : Type 0} (meld : P → P → P) (name : Named P) (old : Record) (before : Sight P) (doing : UnderWay P) (own : Record) (now : Sight P) → is_looking doing.phase ≡ true → Stands meld false (local old (view_at name before)) doing (local own (view_at name now)) → IsView meld (view_at name now) → IsPrefix before.seen now.seen
+    → Stands meld false (local old (view_at name now)) doing (local own (view_at name now))
 begins_again {P} meld name old before doing own now looking s of begins =
-    let At : Phase P → Sight P → Type 0 = λ phase start. StandsAt meld false doing.asked (local old (view_of name start)) phase doing.group (local own (view_of name now)) in
+    let At : Phase P → Sight P → Type 0 = λ phase start. StandsAt meld false doing.asked (local old (view_at name start)) phase doing.group (local own (view_at name now)) in
     let again = in_look (λ (phase : Phase P). At phase before → At phase now) (λ p. (p.0, p.1, did_none false now.seen)) (λ p. (p.0, p.1, did_none false now.seen, p.3)) doing.phase looking in
     record { fits = fits_stays meld name.limits before.seen now.seen old begins of.legal s.fits; mine = s.mine; onward = omega arith; at = again s.at }

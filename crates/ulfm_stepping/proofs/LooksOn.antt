@@ -6,10 +6,10 @@ use Rattle.ulfm_model.specs.{Answers.{IsReply, IsSelfFailed, Sees, comm_of, poll
 use Rattle.ulfm_model.specs.declared.limits.Limits.{Limits}
 use Rattle.ulfm_model.proofs.Lists.{prefix_trans}
 use Rattle.ulfm_model.specs.Records.{moment}
-use Rattle.ulfm_words.specs.Steps.{view_of, IsView, Name, Sight}
+use Rattle.ulfm_words.specs.Steps.{IsView, Sight, Over, view_at}
 use Rattle.ulfm_words.proofs.Trails.{did_prefix, did_quiet}
 use Rattle.ulfm_steps.specs.declared.arrivals.Missing.{Missing}
-use Rattle.ulfm_comm.specs.{Barrier.{IsChecking}, Calls.{RepliedAs, HasReplied, wants_memory}, Ends.{IsEarlyRun, IsEndRun, IsRefusedAgain}, Phase.{Answered, Stands, StandsAt, UnderWay, Waits, is_looking}, Step.{StepAdds}}
+use Rattle.ulfm_comm.specs.{Barrier.{IsChecking}, Calls.{RepliedAs, HasReplied, wants_memory}, Ends.{IsEarlyRun, IsEndRun, IsRefusedAgain}, Phase.{Answered, Idles, Stands, StandsAt, UnderWay, is_looking}, Step.{StepAdds}}
 use Rattle.ulfm_comm.specs.declared.phases.phase.{Phase.{Phase}, Phase.TheVariants.{Checking}}
 use Rattle.ulfm_comm.proofs.AmongOthers.{waits_none}
 use Rattle.ulfm_comm.specs.Local.{frame, local}
@@ -25,9 +25,9 @@ no_event {P} own asked phase reply old new looking =
     in_look (λ (at : Phase P). StepAdds true own asked at reply old new → new ≡ old) (λ did. did_quiet true old new did refl) (λ did. did_quiet true old new did refl) phase looking
 
 -- in its look, a call's rank has its number
-same_number : {P : Type 0} (meld : P → P → P) (name : Name) (asked : Call P) (old : Record) (before : Sight P) (group : List ℕ) (own : Record) (now : Sight P) (phase : Phase P) → is_looking phase ≡ true → StandsAt meld false asked (local old (view_of name before)) phase group (local own (view_of name now)) → own.number ≡ old.number
+same_number : {P : Type 0} (meld : P → P → P) (name : Over P) (asked : Call P) (old : Record) (before : Sight P) (group : List ℕ) (own : Record) (now : Sight P) (phase : Phase P) → is_looking phase ≡ true → StandsAt meld false asked (local old (view_at name before)) phase group (local own (view_at name now)) → own.number ≡ old.number
 same_number {P} meld name asked old before group own now =
-    in_look (λ (phase : Phase P). StandsAt meld false asked (local old (view_of name before)) phase group (local own (view_of name now)) → own.number ≡ old.number) (λ p. ap (λ (w : Record). w.number) p.1) (λ p. ap (λ (w : Record). w.number) p.1)
+    in_look (λ (phase : Phase P). StandsAt meld false asked (local old (view_at name before)) phase group (local own (view_at name now)) → own.number ≡ old.number) (λ p. ap (λ (w : Record). w.number) p.1) (λ p. ap (λ (w : Record). w.number) p.1)
 
 -- all that a call's last look found was seen, whatever it polls
 sees_all : {P : Type 0} (b : Bool) (look after : History P) (seen : List ℕ) → Sees b (failures look) after seen → failures look ≡ failures after → seen ≡ failures after
@@ -35,12 +35,12 @@ sees_all false look after seen sees all = sees ∙ all
 sees_all true look after seen sees all = squeeze (failures look) seen (failures after) sees.0 sees.1 all
 
 -- a barrier's poll that makes its last load at the look's end found at the look who is missing
-found_now : {P : Type 0} (meld : P → P → P) (limits : Limits) (asked : Call P) (name : Name) (old : Record) (before : Sight P) (group : List ℕ) (own : Record) (now : Sight P) (found : ℕ) (phase : Phase P) → StandsAt meld false asked (local old (view_of name before)) phase group (local own (view_of name now))
+found_now : {P : Type 0} (meld : P → P → P) (limits : Limits) (asked : Call P) (name : Over P) (old : Record) (before : Sight P) (group : List ℕ) (own : Record) (now : Sight P) (found : ℕ) (phase : Phase P) → StandsAt meld false asked (local old (view_at name before)) phase group (local own (view_at name now))
     → name.limits ≡ limits → before.seen ≡ now.seen → found ≡ length now.seen → FoundAt meld limits (comm_of asked) (moment old before.seen) (moment own now.seen) found phase
 found_now {P} meld limits asked name old before group own now found phase p limits_is still found_is =
-    found_by_check (λ (at : Phase P). StandsAt meld false asked (local old (view_of name before)) at group (local own (view_of name now))) meld limits (comm_of asked) old before.seen own now.seen found go phase p
+    found_by_check (λ (at : Phase P). StandsAt meld false asked (local old (view_at name before)) at group (local own (view_at name now))) meld limits (comm_of asked) old before.seen own now.seen found go phase p
   where
-    go : (missing : Missing) → StandsAt meld false asked (local old (view_of name before)) (Checking missing) group (local own (view_of name now)) → FoundAt meld limits (comm_of asked) (moment old before.seen) (moment own now.seen) found (Checking missing)
+    go : (missing : Missing) → StandsAt meld false asked (local old (view_at name before)) (Checking missing) group (local own (view_at name now)) → FoundAt meld limits (comm_of asked) (moment old before.seen) (moment own now.seen) found (Checking missing)
     go missing p =
         let i = p.2 in
         let w = i.waits in
@@ -48,7 +48,7 @@ found_now {P} meld limits asked name old before group own now found phase p limi
         let here : p.1 ≡ now.seen = squeeze before.seen p.1 now.seen begins (did_prefix false [] p.1 now.seen i.waited) still in
         (p.1, subst (λ (l : Limits). IsChecking (frame meld l false) (comm_of asked) missing p.1 (moment old before.seen) (moment own now.seen)) limits_is i, ap length here ∙ sym found_is)
 
-module _ {P : Type 0} (meld : P → P → P) (name : Name) (now : Traced P) (pass after_it : Sight P) (own : Record) (doing : UnderWay P) (h : HasBegun meld name now pass own doing) (of : IsView meld (view_of name after_it)) (result : Option (Reply P)) (own' : Record) (doing' : UnderWay P)
+module _ {P : Type 0} (meld : P → P → P) (name : Over P) (now : Traced P) (pass after_it : Sight P) (own : Record) (doing : UnderWay P) (h : HasBegun meld name now pass own doing) (of : IsView meld (view_at name after_it)) (result : Option (Reply P)) (own' : Record) (doing' : UnderWay P)
     (adds : StepAdds true own doing.asked doing.phase result pass.seen after_it.seen) (asked' : doing'.asked ≡ doing.asked) (found' : ℕ) (found_is' : found' ≡ length after_it.seen) where
   still : pass.seen ≡ after_it.seen
   still = sym (no_event own doing.asked doing.phase result pass.seen after_it.seen h.looking adds)
@@ -57,7 +57,7 @@ module _ {P : Type 0} (meld : P → P → P) (name : Name) (now : Traced P) (pas
   history' = h.history ∙ still
 
   -- the look goes on
-  goes_on : is_looking doing'.phase ≡ true → Stands meld false (local h.old (view_of name pass)) doing' (local own' (view_of name after_it)) → (own'.number ≡ own.number) × HasBegun meld name now after_it own' doing'
+  goes_on : is_looking doing'.phase ≡ true → Stands meld false (local h.old (view_at name pass)) doing' (local own' (view_at name after_it)) → (own'.number ≡ own.number) × HasBegun meld name now after_it own' doing'
   goes_on looking stands =
       let number' : own'.number ≡ own.number = same_number meld name doing'.asked h.old pass doing'.group own' after_it doing'.phase looking stands.at ∙ sym h.number in (
         number',
@@ -98,7 +98,7 @@ module _ {P : Type 0} (meld : P → P → P) (name : Name) (now : Traced P) (pas
     look' = ap (λ s. Some (length s)) (seen' ∙ ap failures (sym still))
 
     -- and the call goes on
-    ends_on : is_looking doing'.phase ≡ false → Stands meld false (local h.old (view_of name pass)) doing' (local own' (view_of name after_it)) → own' ≡ record h.old { seen = own'.seen } → IsFalse (has (failures after_it.seen) h.old.number) → refusal_of h.old doing'.asked ≡ None
+    ends_on : is_looking doing'.phase ≡ false → Stands meld false (local h.old (view_at name pass)) doing' (local own' (view_at name after_it)) → own' ≡ record h.old { seen = own'.seen } → IsFalse (has (failures after_it.seen) h.old.number) → refusal_of h.old doing'.asked ≡ None
         → (own'.number ≡ own.number) × HasCalled meld name told after_it own' found' doing'
     ends_on past stands same alive passes =
         let number' : own'.number ≡ own.number = ap (λ (w : Record). w.number) same ∙ sym h.number in (
@@ -137,7 +137,7 @@ module _ {P : Type 0} (meld : P → P → P) (name : Name) (now : Traced P) (pas
         → EndsSo meld name told after_it own.number (comm_of doing.asked) (length after_it.seen) reply own'
     ends_reply reply ended fits =
         let answers = reply_answers meld name.limits pass.seen after_it.seen h.old doing.asked reply own' ended [] (append-nil pass.seen ∙ still) [] refl (λ no_poll. inl refl) (λ other. seen' ∙ ap failures (sym still)) in
-        let there = subst (λ es. IsSelfFailed (record { look = failures pass.seen; history = after_it.seen; own = es }) h.old doing.asked reply ⊎ IsReply meld name.limits (record { look = failures pass.seen; history = after_it.seen; own = es }) h.old doing.asked reply) (sym h.own_is) answers in
+        let there = subst (λ es. IsSelfFailed (record { look = failures pass.seen; history = after_it.seen; own = es; spread = true }) h.old doing.asked reply ⊎ IsReply meld name.limits (record { look = failures pass.seen; history = after_it.seen; own = es; spread = true }) h.old doing.asked reply) (sym h.own_is) answers in
         ends_so meld name told after_it own.number h.old h.seen u' doing.asked pass.seen after_it.seen [] [] reply own' h.limits history' call' h.record_is h.number h.in_use h.asked h.begun look' (append-nil pass.seen ∙ still) (append-nil after_it.seen)
         there ended fits (may_list meld name.limits pass.seen after_it.seen h.old doing.asked own' fits reply ended)
 
@@ -159,7 +159,7 @@ module _ {P : Type 0} (meld : P → P → P) (name : Name) (now : Traced P) (pas
   abbrev Comes : Option (Reply P) → Type 0
   Comes r = LooksOn meld name own.number (comm_of doing.asked) (length after_it.seen) found' now r after_it own' doing'
 
-  going : Stands meld false (local h.old (view_of name pass)) doing' (local own' (view_of name after_it)) → Comes None
+  going : Stands meld false (local h.old (view_at name pass)) doing' (local own' (view_at name after_it)) → Comes None
   going stands = go (is_looking doing'.phase) refl
     where
       go : (b : Bool) → is_looking doing'.phase ≡ b → Comes None
@@ -169,7 +169,7 @@ module _ {P : Type 0} (meld : P → P → P) (name : Name) (now : Traced P) (pas
           let all = found_all doing'.asked h.old own' pass.seen after_it.seen f still in
           inr (may_look all.1, ends_on all.1 past stands f.same (subst (λ s. IsFalse (has s h.old.number)) all.0 f.not_declared) f.not_refused)
 
-  answered : (reply : Reply P) → wants_memory reply ≡ false → Answered meld false doing.asked (local h.old (view_of name pass)) reply (local own' (view_of name after_it)) → Comes (Some reply)
+  answered : (reply : Reply P) → wants_memory reply ≡ false → Answered meld false doing.asked (local h.old (view_at name pass)) reply (local own' (view_at name after_it)) → Comes (Some reply)
   answered reply has_memory a = go a.ends
     where
       ending : IsEndRun meld name.limits false (moment h.old pass.seen) doing.asked reply (moment own' after_it.seen) → Fits meld name.limits after_it.seen own' → Comes (Some reply)
@@ -181,13 +181,13 @@ module _ {P : Type 0} (meld : P → P → P) (name : Name) (now : Traced P) (pas
       by_calls fits (inr (inl ended)) = ending ended fits
       by_calls fits (inr (inr early)) = ending (ended_now reply early) fits
 
-      go : (IsRefusedAgain h.old reply own' × Waits false pass after_it) ⊎ HasReplied meld false doing.asked (local h.old (view_of name pass)) reply (local own' (view_of name after_it)) → Comes (Some reply)
+      go : (IsRefusedAgain h.old reply own' × Idles false pass after_it) ⊎ HasReplied meld false doing.asked (local h.old (view_at name pass)) reply (local own' (view_at name after_it)) → Comes (Some reply)
       go (inl again) = absurd (cc (again.0.refused, h.in_use))
-      go (inr e) = let calls = subst (λ b. RepliedAs meld false doing.asked (local h.old (view_of name pass)) reply b (local own' (view_of name after_it))) has_memory e in by_calls calls.fits calls.ends
+      go (inr e) = let calls = subst (λ b. RepliedAs meld false doing.asked (local h.old (view_at name pass)) reply b (local own' (view_at name after_it))) has_memory e in by_calls calls.fits calls.ends
 
-  pub looks_on : ((reply : Reply P) → result ≡ Some reply → wants_memory reply ≡ false) → MatchOption result (Stands meld false (local h.old (view_of name pass)) doing' (local own' (view_of name after_it))) (λ reply. Answered meld false doing.asked (local h.old (view_of name pass)) reply (local own' (view_of name after_it))) → Comes result
+  pub looks_on : ((reply : Reply P) → result ≡ Some reply → wants_memory reply ≡ false) → MatchOption result (Stands meld false (local h.old (view_at name pass)) doing' (local own' (view_at name after_it))) (λ reply. Answered meld false doing.asked (local h.old (view_at name pass)) reply (local own' (view_at name after_it))) → Comes result
   looks_on has_memory ends = go result refl ends
     where
-      go : (r : Option (Reply P)) → result ≡ r → MatchOption r (Stands meld false (local h.old (view_of name pass)) doing' (local own' (view_of name after_it))) (λ reply. Answered meld false doing.asked (local h.old (view_of name pass)) reply (local own' (view_of name after_it))) → Comes r
+      go : (r : Option (Reply P)) → result ≡ r → MatchOption r (Stands meld false (local h.old (view_at name pass)) doing' (local own' (view_at name after_it))) (λ reply. Answered meld false doing.asked (local h.old (view_at name pass)) reply (local own' (view_at name after_it))) → Comes r
       go None is stands = going stands
       go (Some reply) is a = answered reply (has_memory reply is) a

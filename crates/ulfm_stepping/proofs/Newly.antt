@@ -4,7 +4,7 @@ use Rattle.std.proofs.lemmas.List.{map-append}
 use Rattle.std.proofs.lemmas.Bool.{ne_eqb}
 use Rattle.ulfm_model.specs.declared.{limits.Limits.{Limits}}
 use Rattle.ulfm_model.specs.{History.{first_ranks}, Records.{Fits, Record, new_record}}
-use Rattle.ulfm_words.specs.Steps.{Name, Sight}
+use Rattle.ulfm_words.specs.Steps.{Sight, Over}
 use Rattle.ulfm_trace_model.specs.Traces.{nothing}
 use Rattle.ulfm_stepping.specs.{Seats.{Sits}}
 
@@ -47,7 +47,7 @@ module _ (limits : Limits) where
       go false other rest =
           let apart : r < n = grind (arith, below, other) in find_append (λ (own : Record). own.number == r) (first n) (new_record limits n ∷ []) (new_record limits r) (rest apart)
 
-pub sits_new : {P : Type 0} (meld : P → P → P) (name : Name) (pass : Sight P) (found r : ℕ) → pass.seen ≡ [] → r < name.limits.ranks → Fits meld name.limits [] (new_record name.limits r)
+pub sits_new : {P : Type 0} (meld : P → P → P) (name : Over P) (pass : Sight P) (found r : ℕ) → pass.seen ≡ [] → r < name.limits.ranks → Fits meld name.limits [] (new_record name.limits r)
     → Sits meld name (nothing name.limits) pass (record { own = new_record name.limits r; call = None; found = found })
 sits_new meld name pass found r seen below fits =
     record {

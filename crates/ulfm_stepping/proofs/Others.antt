@@ -4,9 +4,9 @@ use Rattle.std.proofs.lemmas.Bool.{eqb-false, ne_eqb}
 use mathlib.Core.List.{IsPrefix}
 use Rattle.ulfm_model.specs.declared.{call.Call.{Call}, event.Caller.{Caller}, event.Caller.TheVariants.{Outside, Rank}, limits.Limits.{Limits}, reply.Reply.{Reply}}
 use Rattle.ulfm_model.specs.{Answers.{comm_of, traits_of}, History.{History}, Records.{Record}}
-use Rattle.ulfm_model.proofs.{LeftRuns.{left_keeps}, Stable.{fits_stays}}
+use Rattle.ulfm_model.proofs.{LeftRuns.{left_keeps}, Lists.{prefix_trans}, Stable.{fits_stays}}
 use Rattle.ulfm_model.specs.Records.{moment}
-use Rattle.ulfm_words.specs.Steps.{view_of, IsView, Name, Sight}
+use Rattle.ulfm_words.specs.Steps.{IsView, Sight, Over, view_at}
 use Rattle.ulfm_words.proofs.Trails.{did_wait}
 use Rattle.ulfm_steps.specs.declared.arrivals.Missing.{Missing}
 use Rattle.ulfm_comm.specs.Phase.{UnderWay, Waits}
@@ -85,8 +85,8 @@ module _ {P : Type 0} (n : ℕ) where
       stays_same now (after_reply now by point reply (Some v)) (find_left by differ now.calls) (left_records now by v point reply differ) refl
 
   stays_after : (now : Traced P) (line : Line P) → same_caller (line_by line) (Rank n) ≡ false → Stays now (after now line)
-  stays_after now (Called asked) differ =
-      stays_same now (after now (Called asked)) (find_push_other now.calls (record { asked = asked; begun = length now.history; look = None; own = [] }) differ) refl refl
+  stays_after now (Called asked padded) differ =
+      stays_same now (after now (Called asked padded)) (find_push_other now.calls (record { asked = asked; begun = length now.history; look = None; own = [] }) differ) refl refl
   stays_after now (Looked r count) differ = stays_same now (after now (Looked r count)) (find_other (Rank r) differ (λ u. record u { look = Some count }) (λ u. refl) now.calls) refl refl
   stays_after now (Happened by None) differ = stays_same now now refl refl refl
   stays_after now (Happened by (Some event)) differ =
@@ -124,12 +124,12 @@ found_lasts meld limits c old before own now later found begins =
         (earlier, record { x = i.x; k = i.k; waits = i.waits; are = i.are; legal = i.legal; waited = did_wait false [] earlier now later i.waited (did_among now later begins) }, is)
 
 -- others' lines led from `now` to `t`, and the pass has seen their events since
-module _ {P : Type 0} (meld : P → P → P) (name : Name) (now t : Traced P) (pass later : Sight P) (own : Record) (of : IsView meld (view_of name later)) (limits_t : t.limits ≡ now.limits) (history_t : t.history ≡ later.seen) (s : Stays own.number now t) (onward : pass.steps ≤ later.steps) where
+module _ {P : Type 0} (meld : P → P → P) (name : Over P) (now t : Traced P) (pass later : Sight P) (own : Record) (of : IsView meld (view_at name later)) (limits_t : t.limits ≡ now.limits) (history_t : t.history ≡ later.seen) (s : Stays own.number now t) (onward : pass.steps ≤ later.steps) (keeps : IsPrefix pass.cached later.cached) where
   grown_from : now.history ≡ pass.seen → pass.seen ++ s.more ≡ later.seen
   grown_from history = ap (λ h. h ++ s.more) (sym history) ∙ (s.grown ∙ history_t)
 
   waits_from : now.history ≡ pass.seen → Waits false pass later
-  waits_from history = record { did = did_among pass.seen later.seen (s.more, grown_from history); onward = onward }
+  waits_from history = record { did = did_among pass.seen later.seen (s.more, grown_from history); cached = keeps; onward = onward }
 
   idle_lasts : IsIdle meld name now pass own → IsIdle meld name t later own
   idle_lasts h =
@@ -152,7 +152,11 @@ module _ {P : Type 0} (meld : P → P → P) (name : Name) (now t : Traced P) (p
         history = history_t;
         call = s.call ∙ h.call;
         record_is = s.record_is ∙ h.record_is;
-        waits = record { did = did_wait false [] h.stood.seen pass.seen later.seen h.waits.did waits.did; onward = omega (arith, first, onward) };
+        waits = record {
+          did = did_wait false [] h.stood.seen pass.seen later.seen h.waits.did waits.did;
+          cached = prefix_trans h.stood.cached pass.cached later.cached h.waits.cached keeps;
+          onward = omega (arith, first, onward);
+        };
         rest = h.rest ++ s.more;
         since = sym (append_assoc h.before.seen h.rest s.more) ∙ (ap (λ w. w ++ s.more) h.since ∙ grown);
         own_is = by_append (Rank own.number) h.rest s.more ∙ (ap (λ es. events_by (Rank own.number) h.rest ++ es) s.others ∙ (append-nil (events_by (Rank own.number) h.rest) ∙ h.own_is));
@@ -205,10 +209,10 @@ module _ {P : Type 0} (meld : P → P → P) (name : Name) (now t : Traced P) (p
   at_lasts found (Some doing) (inr h) = inr (called_lasts found doing h)
 
 -- lines of others leave a rank where it sits
-pub sits_lasts : {P : Type 0} (meld : P → P → P) (name : Name) (now : Traced P) (piece : List (Told P)) (pass later : Sight P) (seat : Seated P) → AreOthers (Rank seat.own.number) piece → (said_by now piece).history ≡ later.seen → IsView meld (view_of name later)
-    → pass.steps ≤ later.steps → Sits meld name now pass seat → Sits meld name (said_by now piece) later seat
-sits_lasts meld name now piece pass later seat others history of onward sits =
-    at_lasts meld name now (said_by now piece) pass later seat.own of (limits_stay meld now piece) history (stays_along seat.own.number now piece others) onward seat.found seat.call sits
+pub sits_lasts : {P : Type 0} (meld : P → P → P) (name : Over P) (now : Traced P) (piece : List (Told P)) (pass later : Sight P) (seat : Seated P) → AreOthers (Rank seat.own.number) piece → (said_by now piece).history ≡ later.seen → IsView meld (view_at name later)
+    → pass.steps ≤ later.steps → IsPrefix pass.cached later.cached → Sits meld name now pass seat → Sits meld name (said_by now piece) later seat
+sits_lasts meld name now piece pass later seat others history of onward keeps sits =
+    at_lasts meld name now (said_by now piece) pass later seat.own of (limits_stay meld now piece) history (stays_along seat.own.number now piece others) onward keeps seat.found seat.call sits
 
 -- lines in one rank's name are others' to every other rank
 pub of_others : {P : Type 0} (r n : ℕ) → same_caller (Rank r) (Rank n) ≡ false → (piece : List (Told P)) → AreOf (Rank r) piece → AreOthers (Rank n) piece
@@ -219,13 +223,13 @@ of_others {P} r n differ (told ∷ piece) of = (by_line told.line of.0, of_other
     by_caller by is = ap (λ c. same_caller c (Rank n)) (same_is by (Rank r) is) ∙ differ
 
     by_line : (line : Line P) → IsTrue (is_of (Rank r) line) → same_caller (line_by line) (Rank n) ≡ false
-    by_line (Called asked) is = absurd (cc is)
+    by_line (Called asked padded) is = absurd (cc is)
     by_line (Looked s count) is = by_caller (Rank s) is
     by_line (Happened by event) is = by_caller by is
     by_line (Replied by point reply) is = by_caller by is
 
 -- where a rank sits, the lines have said what the pass has seen
-pub sits_history : {P : Type 0} (meld : P → P → P) (name : Name) (now : Traced P) (pass : Sight P) (seat : Seated P) → Sits meld name now pass seat → (now.limits ≡ name.limits) × (now.history ≡ pass.seen)
+pub sits_history : {P : Type 0} (meld : P → P → P) (name : Over P) (now : Traced P) (pass : Sight P) (seat : Seated P) → Sits meld name now pass seat → (now.limits ≡ name.limits) × (now.history ≡ pass.seen)
 sits_history {P} meld name now pass seat sits = go seat.call sits
   where
     go : (call : Option (UnderWay P)) → SitsAt meld name now pass seat.own seat.found call → (now.limits ≡ name.limits) × (now.history ≡ pass.seen)
@@ -234,11 +238,11 @@ sits_history {P} meld name now pass seat sits = go seat.call sits
     go (Some doing) (inr h) = (h.limits, h.history)
 
 -- and no call is under way that the seat doesn't have
-pub sits_free : {P : Type 0} (meld : P → P → P) (name : Name) (now : Traced P) (pass : Sight P) (seat : Seated P) → Sits meld name now pass seat → seat.call ≡ None → call_by now (Rank seat.own.number) ≡ None
+pub sits_free : {P : Type 0} (meld : P → P → P) (name : Over P) (now : Traced P) (pass : Sight P) (seat : Seated P) → Sits meld name now pass seat → seat.call ≡ None → call_by now (Rank seat.own.number) ≡ None
 sits_free {P} meld name now pass seat sits none = let h = subst (SitsAt meld name now pass seat.own seat.found) none sits in h.free
 
 -- nor none where it has one
-pub sits_open : {P : Type 0} (meld : P → P → P) (name : Name) (now : Traced P) (pass : Sight P) (seat : Seated P) → Sits meld name now pass seat → IsTrue (is_some seat.call) → IsTrue (is_some (call_by now (Rank seat.own.number)))
+pub sits_open : {P : Type 0} (meld : P → P → P) (name : Over P) (now : Traced P) (pass : Sight P) (seat : Seated P) → Sits meld name now pass seat → IsTrue (is_some seat.call) → IsTrue (is_some (call_by now (Rank seat.own.number)))
 sits_open {P} meld name now pass seat sits some = go seat.call sits some
   where
     go : (call : Option (UnderWay P)) → SitsAt meld name now pass seat.own seat.found call → IsTrue (is_some call) → IsTrue (is_some (call_by now (Rank seat.own.number)))

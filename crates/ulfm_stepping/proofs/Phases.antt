@@ -4,10 +4,10 @@ use Rattle.ulfm_model.specs.declared.call.Call.TheVariants as call
 use Rattle.ulfm_model.specs.declared.{call.Call.{Call}, call.Request.{Request}, call.Request.TheVariants.{Barrier}, contribution.Offer.{Offer}}
 use Rattle.ulfm_model.specs.{Answers.{polled_by}, History.{History}, Records.{Held, Record, held_at, is_shrink}}
 use Rattle.ulfm_model.specs.Terms.{comm_of, request_of}
-use Rattle.ulfm_words.specs.Steps.{view_of, Name, Sight}
+use Rattle.ulfm_words.specs.Steps.{Sight, Over as Named, view_at}
 use Rattle.ulfm_steps.specs.declared.{arrivals.Arrivals.{Arrivals}, arrivals.Missing.{Missing}}
 use Rattle.ulfm_comm.specs.{Exchange.{StartsWith}, Look.{Looked as HasFound}, Phase.{LeadsTo, StandsAt, is_looking, is_making, next_of}, Requests.{agreement}, Step.{StepSees}}
-use Rattle.ulfm_comm.specs.declared.phases.phase.{Phase.{Phase}, Phase.TheVariants.{Over, Begun, Looking, Settling, Arriving, Revoking, Asking, Peeking, Marking, Reading, ReadingOn, Spawning, Waiting, Checking}}
+use Rattle.ulfm_comm.specs.declared.phases.phase.{Phase.{Phase}, Phase.TheVariants.{Over, Begun, Looking, Spreading, Settling, Arriving, Revoking, Asking, Peeking, Marking, Reading, ReadingOn, Spawning, Waiting, Checking}}
 use Rattle.ulfm_comm.proofs.{Polls.{polls_it}, WholeCall.{held_before}}
 use Rattle.ulfm_comm.specs.Local.{local}
 
@@ -36,12 +36,13 @@ starts_no_poll old own x request other offer (call.Free rank c) starts polls = s
 abbrev pub IsBarrier : {P : Type 0} → Phase P → Type 0
 IsBarrier {P} phase = ((arrivals : Arrivals) × (phase ≡ Waiting arrivals)) ⊎ ((missing : Missing) × (phase ≡ Checking missing))
 
-module _ {P : Type 0} (meld : P → P → P) (alone : Bool) (name : Name) (asked : Call P) (old : Record) (before : Sight P) (group : List ℕ) (own : Record) (now : Sight P) (in_use : IsFalse old.refused) where
+module _ {P : Type 0} (meld : P → P → P) (alone : Bool) (name : Named P) (asked : Call P) (old : Record) (before : Sight P) (group : List ℕ) (own : Record) (now : Sight P) (in_use : IsFalse old.refused) where
   -- of the record only what was seen is new
-  pub stands_same : (phase : Phase P) → is_looking phase ≡ false → StandsAt meld alone asked (local old (view_of name before)) phase group (local own (view_of name now)) → own ≡ record old { seen = own.seen }
+  pub stands_same : (phase : Phase P) → is_looking phase ≡ false → StandsAt meld alone asked (local old (view_at name before)) phase group (local own (view_at name now)) → own ≡ record old { seen = own.seen }
   stands_same Over past p = absurd (cc (p.0, in_use))
   stands_same Begun past p = absurd (cc past)
   stands_same Looking past p = absurd (cc past)
+  stands_same (Spreading request offer) past p = seen_same own old _ p.0.looked.record_is
   stands_same (Settling request offer) past p = seen_same own old _ p.0.looked.record_is
   stands_same (Arriving round) past p = seen_same own old _ p.0.looked.record_is
   stands_same Revoking past p = seen_same own old _ p.0.looked.record_is
@@ -55,7 +56,7 @@ module _ {P : Type 0} (meld : P → P → P) (alone : Bool) (name : Name) (asked
   stands_same (Checking missing) past p = seen_same own old _ p.2.waits.looked.record_is
 
   -- one that comes by a communicator polls a shrink
-  pub making_shrinks : (phase : Phase P) → is_making phase ≡ true → StandsAt meld alone asked (local old (view_of name before)) phase group (local own (view_of name now)) → is_shrink (polled_by old asked) ≡ true
+  pub making_shrinks : (phase : Phase P) → is_making phase ≡ true → StandsAt meld alone asked (local old (view_at name before)) phase group (local own (view_at name now)) → is_shrink (polled_by old asked) ≡ true
   making_shrinks (ReadingOn on made) making p =
       ap is_shrink (ap (polled_by old) p.0 ∙ polls_it meld name.limits alone before.seen old p.2.mid (comm_of asked) true made.round p.1 p.2.decided p.2.marked)
   making_shrinks (Spawning append context reach) making p =
@@ -64,6 +65,7 @@ module _ {P : Type 0} (meld : P → P → P) (alone : Bool) (name : Name) (asked
   making_shrinks Over making p = absurd (cc making)
   making_shrinks Begun making p = absurd (cc making)
   making_shrinks Looking making p = absurd (cc making)
+  making_shrinks (Spreading request offer) making p = absurd (cc making)
   making_shrinks (Settling request offer) making p = absurd (cc making)
   making_shrinks (Arriving round) making p = absurd (cc making)
   making_shrinks Revoking making p = absurd (cc making)
@@ -80,12 +82,13 @@ module _ {P : Type 0} (meld : P → P → P) (alone : Bool) (name : Name) (asked
       ap (polled_by old) polls ∙ (ap request_of (held_before meld name.limits alone before.seen look old own looked (comm_of asked) (Some x) (subst (λ w. held_at own w ≡ Some x) c_is held)) ∙ open_is)
 
   -- the poll of a barrier does nothing else behind its look
-  pub barrier_phase : (k : ℕ) → polled_by old asked ≡ Some (Barrier k) → (phase : Phase P) → is_looking phase ≡ false → StandsAt meld alone asked (local old (view_of name before)) phase group (local own (view_of name now)) → IsBarrier phase
+  pub barrier_phase : (k : ℕ) → polled_by old asked ≡ Some (Barrier k) → (phase : Phase P) → is_looking phase ≡ false → StandsAt meld alone asked (local old (view_at name before)) phase group (local own (view_at name now)) → IsBarrier phase
   barrier_phase k polls (Waiting arrivals) past p = inl (arrivals, refl)
   barrier_phase k polls (Checking missing) past p = inr (missing, refl)
   barrier_phase k polls Over past p = absurd (cc (p.0, in_use))
   barrier_phase k polls Begun past p = absurd (cc past)
   barrier_phase k polls Looking past p = absurd (cc past)
+  barrier_phase k polls (Spreading request offer) past p = absurd (starts_no_poll old old p.0.x request (Barrier k) offer asked p.1 polls)
   barrier_phase k polls (Settling request offer) past p = absurd (starts_no_poll old old p.0.x request (Barrier k) offer asked p.1 polls)
   barrier_phase k polls (Arriving round) past p = absurd (cc (sym polls ∙ ap (polled_by old) p.1))
   barrier_phase k polls Revoking past p = absurd (cc (sym polls ∙ ap (polled_by old) p.1))
@@ -103,7 +106,7 @@ module _ {P : Type 0} (meld : P → P → P) (alone : Bool) (name : Name) (asked
       let is = ap (polled_by old) p.0 ∙ polls_it meld name.limits alone before.seen old d.mid (comm_of asked) true p.1.round p.1.x d.decided d.marked in absurd (cc (sym is ∙ polls))
 
   -- a barrier's poll that makes its last load is one
-  pub checking_polls : (missing : Missing) (p : StandsAt meld alone asked (local old (view_of name before)) (Checking missing) group (local own (view_of name now))) → polled_by old asked ≡ Some (Barrier p.2.k)
+  pub checking_polls : (missing : Missing) (p : StandsAt meld alone asked (local old (view_at name before)) (Checking missing) group (local own (view_at name now))) → polled_by old asked ≡ Some (Barrier p.2.k)
   checking_polls missing p = let w = p.2.waits in open_polls (comm_of asked) w.look p.2.x (Barrier p.2.k) refl p.0 w.looked w.held w.open_is
 
 -- but where it comes by a communicator, a step behind the look leaves what was seen
@@ -111,6 +114,7 @@ pub seen_stays : {P : Type 0} (phase : Phase P) → is_looking phase ≡ false �
 seen_stays Over past other old new is = is
 seen_stays Begun past other old new is = absurd (cc past)
 seen_stays Looking past other old new is = absurd (cc past)
+seen_stays (Spreading request offer) past other old new is = is
 seen_stays (Settling request offer) past other old new is = is
 seen_stays (Arriving round) past other old new is = is
 seen_stays Revoking past other old new is = is
@@ -129,6 +133,7 @@ making_past (Spawning append context reach) making = refl
 making_past Over making = refl
 making_past Begun making = absurd (cc making)
 making_past Looking making = absurd (cc making)
+making_past (Spreading request offer) making = refl
 making_past (Settling request offer) making = refl
 making_past (Arriving round) making = refl
 making_past Revoking making = refl
@@ -144,6 +149,7 @@ pub stays_past : {P : Type 0} (phase next : Phase P) → is_looking phase ≡ fa
 stays_past Over next past leads = leads
 stays_past Begun next past leads = absurd (cc past)
 stays_past Looking next past leads = absurd (cc past)
+stays_past (Spreading request offer) next past leads = leads
 stays_past (Settling request offer) next past leads = leads
 stays_past (Arriving round) next past leads = leads
 stays_past Revoking next past leads = leads
@@ -163,6 +169,7 @@ stays_making (Spawning append context reach) next making leads = leads
 stays_making Over next making leads = absurd (cc making)
 stays_making Begun next making leads = absurd (cc making)
 stays_making Looking next making leads = absurd (cc making)
+stays_making (Spreading request offer) next making leads = absurd (cc making)
 stays_making (Settling request offer) next making leads = absurd (cc making)
 stays_making (Arriving round) next making leads = absurd (cc making)
 stays_making Revoking next making leads = absurd (cc making)

@@ -4,7 +4,7 @@ use Rattle.std.specs.Option.{option_and_then}
 use mathlib.Core.List.{IsPrefix}
 use Rattle.ulfm_model.specs.declared.call.Call.TheVariants as call
 use Rattle.ulfm_model.specs.declared.{call.Call.{Call}, call.Request.{Request}, call.Request.TheVariants.{Agree, Shrink, Barrier}, event.Caller.{Caller}, event.Caller.TheVariants.{Rank}, event.Entry.{Entry}, event.Event.{Event}, limits.Limits.{Limits}, refusal.Refusal.{Refusal}, reply.Reply.{Reply}, reply.Reply.TheVariants.{Revoked, Started}}
-use Rattle.ulfm_model.specs.{Answers.{IsReply, IsSelfFailed, PollReplies, RepliesBy, Sees, AtPoint, polled_by, refusal_of, traits_of}, History.{History, entries_by, failures, has}, Records.{Held, Record, held_at, is_shrink}, Runs.{StandsIn}}
+use Rattle.ulfm_model.specs.{Answers.{IsReply, IsSelfFailed, PollReplies, RepliesBy, Sees, AtPoint, polled_by, refusal_of, traits_of}, History.{History, entries_by, failures, has}, Records.{Held, Record, held_at, is_shrink}, Runs.{StandsIn, rests_on}}
 use Rattle.ulfm_model.specs.Answers.{Replies}
 use Rattle.ulfm_model.proofs.Histories.{failures_begin}
 use Rattle.ulfm_model.specs.Records.{moment}
@@ -66,7 +66,7 @@ not_before (x ∷ xs) ys r begins none =
 
 -- the same view, but for the look
 abbrev with_look : {P : Type 0} → AtPoint P → List ℕ → AtPoint P
-with_look view look = record { look = look; history = view.history; own = view.own }
+with_look view look = record { look = look; history = view.history; own = view.own; spread = view.spread }
 
 -- the poll of a shrink may rest on a beginning of what was read, too
 module _ {P : Type 0} (meld : P → P → P) (limits : Limits) (view : AtPoint P) (look : List ℕ) (begins : IsPrefix look view.look) (old : Record) (reply : Reply P) where
@@ -137,21 +137,21 @@ module _ {P : Type 0} (meld : P → P → P) (limits : Limits) (start after : Hi
       none no_poll not_started not_revoked (inr (f, is, inr revoked)) = absurd (not_revoked revoked)
 
   abbrev view : AtPoint P
-  view = record { look = failures ended.run.span.look; history = after; own = mine }
+  view = record { look = failures ended.run.span.look; history = after; own = mine; spread = true }
 
   at_point : IsSelfFailed view old asked reply ⊎ IsReply meld limits view old asked reply
   at_point =
       let span = ended.run.span in
-      let swapped = answer_swaps meld limits (record { look = failures span.look; history = span.point; own = span.own }) old mine asked reply agrees ended.run.answer.replies in
-      subst (λ h. IsSelfFailed (record { look = failures span.look; history = h; own = mine }) old asked reply ⊎ IsReply meld limits (record { look = failures span.look; history = h; own = mine }) old asked reply) ended.at_end swapped
+      let swapped = answer_swaps meld limits (rests_on span) old mine asked reply agrees ended.run.answer.replies in
+      subst (λ h. IsSelfFailed (record { look = failures span.look; history = h; own = mine; spread = true }) old asked reply ⊎ IsReply meld limits (record { look = failures span.look; history = h; own = mine; spread = true }) old asked reply) ended.at_end swapped
 
   -- the judge's test of a reply
-  pub reply_answers : IsSelfFailed (record { look = failures start; history = after; own = mine }) old asked reply ⊎ IsReply meld limits (record { look = failures start; history = after; own = mine }) old asked reply
+  pub reply_answers : IsSelfFailed (record { look = failures start; history = after; own = mine; spread = true }) old asked reply ⊎ IsReply meld limits (record { look = failures start; history = after; own = mine; spread = true }) old asked reply
   reply_answers = go (is_shrink (polled_by old asked)) refl
     where
       go : (b : Bool) → is_shrink (polled_by old asked) ≡ b
-          → IsSelfFailed (record { look = failures start; history = after; own = mine }) old asked reply ⊎ IsReply meld limits (record { look = failures start; history = after; own = mine }) old asked reply
+          → IsSelfFailed (record { look = failures start; history = after; own = mine; spread = true }) old asked reply ⊎ IsReply meld limits (record { look = failures start; history = after; own = mine; spread = true }) old asked reply
       go true shrinks = shrink_answer meld limits view (failures start) (failures_begin start ended.run.span.look (did_prefix false [] start ended.run.span.look ended.run.span.looked)) old reply asked shrinks at_point
       go false other =
           let sees : Sees false (failures ended.run.span.look) after new.seen = subst (λ b. Sees b (failures ended.run.span.look) after new.seen) other ended.run.answer.leaves.seen in
-          subst (λ s. IsSelfFailed (record { look = s; history = after; own = mine }) old asked reply ⊎ IsReply meld limits (record { look = s; history = after; own = mine }) old asked reply) (sym sees ∙ seen other) at_point
+          subst (λ s. IsSelfFailed (record { look = s; history = after; own = mine; spread = true }) old asked reply ⊎ IsReply meld limits (record { look = s; history = after; own = mine; spread = true }) old asked reply) (sym sees ∙ seen other) at_point

@@ -6,9 +6,9 @@ use Rattle.ulfm_model.specs.declared.step_name.StepName.TheVariants as step
 use Rattle.ulfm_model.specs.declared.step_name.StepName.{StepName}
 use Rattle.ulfm_model.specs.{Answers.{comm_of, polled_by, traits_of}, History.{History, failures}, Records.{Fits, Record, is_shrink}}
 use Rattle.ulfm_model.proofs.Lists.{in_list}
-use Rattle.ulfm_words.specs.Steps.{view_of, IsView, Name, Sight}
+use Rattle.ulfm_words.specs.Steps.{IsView, Sight, Over, view_at, over}
 use Rattle.ulfm_words.proofs.Ranks.{failures_le}
-use Rattle.ulfm_comm.specs.{Calls.{RepliedAs, HasReplied, wants_memory}, Ends.{IsRefusedAgain}, Phase.{Answered, Stands, StandsAt, UnderWay, Waits, is_checking, is_looking, next_of, next_step}, Step.{StepAdds, Stepped}, StepsLeft.{FewerLeft, steps_left}}
+use Rattle.ulfm_comm.specs.{Calls.{RepliedAs, HasReplied, wants_memory}, Ends.{IsRefusedAgain}, Phase.{Answered, Idles, MayStep, Stands, StandsAt, UnderWay, Waits, is_checking, is_looking, next_of, next_step}, Step.{StepAdds, Stepped}, StepsLeft.{FewerLeft, steps_left}}
 use Rattle.ulfm_comm.specs.declared.phases.phase.{Phase.{Phase}, Phase.TheVariants.{Begun}}
 use Rattle.ulfm_comm.proofs.AmongOthers.{waits_none}
 use Rattle.ulfm_comm.specs.Local.{local}
@@ -21,7 +21,7 @@ use Rattle.ulfm_stepping.specs.{Seats.{AreToldBy, MayList, Seated, Sits, SitsAt,
 use Rattle.ulfm_stepping.proofs.{Beginning.{begun, may_call, refused}, ByName.{event_named, get_last, look_named}, ByPhase.{in_look}, LooksOn.{looks_on, no_event}, Nexts.{reply_next}, Reseen.{reseen}, Stepped.{comes}, Turns.{EndsSo, LooksOn, NextAt, SaysStep}}
 
 -- The lines of a call that begins.
-module _ {P : Type 0} (meld : P → P → P) (name : Name) (own : Record) (found : ℕ) (pass : Sight P) (asked : Call P) (mine : (traits_of asked).by ≡ Rank own.number) where
+module _ {P : Type 0} (meld : P → P → P) (name : Over P) (own : Record) (found : ℕ) (pass : Sight P) (asked : Call P) (mine : (traits_of asked).by ≡ Rank own.number) where
   abbrev idle : Seated P
   idle = record { own = own; call = None; found = found }
 
@@ -38,8 +38,8 @@ module _ {P : Type 0} (meld : P → P → P) (name : Name) (own : Record) (found
       })
 
   -- of any other
-  pub begins_open : (doing : UnderWay P) → doing.asked ≡ asked → own.refused ≡ false → doing.phase ≡ Begun → IsView meld (view_of name pass)
-      → ((alone : Bool) (other : Name) (before : Sight P) → IsView meld (view_of other before) → Fits meld other.limits before.seen own → Stands meld alone (local own (view_of other before)) doing (local own (view_of other before)))
+  pub begins_open : (doing : UnderWay P) → doing.asked ≡ asked → own.refused ≡ false → doing.phase ≡ Begun → IsView meld (view_at name pass)
+      → ((alone : Bool) (other : Over P) (before : Sight P) → IsView meld (view_at other before) → Fits meld other.limits before.seen own → Stands meld alone (local own (view_at other before)) doing (local own (view_at other before)))
       → TellsBegin meld name idle pass asked None (record { own = own; call = Some doing; found = found })
   begins_open doing asked_is in_use phase of stands =
       record {
@@ -121,10 +121,10 @@ not_checking : {P : Type 0} (phase : Phase P) → is_looking phase ≡ true → 
 not_checking {P} = in_look (λ (phase : Phase P). is_checking phase ≡ false) refl refl
 
 -- One step of a call, by what `Rank::step` promises, and by what was read off it.
-module _ {P : Type 0} (meld : P → P → P) (name : Name) (before later : Sight P) (own own' : Record) (found : ℕ) (doing doing' : UnderWay P) (result : Option (Reply P)) (of : IsView meld (view_of name before)) (s : Stepped meld true doing (local own (view_of name before)) (next_of result doing'.phase) (local own' (view_of name later)))
+module _ {P : Type 0} (meld : P → P → P) (name : Over P) (before later : Sight P) (own own' : Record) (found : ℕ) (doing doing' : UnderWay P) (result : Option (Reply P)) (of : IsView meld (view_at name before)) (s : Stepped meld true doing (local own (view_at name before)) (next_of result doing'.phase) (local own' (view_at name later)))
     (asked' : doing'.asked ≡ doing.asked)
-    (stands : (alone : Bool) → (IsTrue alone → IsTrue true) → (old : Record) → (start : Sight P) → (stood : Sight P) → Stands meld alone (local old (view_of name start)) doing (local own (view_of name stood)) → Waits alone stood before
-    → MatchOption result (Stands meld alone (local old (view_of name start)) doing' (local own' (view_of name later))) (λ reply. Answered meld alone doing.asked (local old (view_of name start)) reply (local own' (view_of name later))))
+    (stands : (alone : Bool) → (IsTrue alone → IsTrue true) → (old : Record) → (start : Sight P) → (stood : Sight P) → Stands meld alone (local old (view_at name start)) doing (local own (view_at name stood)) → Waits alone stood before
+    → MatchOption result (Stands meld alone (local old (view_at name start)) doing' (local own' (view_at name later))) (λ reply. Answered meld alone doing.asked (local old (view_at name start)) reply (local own' (view_at name later))))
     (look : Option ℕ) (look_is : look ≡ look_end (is_looking doing.phase) result doing'.phase own') (event : Option (Event P)) (reads : ReadsEvent later.seen (length before.seen) event)
     (has_memory : (reply : Reply P) → result ≡ Some reply → wants_memory reply ≡ false) (found' : ℕ) (found_is : found' ≡ length later.seen) (point : ℕ)
     (point_is : (reply : Reply P) → result ≡ Some reply → point ≡ point_of found (length later.seen) (is_checking doing.phase) reply) where
@@ -246,6 +246,7 @@ module _ {P : Type 0} (meld : P → P → P) (name : Name) (before later : Sight
       record {
         number = first.number;
         named = s.named;
+        keeps = s.cached;
         seen = first.seen;
         piece = piece;
         piece_is = refl;
@@ -283,6 +284,7 @@ module _ {P : Type 0} (meld : P → P → P) (name : Name) (before later : Sight
       record {
         number = first.number;
         named = s.named;
+        keeps = s.cached;
         seen = first.seen;
         piece = piece;
         piece_is = refl;
@@ -311,23 +313,28 @@ module _ {P : Type 0} (meld : P → P → P) (name : Name) (before later : Sight
           comes_at now (reply_told r point group reply ∷ []) (λ t. IsIdle meld name t later own' × MayList name.limits.ranks (take point later.seen) c reply own')
           (λ t next. let e = subst (λ q. Then q t) is next in (e.number, (e.may, tt), (e.idle, e.list))) (λ none number begins. absurd (cc (is, none))) there
 
+-- a call that is under way may take its next step
+pub may_step : {P : Type 0} (meld : P → P → P) (name : Over P) (now : Traced P) (pass : Sight P) (own : Record) (found : ℕ) (doing : UnderWay P) → SitsAt meld name now pass own found (Some doing) → MayStep meld doing (local own (view_at name pass))
+may_step meld name now pass own found doing (inl h) = (h.old, pass, pass, h.stands, waits_none pass)
+may_step meld name now pass own found doing (inr h) = (h.old, h.before, h.stood, h.stands, h.waits)
+
 -- in a look of a record only what was seen is new
-begun_same : {P : Type 0} (meld : P → P → P) (name : Name) (asked : Call P) (old : Record) (before : Sight P) (group : List ℕ) (own : Record) (now : Sight P) (phase : Phase P) → is_looking phase ≡ true → StandsAt meld false asked (local old (view_of name before)) phase group (local own (view_of name now)) → own ≡ reseen old own.seen
+begun_same : {P : Type 0} (meld : P → P → P) (name : Over P) (asked : Call P) (old : Record) (before : Sight P) (group : List ℕ) (own : Record) (now : Sight P) (phase : Phase P) → is_looking phase ≡ true → StandsAt meld false asked (local old (view_at name before)) phase group (local own (view_at name now)) → own ≡ reseen old own.seen
 begun_same {P} meld name asked old before group own now =
-    in_look (λ (phase : Phase P). StandsAt meld false asked (local old (view_of name before)) phase group (local own (view_of name now)) → own ≡ reseen old own.seen) (λ p. p.1 ∙ ap (λ (w : Record). reseen old w.seen) (sym p.1)) (λ p. p.1)
+    in_look (λ (phase : Phase P). StandsAt meld false asked (local old (view_at name before)) phase group (local own (view_at name now)) → own ≡ reseen old own.seen) (λ p. p.1 ∙ ap (λ (w : Record). reseen old w.seen) (sym p.1)) (λ p. p.1)
 
 -- only the poll of a shrink runs out of memory
-module _ {P : Type 0} (meld : P → P → P) (name : Name) (before later : Sight P) (own own' : Record) (found : ℕ) (doing doing' : UnderWay P) (result : Option (Reply P))
-    (stands : (alone : Bool) → (IsTrue alone → IsTrue true) → (old : Record) → (start : Sight P) → (stood : Sight P) → Stands meld alone (local old (view_of name start)) doing (local own (view_of name stood)) → Waits alone stood before
-    → MatchOption result (Stands meld alone (local old (view_of name start)) doing' (local own' (view_of name later))) (λ reply. Answered meld alone doing.asked (local old (view_of name start)) reply (local own' (view_of name later))))
+module _ {P : Type 0} (meld : P → P → P) (name : Over P) (before later : Sight P) (own own' : Record) (found : ℕ) (doing doing' : UnderWay P) (result : Option (Reply P))
+    (stands : (alone : Bool) → (IsTrue alone → IsTrue true) → (old : Record) → (start : Sight P) → (stood : Sight P) → Stands meld alone (local old (view_at name start)) doing (local own (view_at name stood)) → Waits alone stood before
+    → MatchOption result (Stands meld alone (local old (view_at name start)) doing' (local own' (view_at name later))) (λ reply. Answered meld alone doing.asked (local old (view_at name start)) reply (local own' (view_at name later))))
     (reply : Reply P) (is : result ≡ Some reply) (wants : wants_memory reply ≡ true) where
-  shrinks : (old : Record) (start : Sight P) → IsFalse old.refused → own ≡ reseen old own.seen → MatchOption result (Stands meld false (local old (view_of name start)) doing' (local own' (view_of name later))) (λ answer. Answered meld false doing.asked (local old (view_of name start)) answer (local own' (view_of name later)))
+  shrinks : (old : Record) (start : Sight P) → IsFalse old.refused → own ≡ reseen old own.seen → MatchOption result (Stands meld false (local old (view_at name start)) doing' (local own' (view_at name later))) (λ answer. Answered meld false doing.asked (local old (view_at name start)) answer (local own' (view_at name later)))
       → IsTrue (is_shrink (polled_by own doing.asked))
-  shrinks old start in_use same ends = go (subst (λ q. MatchOption q (Stands meld false (local old (view_of name start)) doing' (local own' (view_of name later))) (λ answer. Answered meld false doing.asked (local old (view_of name start)) answer (local own' (view_of name later)))) is ends).ends
+  shrinks old start in_use same ends = go (subst (λ q. MatchOption q (Stands meld false (local old (view_at name start)) doing' (local own' (view_at name later))) (λ answer. Answered meld false doing.asked (local old (view_at name start)) answer (local own' (view_at name later)))) is ends).ends
     where
-      go : (IsRefusedAgain old reply own' × Waits false start later) ⊎ HasReplied meld false doing.asked (local old (view_of name start)) reply (local own' (view_of name later)) → IsTrue (is_shrink (polled_by own doing.asked))
+      go : (IsRefusedAgain old reply own' × Idles false start later) ⊎ HasReplied meld false doing.asked (local old (view_at name start)) reply (local own' (view_at name later)) → IsTrue (is_shrink (polled_by own doing.asked))
       go (inl again) = absurd (cc (again.0.refused, in_use))
-      go (inr e) = let polls = (subst (λ b. RepliedAs meld false doing.asked (local old (view_of name start)) reply b (local own' (view_of name later))) wants e).1 in ap (λ w. is_shrink (polled_by w doing.asked)) same ∙ polls
+      go (inr e) = let polls = (subst (λ b. RepliedAs meld false doing.asked (local old (view_at name start)) reply b (local own' (view_at name later))) wants e).1 in ap (λ w. is_shrink (polled_by w doing.asked)) same ∙ polls
 
   pub polls_shrink : (now : Traced P) → SitsAt meld name now before own found (Some doing) → IsTrue (is_shrink (polled_by own doing.asked))
   polls_shrink now (inl h) =
@@ -336,10 +343,10 @@ module _ {P : Type 0} (meld : P → P → P) (name : Name) (before later : Sight
   polls_shrink now (inr h) = shrinks h.old h.before h.in_use h.own_same (stands false (λ alone. absurd (cc alone)) h.old h.before h.stood h.stands h.waits)
 
 -- so many failures as a look found are fewer than can be counted
-module _ {P : Type 0} (meld : P → P → P) (name : Name) (before later : Sight P) (own own' : Record) (found : ℕ) (doing doing' : UnderWay P) (result : Option (Reply P)) (of : IsView meld (view_of name before)) (s : Stepped meld true doing (local own (view_of name before)) (next_of result doing'.phase) (local own' (view_of name later)))
+module _ {P : Type 0} (meld : P → P → P) (name : Over P) (before later : Sight P) (own own' : Record) (found : ℕ) (doing doing' : UnderWay P) (result : Option (Reply P)) (of : IsView meld (view_at name before)) (s : Stepped meld true doing (local own (view_at name before)) (next_of result doing'.phase) (local own' (view_at name later)))
     (asked' : doing'.asked ≡ doing.asked)
-    (stands : (alone : Bool) → (IsTrue alone → IsTrue true) → (old : Record) → (start : Sight P) → (stood : Sight P) → Stands meld alone (local old (view_of name start)) doing (local own (view_of name stood)) → Waits alone stood before
-    → MatchOption result (Stands meld alone (local old (view_of name start)) doing' (local own' (view_of name later))) (λ reply. Answered meld alone doing.asked (local old (view_of name start)) reply (local own' (view_of name later))))
+    (stands : (alone : Bool) → (IsTrue alone → IsTrue true) → (old : Record) → (start : Sight P) → (stood : Sight P) → Stands meld alone (local old (view_at name start)) doing (local own (view_at name stood)) → Waits alone stood before
+    → MatchOption result (Stands meld alone (local old (view_at name start)) doing' (local own' (view_at name later))) (λ reply. Answered meld alone doing.asked (local old (view_at name start)) reply (local own' (view_at name later))))
     (has_memory : (reply : Reply P) → result ≡ Some reply → wants_memory reply ≡ false) (ended : has_looked (is_looking doing.phase) result doing'.phase ≡ true) where
   pub look_fits : (now : Traced P) → SitsAt meld name now before own found (Some doing) → length own'.seen < 2 ^ 16
   look_fits now (inr h) = let none = ap (λ b. has_looked b result doing'.phase) h.past in absurd (cc (none, ended))

@@ -9,12 +9,12 @@ use Rattle.ulfm_model.specs.{Answers.{CallAdds, PollAdds, MayOwn, polled_by, ran
 use Rattle.ulfm_model.specs.Terms.{comm_of}
 use Rattle.ulfm_model.proofs.{Histories.{legal_parts}, Lists.{prefix_trans}}
 use Rattle.ulfm_model.specs.Records.{moment}
-use Rattle.ulfm_words.specs.Steps.{view_of, IsView, Name, Sight}
+use Rattle.ulfm_words.specs.Steps.{IsView, Sight, Over as Named, view_at}
 use Rattle.ulfm_words.proofs.Trails.{did_prefix, did_quiet}
 use Rattle.ulfm_steps.specs.declared.{arrivals.Missing.{Missing}}
 use Rattle.ulfm_comm.specs.Missing.{AnsweredNow, AnswersMissing, FindsMissing, FoundNow, Midway, midway}
-use Rattle.ulfm_comm.specs.{Barrier.{AnswersEarly, IsChecking}, Calls.{Linearizes, RepliedAs, HasReplied, wants_memory}, Ends.{IsEarlyRun, IsEndRun, IsRefusedAgain}, Phase.{Answered, LeadsTo, Stands, StandsAt, UnderWay, Waits, is_checking, is_making, next_of, reply_in}, Step.{Adds, Makes, StepAdds, Stepped}, StepsLeft.{FewerLeft, steps_left}}
-use Rattle.ulfm_comm.specs.declared.phases.phase.{Phase.{Phase}, Phase.TheVariants.{Over, Begun, Looking, Settling, Arriving, Revoking, Asking, Peeking, Marking, Reading, ReadingOn, Spawning, Waiting, Checking}}
+use Rattle.ulfm_comm.specs.{Barrier.{AnswersEarly, IsChecking}, Calls.{Linearizes, RepliedAs, HasReplied, wants_memory}, Ends.{IsEarlyRun, IsEndRun, IsRefusedAgain}, Phase.{Answered, Idles, LeadsTo, Stands, StandsAt, UnderWay, is_checking, is_making, next_of, reply_in}, Step.{Adds, Makes, StepAdds, Stepped}, StepsLeft.{FewerLeft, steps_left}}
+use Rattle.ulfm_comm.specs.declared.phases.phase.{Phase.{Phase}, Phase.TheVariants.{Over, Begun, Looking, Spreading, Settling, Arriving, Revoking, Asking, Peeking, Marking, Reading, ReadingOn, Spawning, Waiting, Checking}}
 use Rattle.ulfm_comm.proofs.{StepAdds.{adds_none}, AmongOthers.{waits_none}, Stands.{stands_lasts}}
 use Rattle.ulfm_comm.specs.Local.{frame, local}
 use Rattle.ulfm_trace_model.specs.declared.line.Line.TheVariants.{Happened}
@@ -57,6 +57,7 @@ module _ {P : Type 0} (look : List ℕ) (own : Record) (asked : Call P) (reply :
   adds_of Over sees did = adds_none true look own asked reply old new did
   adds_of Begun sees did = adds_none true look own asked reply old new did
   adds_of Looking sees did = adds_none true look own asked reply old new did
+  adds_of (Spreading request offer) sees did = adds_none true look own asked reply old new did
   adds_of (Settling request offer) sees adds = subst (λ s. Adds true s own asked reply old new) (sees refl) adds
   adds_of (Arriving round) sees adds = subst (λ s. Adds true s own asked reply old new) (sees refl) adds
   adds_of Revoking sees adds = subst (λ s. Adds true s own asked reply old new) (sees refl) adds
@@ -79,6 +80,7 @@ checking_is (Checking missing) is = (missing, refl)
 checking_is Over is = absurd (cc is)
 checking_is Begun is = absurd (cc is)
 checking_is Looking is = absurd (cc is)
+checking_is (Spreading request offer) is = absurd (cc is)
 checking_is (Settling request offer) is = absurd (cc is)
 checking_is (Arriving round) is = absurd (cc is)
 checking_is Revoking is = absurd (cc is)
@@ -98,9 +100,9 @@ keeps_asked {P} event u = go (is_owned u event)
     go true = refl
     go false = refl
 
-module _ {P : Type 0} (meld : P → P → P) (name : Name) (now : Traced P) (pass after_it : Sight P) (own : Record) (found : ℕ) (doing : UnderWay P) (h : HasCalled meld name now pass own found doing) (of_old : IsView meld (view_of name pass))
-    (result : Option (Reply P)) (own' : Record) (doing' : UnderWay P) (s : Stepped meld true doing (local own (view_of name pass)) (next_of result doing'.phase) (local own' (view_of name after_it))) (asked' : doing'.asked ≡ doing.asked)
-    (ends : MatchOption result (Stands meld false (local h.old (view_of name h.before)) doing' (local own' (view_of name after_it))) (λ reply. Answered meld false doing.asked (local h.old (view_of name h.before)) reply (local own' (view_of name after_it)))) where
+module _ {P : Type 0} (meld : P → P → P) (name : Named P) (now : Traced P) (pass after_it : Sight P) (own : Record) (found : ℕ) (doing : UnderWay P) (h : HasCalled meld name now pass own found doing) (of_old : IsView meld (view_at name pass))
+    (result : Option (Reply P)) (own' : Record) (doing' : UnderWay P) (s : Stepped meld true doing (local own (view_at name pass)) (next_of result doing'.phase) (local own' (view_at name after_it))) (asked' : doing'.asked ≡ doing.asked)
+    (ends : MatchOption result (Stands meld false (local h.old (view_at name h.before)) doing' (local own' (view_at name after_it))) (λ reply. Answered meld false doing.asked (local h.old (view_at name h.before)) reply (local own' (view_at name after_it)))) where
   abbrev start : History P
   start = h.before.seen
 
@@ -180,7 +182,7 @@ module _ {P : Type 0} (meld : P → P → P) (name : Name) (now : Traced P) (pas
   module _ (t : Traced P) (u : Under P) (rest : History P) (limits_t : t.limits ≡ name.limits) (history_t : t.history ≡ after_it.seen) (call_t : call_by t (Rank own.number) ≡ Some u) (record_t : record_in t own.number ≡ Some (reseen h.old h.seen))
       (asked_t : u.asked ≡ doing.asked) (begun_t : u.begun ≡ h.u.begun) (look_t : u.look ≡ h.u.look) (since_t : start ++ rest ≡ after_it.seen) (own_t : events_by (Rank own.number) rest ≡ u.own) where
     -- the call goes on
-    goes_on : (leads : LeadsTo doing.phase (next_of None doing'.phase)) → Stands meld false (local h.old (view_of name h.before)) doing' (local own' (view_of name after_it)) → (found' : ℕ) → FoundAt meld name.limits (comm_of doing'.asked) (moment h.old start) (moment own' after_it.seen) found' doing'.phase
+    goes_on : (leads : LeadsTo doing.phase (next_of None doing'.phase)) → Stands meld false (local h.old (view_at name h.before)) doing' (local own' (view_at name after_it)) → (found' : ℕ) → FoundAt meld name.limits (comm_of doing'.asked) (moment h.old start) (moment own' after_it.seen) found' doing'.phase
         → ((traits_of doing.asked).polls ≡ false → u.own ≡ []) → (own'.number ≡ own.number) × HasCalled meld name t after_it own' found' doing'
     goes_on leads stands found' found_at no_own =
         let past = stays_past doing.phase doing'.phase h.past leads in
@@ -242,7 +244,7 @@ module _ {P : Type 0} (meld : P → P → P) (name : Name) (now : Traced P) (pas
   Few = (added.events ≡ []) ⊎ ((event : Event P) × (added.events ≡ event ∷ []) × Makes look own doing.asked result event)
 
   -- whether it told an event or not, the call goes on
-  says_goes : result ≡ None → Stands meld false (local h.old (view_of name h.before)) doing' (local own' (view_of name after_it)) → LeadsTo doing.phase (next_of None doing'.phase) → (found' : ℕ) → FoundAt meld name.limits (comm_of doing'.asked) (moment h.old start) (moment own' after_it.seen) found' doing'.phase → Few
+  says_goes : result ≡ None → Stands meld false (local h.old (view_at name h.before)) doing' (local own' (view_at name after_it)) → LeadsTo doing.phase (next_of None doing'.phase) → (found' : ℕ) → FoundAt meld name.limits (comm_of doing'.asked) (moment h.old start) (moment own' after_it.seen) found' doing'.phase → Few
       → Says (λ t. (own'.number ≡ own.number) × HasCalled meld name t after_it own' found' doing')
   says_goes going stands leads found' found_at (inl none) =
       let same = same_history none in inl (same, goes_on now h.u h.rest h.limits (h.history ∙ same) h.call h.record_is h.asked refl refl (h.since ∙ same) h.own_is leads stands found' found_at h.no_own)
@@ -289,36 +291,36 @@ module _ {P : Type 0} (meld : P → P → P) (name : Name) (now : Traced P) (pas
         let to_now = did_prefix false [] earlier pass.seen i.waited in
         let polling : (traits_of doing.asked).polls ≡ true = ap (λ (a : Call P). (traits_of a).polls) polls in
         let answers = reply_answers meld name.limits start earlier h.old doing.asked reply own' ended from_start.0 from_start.1 (events_by (Rank h.old.number) from_start.0) refl (λ no_poll. absurd (cc (polling, no_poll))) seen_then in
-        let swapped = answer_swaps meld name.limits (record { look = look; history = earlier; own = events_by (Rank h.old.number) from_start.0 }) h.old h.u.own doing.asked reply
+        let swapped = answer_swaps meld name.limits (record { look = look; history = earlier; own = events_by (Rank h.old.number) from_start.0; spread = true }) h.old h.u.own doing.asked reply
         (record { one = λ no_poll e is. absurd (cc (polling, no_poll)); none = λ no_poll not_started not_revoked. absurd (cc (polling, no_poll)) }) answers in
         ends_so meld name now after_it own.number h.old h.seen h.u doing.asked start earlier from_start.0 to_now.0 reply own' h.limits (h.history ∙ still) h.call h.record_is own_number h.in_use h.asked h.begun h.look from_start.1 (to_now.1 ∙ still)
         swapped ended fits (lists_none name.limits.ranks earlier (comm_of doing.asked) reply own' early)
 
-  stands_now : Stands meld false (local h.old (view_of name h.before)) doing (local own (view_of name pass))
+  stands_now : Stands meld false (local h.old (view_at name h.before)) doing (local own (view_at name pass))
   stands_now = stands_lasts meld false name h.old h.before doing own h.stood pass h.stands h.waits of_old
 
   classified : (k : ℕ) → polled_by h.old doing.asked ≡ Some (Barrier k) → IsBarrier doing.phase
   classified k polls = barrier_phase meld false name doing.asked h.old h.before doing.group own h.stood h.in_use k polls doing.phase h.past h.stands.at
 
   -- a barrier's poll that makes its last load next has just found who is missing
-  module _ (going : result ≡ None) (stands : Stands meld false (local h.old (view_of name h.before)) doing' (local own' (view_of name after_it))) (found' : ℕ) (found_is : found' ≡ length after_it.seen) where
+  module _ (going : result ≡ None) (stands : Stands meld false (local h.old (view_at name h.before)) doing' (local own' (view_at name after_it))) (found' : ℕ) (found_is : found' ≡ length after_it.seen) where
     abbrev FoundIn : Phase P → Type 0
     FoundIn phase = FoundAt meld name.limits (comm_of doing'.asked) (moment h.old start) (moment own' after_it.seen) found' phase
 
     found_checking : (missing : Missing) → doing'.phase ≡ Checking missing → FoundIn (Checking missing)
     found_checking missing is = go (classified at.2.k (ap (polled_by h.old) (sym asked') ∙ checking_polls meld false name doing'.asked h.old h.before doing'.group own' after_it h.in_use missing at))
       where
-        at : StandsAt meld false doing'.asked (local h.old (view_of name h.before)) (Checking missing) doing'.group (local own' (view_of name after_it))
-        at = subst (λ phase. StandsAt meld false doing'.asked (local h.old (view_of name h.before)) phase doing'.group (local own' (view_of name after_it))) is stands.at
+        at : StandsAt meld false doing'.asked (local h.old (view_at name h.before)) (Checking missing) doing'.group (local own' (view_at name after_it))
+        at = subst (λ phase. StandsAt meld false doing'.asked (local h.old (view_at name h.before)) phase doing'.group (local own' (view_at name after_it))) is stands.at
 
         next_is : next_of result doing'.phase ≡ next_of None (Checking missing)
         next_is = ap₂ next_of going is
 
         go : IsBarrier doing.phase → FoundIn (Checking missing)
         go (inl (arrivals, was)) =
-            let at : Midway P = midway doing (local own (view_of name pass)) in
-            let found = subst (λ next. FoundNow (FindsMissing meld true at (local own' (view_of name after_it))) (Waiting arrivals) next) next_is
-            (subst (λ phase. FoundNow (FindsMissing meld true at (local own' (view_of name after_it))) phase (next_of result doing'.phase)) was s.checks) in
+            let at : Midway P = midway doing (local own (view_at name pass)) in
+            let found = subst (λ next. FoundNow (FindsMissing meld true at (local own' (view_at name after_it))) (Waiting arrivals) next) next_is
+            (subst (λ phase. FoundNow (FindsMissing meld true at (local own' (view_at name after_it))) phase (next_of result doing'.phase)) was s.checks) in
             let here = found false (λ alone. absurd (cc alone)) h.old h.before stands_now in
             (after_it.seen, subst (λ (a : Call P). IsChecking (frame meld name.limits false) (comm_of a) missing after_it.seen (moment h.old start) (moment own' after_it.seen)) (sym asked') here, sym found_is)
         go (inr (before, was)) =
@@ -330,7 +332,7 @@ module _ {P : Type 0} (meld : P → P → P) (name : Name) (now : Traced P) (pas
     found_then = found_by_check (λ (phase : Phase P). doing'.phase ≡ phase) meld name.limits (comm_of doing'.asked) h.old start own' after_it.seen found' found_checking doing'.phase refl
 
   -- the call is answered
-  module _ (reply : Reply P) (is : result ≡ Some reply) (point : ℕ) (point_is : point ≡ point_of found (length after_it.seen) (is_checking doing.phase) reply) (calls : Linearizes meld false doing.asked (local h.old (view_of name h.before)) reply (local own' (view_of name after_it))) where
+  module _ (reply : Reply P) (is : result ≡ Some reply) (point : ℕ) (point_is : point ≡ point_of found (length after_it.seen) (is_checking doing.phase) reply) (calls : Linearizes meld false doing.asked (local h.old (view_at name h.before)) reply (local own' (view_at name after_it))) where
     abbrev SaysReply : ℕ → Type 0
     SaysReply n = Says (λ t. EndsSo meld name t after_it own.number (comm_of doing.asked) n reply own')
 
@@ -353,14 +355,14 @@ module _ {P : Type 0} (meld : P → P → P) (name : Name) (now : Traced P) (pas
     -- the last load of a barrier's poll
     checked : (missing : Missing) → doing.phase ≡ Checking missing → SaysReply (point_of found (length after_it.seen) true reply)
     checked missing phase_is =
-        let at : Midway P = midway doing (local own (view_of name pass)) in
+        let at : Midway P = midway doing (local own (view_at name pass)) in
         let answered = subst (λ next. AnsweredNow (AnswersMissing meld true at own') (Checking missing) next) (ap (λ r. next_of r doing'.phase) is)
         (subst (λ phase. AnsweredNow (AnswersMissing meld true at own') phase (next_of result doing'.phase)) phase_is s.early) in
         by_clause
         (answered false (λ alone. absurd (cc alone)) (record { old = h.old; before = start; fits = h.stands.fits; polls = polls; earlier = there.0; checking = there.1 }))
       where
         polls : doing.asked ≡ call.Poll h.old.number (comm_of doing.asked)
-        polls = let at = subst (λ phase. StandsAt meld false doing.asked (local h.old (view_of name h.before)) phase doing.group (local own (view_of name h.stood))) phase_is h.stands.at in at.0
+        polls = let at = subst (λ phase. StandsAt meld false doing.asked (local h.old (view_at name h.before)) phase doing.group (local own (view_at name h.stood))) phase_is h.stands.at in at.0
 
         there : FoundAt meld name.limits (comm_of doing.asked) (moment h.old start) (moment own pass.seen) found (Checking missing)
         there = subst (FoundAt meld name.limits (comm_of doing.asked) (moment h.old start) (moment own pass.seen) found) phase_is h.found_at
@@ -407,12 +409,12 @@ module _ {P : Type 0} (meld : P → P → P) (name : Name) (now : Traced P) (pas
       → ((reply : Reply P) → result ≡ Some reply → point ≡ point_of found (length after_it.seen) (is_checking doing.phase) reply) → Comes point found' result
   comes has_memory found' found_is point point_is = go result refl ends
     where
-      answered : (reply : Reply P) → result ≡ Some reply → (IsRefusedAgain h.old reply own' × Waits false h.before after_it) ⊎ HasReplied meld false doing.asked (local h.old (view_of name h.before)) reply (local own' (view_of name after_it)) → Comes point found' (Some reply)
+      answered : (reply : Reply P) → result ≡ Some reply → (IsRefusedAgain h.old reply own' × Idles false h.before after_it) ⊎ HasReplied meld false doing.asked (local h.old (view_at name h.before)) reply (local own' (view_at name after_it)) → Comes point found' (Some reply)
       answered reply is (inl again) = absurd (cc (again.0.refused, h.in_use))
       answered reply is (inr e) =
-          says_reply reply is point (point_is reply is) (subst (λ b. RepliedAs meld false doing.asked (local h.old (view_of name h.before)) reply b (local own' (view_of name after_it))) (has_memory reply is) e)
+          says_reply reply is point (point_is reply is) (subst (λ b. RepliedAs meld false doing.asked (local h.old (view_at name h.before)) reply b (local own' (view_at name after_it))) (has_memory reply is) e)
 
-      go : (r : Option (Reply P)) → result ≡ r → MatchOption r (Stands meld false (local h.old (view_of name h.before)) doing' (local own' (view_of name after_it))) (λ reply. Answered meld false doing.asked (local h.old (view_of name h.before)) reply (local own' (view_of name after_it))) → Comes point found' r
+      go : (r : Option (Reply P)) → result ≡ r → MatchOption r (Stands meld false (local h.old (view_at name h.before)) doing' (local own' (view_at name after_it))) (λ reply. Answered meld false doing.asked (local h.old (view_at name h.before)) reply (local own' (view_at name after_it))) → Comes point found' r
       go None is stands =
           says_goes is stands (subst (λ r. LeadsTo doing.phase (next_of r doing'.phase)) is s.leads) found' (found_then is stands found' found_is) added.few
       go (Some reply) is a = answered reply is a.ends

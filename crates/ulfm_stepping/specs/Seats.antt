@@ -1,11 +1,12 @@
 -- Ranks whose calls are taken step by step: where the lines so far say that one sits, and what its call's begin and each of its steps tell.
 use Rattle.std.specs.Prelude.{◌≡◌, ◌⊎◌, ℕ, ◌<◌, ◌≤◌, ◌&&◌, ◌||◌, not, Bool, false, ⊤, List, [], ◌∷◌, ◌++◌, take, Option, Some, None, is_some, IsTrue}
 use Rattle.std.specs.List.{AllByRecursion}
+use mathlib.Core.List.{IsPrefix}
 use Rattle.ulfm_model.specs.declared.{call.Call.{Call}, event.Caller.{Caller}, event.Caller.TheVariants.{Rank}, event.Event.{Event}, limits.Limits.{Limits}}
 use Rattle.ulfm_model.specs.declared.{reply.Reply.{Reply}, reply.Reply.TheVariants.{FailedGroup, Shrunk}, step_name.StepName.{StepName}}
 use Rattle.ulfm_model.specs.{Answers.{comm_of, polled_by, traits_of}, History.{History, failures, members}}
 use Rattle.ulfm_model.specs.Records.{Fits, Held, Record, held_at, is_shrink, new_record}
-use Rattle.ulfm_words.specs.Steps.{view_of, IsView, Name, Sight, View}
+use Rattle.ulfm_words.specs.Steps.{IsView, Sight, View, Over, view_at, over}
 use Rattle.ulfm_comm.specs.{Calls.{wants_memory}, Counts.{Counted}, Phase.{UnderWay, is_looking, next_step}, StepsLeft.{MakesStep, steps_left}}
 use Rattle.ulfm_comm.specs.declared.phases.phase.Phase.{Phase}
 use Rattle.ulfm_trace_model.specs.declared.line.{Line.{Line}, Line.TheVariants.{Called, Happened, Looked, Replied}}
@@ -46,7 +47,7 @@ call_steps_left limits own None = 0
 call_steps_left limits own (Some doing) = steps_left limits own doing.asked doing.phase
 
 -- a rank without a call is idle; one with a call is in its look, or behind it
-abbrev pub SitsAt : {P : Type 0} → (P → P → P) → Name → Traced P → Sight P → Record → ℕ → Option (UnderWay P) → Type 0
+abbrev pub SitsAt : {P : Type 0} → (P → P → P) → Over P → Traced P → Sight P → Record → ℕ → Option (UnderWay P) → Type 0
 SitsAt meld name now pass own found None = IsIdle meld name now pass own
 SitsAt meld name now pass own found (Some doing) = HasBegun meld name now pass own doing ⊎ HasCalled meld name now pass own found doing
 
@@ -60,7 +61,7 @@ wants_in None = false
 wants_in (Some reply) = wants_memory reply
 
 -- what the lines so far say, and what the pass has seen, fit where a rank stands
-abbrev pub Sits : {P : Type 0} → (P → P → P) → Name → Traced P → Sight P → Seated P → Type 0
+abbrev pub Sits : {P : Type 0} → (P → P → P) → Over P → Traced P → Sight P → Seated P → Type 0
 Sits meld name now pass seat = SitsAt meld name now pass seat.own seat.found seat.call
 
 -- .. what a caller's view is of
@@ -129,12 +130,13 @@ AreToldBy next piece = AllByRecursion (λ told. (name : StepName) → told_by to
 
 -- One atomic step of a call, the one that was named, and the lines that it tells: each may come after those before, they are the rank's, at most
 -- one is the end of a look or an event, none is told by another step, and afterwards the rank sits as they say. The event is the one that the pass has
--- seen since. The call is answered, or goes on with fewer steps left.
-pub record TellsPiece {P : Type 0} (meld : P → P → P) (name : Name) (old : Seated P) (before : Sight P) (told : StepTold P) (new : Seated P) (after : Sight P)
+-- seen since, and what it knew to be set it still knows. The call is answered, or goes on with fewer steps left.
+pub record TellsPiece {P : Type 0} (meld : P → P → P) (name : Over P) (old : Seated P) (before : Sight P) (told : StepTold P) (new : Seated P) (after : Sight P)
     : Type 0 where
   pub number : new.own.number ≡ old.own.number
   pub named : MakesStep (next_in old.call) old.own.number (comm_in old.call) before after
   pub seen : before.seen ++ entries_of old.own.number told.event ≡ after.seen
+  pub keeps : IsPrefix before.cached after.cached
   pub piece : List (Told P)
   pub piece_is : piece ≡ piece_of old.own.number told (group_in name.limits.ranks after.seen (comm_in old.call) told.reply)
   pub of : AreOf (Rank old.own.number) piece
@@ -148,23 +150,23 @@ pub record TellsPiece {P : Type 0} (meld : P → P → P) (name : Name) (old : S
 abbrev pub TellsPieceIn : {P : Type 0} → (P → P → P) → Seated P → View P → StepTold P → Seated P → View P → Type 0
 TellsPieceIn meld old before told new after = TellsPiece meld before.words old before.pass told new after.pass
 
--- the lines of a call that begins: its own, and that of its reply where it is answered at once
-abbrev pub begun_piece : {P : Type 0} → ℕ → Call P → Option (Answer P) → List (Told P)
-begun_piece r asked answer = called asked ∷ reply_piece r [] answer
+-- the lines of a call that begins: its own, with its flag spelled so, and that of its reply where it is answered at once
+abbrev pub begun_piece : {P : Type 0} → ℕ → Call P → Bool → Option (Answer P) → List (Told P)
+begun_piece r asked padded answer = called asked padded ∷ reply_piece r [] answer
 
 -- the call is under way, or answered at once
 abbrev pub IsUnderWay : {P : Type 0} → Call P → Seated P → Option (Answer P) → Type 0
 IsUnderWay {P} asked new None = (doing : UnderWay P) × (new.call ≡ Some doing) × (doing.asked ≡ asked)
 IsUnderWay asked new (Some answer) = new.call ≡ None
 
--- A call begins, and these are its lines: each may come after those before, and afterwards the rank sits as they say. It is under way, but where
--- the rank was refused for good before: then it is answered at once.
-pub record TellsBegin {P : Type 0} (meld : P → P → P) (name : Name) (old : Seated P) (pass : Sight P) (asked : Call P) (answer : Option (Answer P))
+-- A call begins, and these are its lines, however its flag is spelled: each may come after those before, and afterwards the rank sits as they say.
+-- It is under way, but where the rank was refused for good before: then it is answered at once.
+pub record TellsBegin {P : Type 0} (meld : P → P → P) (name : Over P) (old : Seated P) (pass : Sight P) (asked : Call P) (answer : Option (Answer P))
     (new : Seated P) : Type 0 where
   pub number : new.own.number ≡ old.own.number
   pub at_once : IsAtOnce asked (reply_piece old.own.number [] answer)
-  pub legal : (now : Traced P) → Sits meld name now pass old → AreLegalAfter meld now (begun_piece old.own.number asked answer)
-  pub sits : (now : Traced P) → Sits meld name now pass old → Sits meld name (said_by now (begun_piece old.own.number asked answer)) pass new
+  pub legal : (now : Traced P) → Sits meld name now pass old → AreLegalAfter meld now (begun_piece old.own.number asked false answer)
+  pub sits : (now : Traced P) → Sits meld name now pass old → Sits meld name (said_by now (begun_piece old.own.number asked false answer)) pass new
   pub next : IsUnderWay asked new answer
 
 -- .. in a view of its caller
@@ -178,7 +180,7 @@ CallPollsShrink own (Some doing) = IsTrue (is_shrink (polled_by own doing.asked)
 
 -- whose line it is
 abbrev pub line_by : {P : Type 0} → Line P → Caller
-line_by (Called asked) = (traits_of asked).by
+line_by (Called asked padded) = (traits_of asked).by
 line_by (Looked r count) = Rank r
 line_by (Happened by event) = by
 line_by (Replied by point reply) = by
@@ -187,15 +189,15 @@ line_by (Replied by point reply) = by
 abbrev pub AreOthers : {P : Type 0} → Caller → List (Told P) → Type 0
 AreOthers by piece = AllByRecursion (λ told. same_caller (line_by told.line) by ≡ false) piece
 
--- lines of others, whose events the pass has seen since, leave a rank where it sits
+-- lines of others, whose events the pass has seen since and which left what it knew to be set, leave a rank where it sits
 abbrev pub SeatsLast : {P : Type 0} → (P → P → P) → Type 0
 SeatsLast {P} meld =
-    (name : Name) (now : Traced P) (piece : List (Told P)) (pass later : Sight P) (seat : Seated P) → AreOthers (Rank seat.own.number) piece
-    → (said_by now piece).history ≡ later.seen → IsView meld (view_of name later) → pass.steps ≤ later.steps
+    (name : Over P) (now : Traced P) (piece : List (Told P)) (pass later : Sight P) (seat : Seated P) → AreOthers (Rank seat.own.number) piece
+    → (said_by now piece).history ≡ later.seen → IsView meld (view_at name later) → pass.steps ≤ later.steps → IsPrefix pass.cached later.cached
     → Sits meld name now pass seat → Sits meld name (said_by now piece) later seat
 
 -- where nothing is said yet, and nothing was seen, each new rank of the world sits idle
 abbrev pub SeatsBegin : {P : Type 0} → (P → P → P) → Type 0
 SeatsBegin {P} meld =
-    (name : Name) (pass : Sight P) (found r : ℕ) → pass.seen ≡ [] → r < name.limits.ranks → Fits meld name.limits [] (new_record name.limits r)
+    (name : Over P) (pass : Sight P) (found r : ℕ) → pass.seen ≡ [] → r < name.limits.ranks → Fits meld name.limits [] (new_record name.limits r)
     → Sits meld name (nothing name.limits) pass (record { own = new_record name.limits r; call = None; found = found })

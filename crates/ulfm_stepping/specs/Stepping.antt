@@ -5,7 +5,7 @@ use Rattle.ulfm_model.specs.declared.{limits.Limits.{Limits}, refusal.Refusal.Th
 use Rattle.ulfm_model.specs.declared.reply.Reply.TheVariants.{Pending, Refused}
 use Rattle.ulfm_model.specs.Answers.{comm_of, refusal_of, traits_of}
 use Rattle.ulfm_model.specs.{History.{History, failures, has}, Records.{Fits, Moment, Record, moment}}
-use Rattle.ulfm_words.specs.Steps.{view_of, Name, Sight}
+use Rattle.ulfm_words.specs.Steps.{Sight, Over, view_at}
 use Rattle.ulfm_comm.specs.{Barrier.{IsChecking}, Phase.{Stands, UnderWay, Waits, is_looking, is_making}}
 use Rattle.ulfm_comm.specs.declared.phases.phase.{Phase.{Phase}, Phase.TheVariants.{Checking}}
 use Rattle.ulfm_comm.specs.Local.{frame, local}
@@ -27,7 +27,7 @@ reply_told r point group reply = record { line = Replied (Rank r) point (Some re
 
 -- A rank without a call: its record is what the lines so far say, but for the failures that it has seen, since the poll of a shrink
 -- may have read on.
-pub record IsIdle {P : Type 0} (meld : P → P → P) (name : Name) (now : Traced P) (pass : Sight P) (own : Record) : Type 0 where
+pub record IsIdle {P : Type 0} (meld : P → P → P) (name : Over P) (now : Traced P) (pass : Sight P) (own : Record) : Type 0 where
   pub limits : now.limits ≡ name.limits
   pub history : now.history ≡ pass.seen
   pub free : call_by now (Rank own.number) ≡ None
@@ -37,7 +37,7 @@ pub record IsIdle {P : Type 0} (meld : P → P → P) (name : Name) (now : Trace
 
 -- A call of a rank that is in its look: it has told nothing yet, and may as well have begun at the present history. The rank's record
 -- was `old` when it began.
-pub record HasBegun {P : Type 0} (meld : P → P → P) (name : Name) (now : Traced P) (pass : Sight P) (own : Record) (doing : UnderWay P) : Type 0 where
+pub record HasBegun {P : Type 0} (meld : P → P → P) (name : Over P) (now : Traced P) (pass : Sight P) (own : Record) (doing : UnderWay P) : Type 0 where
   pub limits : now.limits ≡ name.limits
   pub history : now.history ≡ pass.seen
   pub u : Under P
@@ -49,7 +49,7 @@ pub record HasBegun {P : Type 0} (meld : P → P → P) (name : Name) (now : Tra
   pub number : own.number ≡ old.number
   pub looking : is_looking doing.phase ≡ true
   pub in_use : IsFalse old.refused
-  pub stands : Stands meld false (local old (view_of name pass)) doing (local own (view_of name pass))
+  pub stands : Stands meld false (local old (view_at name pass)) doing (local own (view_at name pass))
   pub begun : u.begun ≤ length pass.seen
   pub look : u.look ≡ None
   pub own_is : u.own ≡ []
@@ -63,7 +63,7 @@ FoundAt meld limits c start now found _ = ⊤
 -- A call of a rank that has looked, between two steps: what the lines so far say of it, and where it stands. The history at the
 -- look's end is `before.seen`; what the rank has seen of failures is what that says, but where a shrink's poll reads on; the events
 -- of the rank since the look are those that the lines tell.
-pub record HasCalled {P : Type 0} (meld : P → P → P) (name : Name) (now : Traced P) (pass : Sight P) (own : Record) (found : ℕ) (doing : UnderWay P)
+pub record HasCalled {P : Type 0} (meld : P → P → P) (name : Over P) (now : Traced P) (pass : Sight P) (own : Record) (found : ℕ) (doing : UnderWay P)
     : Type 0 where
   pub limits : now.limits ≡ name.limits
   pub history : now.history ≡ pass.seen
@@ -75,7 +75,7 @@ pub record HasCalled {P : Type 0} (meld : P → P → P) (name : Name) (now : Tr
   pub record_is : record_in now own.number ≡ Some (record old { seen = seen })
   pub before : Sight P
   pub stood : Sight P
-  pub stands : Stands meld false (local old (view_of name before)) doing (local own (view_of name stood))
+  pub stands : Stands meld false (local old (view_at name before)) doing (local own (view_at name stood))
   pub waits : Waits false stood pass
   pub past : is_looking doing.phase ≡ false
   pub in_use : IsFalse old.refused

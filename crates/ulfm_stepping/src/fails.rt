@@ -1,7 +1,7 @@
 // A whole declaration.
 ghost use Rattle.std.specs.Prelude.{◌≡◌, ◌+◌, ◌*◌, ◌≤◌};
-ghost use Rattle.ulfm_words.specs.Steps.{IsView};
-ghost use Rattle.ulfm_words.specs.Steps.{limits_in, steps_in, view_of};
+ghost use mathlib.Core.List.{IsPrefix};
+ghost use Rattle.ulfm_words.specs.Steps.{IsView, cached_in, limits_in, steps_in, view_of};
 ghost use Rattle.ulfm_comm.specs.{Calls.{reply_of}, Fails.{declared}};
 ghost use Rattle.ulfm_stepping.specs.Failing.{TellsFail};
 
@@ -18,11 +18,13 @@ pub fn fail_whole<P: Packed, A: Allocator + Copy + Drop>(
     pass: &mut PlainPass<P, A>,
     rank: u16,
 ) -> Result<bool, Refusal>
-    requires of { IsView P.meld (view_of world.now pass.old) }
-    ensures of { IsView P.meld (view_of world.now pass.new) }
-    ensures onward { steps_in (view_of world.now pass.old) ≤ steps_in (view_of world.now pass.new) }
-    ensures few { steps_in (view_of world.now pass.new) ≤ steps_in (view_of world.now pass.old) + 2 * (limits_in (view_of world.now pass.old)).ranks }
-    ensures tells { TellsFail P.meld rank (view_of world.now pass.old) (reply_of declared result) (view_of world.now pass.new) }
+    requires of { IsView P.meld (view_of P.pack world.now pass.old) }
+    ensures of { IsView P.meld (view_of P.pack world.now pass.new) }
+    ensures onward { steps_in (view_of P.pack world.now pass.old) ≤ steps_in (view_of P.pack world.now pass.new) }
+    ensures few { steps_in (view_of P.pack world.now pass.new)
+        ≤ steps_in (view_of P.pack world.now pass.old) + 2 * (limits_in (view_of P.pack world.now pass.old)).ranks }
+    ensures keeps { IsPrefix (cached_in (view_of P.pack world.now pass.old)) (cached_in (view_of P.pack world.now pass.new)) }
+    ensures tells { TellsFail P.meld rank (view_of P.pack world.now pass.old) (reply_of declared result) (view_of P.pack world.now pass.new) }
 {
     world.fail(pass, rank)
 }

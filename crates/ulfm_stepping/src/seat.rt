@@ -3,8 +3,7 @@ ghost use Rattle.std.specs.Prelude.{◌≡◌, ◌<◌, ◌≤◌, ◌^◌, ℕ,
 ghost use Rattle.ulfm_model.specs.{Answers.{traits_of}, History.{History, has}};
 ghost use Rattle.ulfm_model.specs.declared.event.Caller.TheVariants.{Rank as OfRank};
 ghost use Rattle.ulfm_trace_model.specs.Traces.{Traced, listed};
-ghost use Rattle.ulfm_words.specs.Steps.{IsView};
-ghost use Rattle.ulfm_words.specs.Steps.{steps_in, view_of};
+ghost use Rattle.ulfm_words.specs.Steps.{IsView, steps_in, view_of};
 ghost use Rattle.ulfm_stepping.specs.Seats.{MayList, CallPollsShrink, SitsIn, TellsBeginIn, TellsPieceIn, asked_in, has_looked, next_in, wants_in};
 ghost use Rattle.ulfm_stepping.specs.Stepping.{is_early as early_reply, point_of as point_by};
 
@@ -136,8 +135,8 @@ impl<P: Packed, A: Allocator + Copy + Drop> Seat<P, A> {
     ) -> Option<Answer<P>>
         requires mine { (traits_of asked).by ≡ OfRank self.old.own.number }
         requires closed { self.old.call ≡ None }
-        requires of { IsView P.meld (view_of world.now pass.now) }
-        ensures { TellsBeginIn P.meld self.old (view_of world.now pass.now) asked result self.new }
+        requires of { IsView P.meld (view_of P.pack world.now pass.now) }
+        ensures { TellsBeginIn P.meld self.old (view_of P.pack world.now pass.now) asked result self.new }
     {
         let _ = world;
         let doing = self.rank.begin(asked);
@@ -169,12 +168,13 @@ impl<P: Packed, A: Allocator + Copy + Drop> Seat<P, A> {
         world: &World<PlainWords<P>, P, A>,
         pass: &mut PlainPass<P, A>,
     ) -> Result<StepTold<P>, AllocError>
-        requires of { IsView P.meld (view_of world.now pass.old) }
-        requires sits { (now : Traced P) × SitsIn P.meld now (view_of world.now pass.old) self.old }
+        requires of { IsView P.meld (view_of P.pack world.now pass.old) }
+        requires sits { (now : Traced P) × SitsIn P.meld now (view_of P.pack world.now pass.old) self.old }
         requires open { IsTrue (is_some self.old.call) }
-        ensures of { IsView P.meld (view_of world.now pass.new) }
-        ensures onward { steps_in (view_of world.now pass.old) ≤ steps_in (view_of world.now pass.new) }
-        ensures tells { IfOk result (λ told. TellsPieceIn P.meld self.old (view_of world.now pass.old) told self.new (view_of world.now pass.new)) }
+        ensures of { IsView P.meld (view_of P.pack world.now pass.new) }
+        ensures onward { steps_in (view_of P.pack world.now pass.old) ≤ steps_in (view_of P.pack world.now pass.new) }
+        ensures tells { IfOk result (λ told. TellsPieceIn P.meld self.old (view_of P.pack world.now pass.old) told self.new
+            (view_of P.pack world.now pass.new)) }
         ensures memory { OnErr result (CallPollsShrink self.old.own self.old.call) }
     {
         let Some(mut doing) = self.call.take() else {

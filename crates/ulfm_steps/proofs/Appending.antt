@@ -7,9 +7,9 @@ use Rattle.ulfm_model.specs.declared.{event.Caller.{Caller}, limits.Limits.{Limi
 use Rattle.ulfm_model.specs.{History.{History, MayFollow, failures, spawns}, Runs.{Did}}
 use Rattle.ulfm_model.specs.Terms.{made_at}
 use Rattle.ulfm_model.proofs.{Histories.{failures_begin}, Lists.{get_prefix, in_list, prefix_trans}, Stable.{spawns_begin}}
-use Rattle.ulfm_words.specs.{Steps.{Goes, Name, Sight}, Tries.{MayMake, entry}}
+use Rattle.ulfm_words.specs.{Steps.{Goes, Over, Sight}, Tries.{MayMake, entry}}
 use Rattle.ulfm_words.proofs.Trails.{added_after, did_wait}
-use Rattle.ulfm_words.specs.Steps.{view_of}
+use Rattle.ulfm_words.specs.Steps.{view_at}
 use Rattle.ulfm_steps.specs.declared.{append.Append.{Append}, append.Appended.{Appended}, append.Appended.TheVariants.{Won, Found, Full}, item.Item.{Item}, item.Item.TheVariants.{Failure, Comm}}
 use Rattle.ulfm_steps.specs.{Appends.{AppendIs, Appends, MayStand, MayAppend, Passed, event_at, items, room, turns_left}}
 use Rattle.ulfm_steps.specs.Appends.{wanted}
@@ -98,8 +98,8 @@ module _ {P : Type 0} (meld : P → P → P) (limits : Limits) where
   append_stays seen longer item begins may more further legal = may more (prefix_trans seen longer more begins further) legal
 
 -- steps before it that made no event
-pub appends_later : {P : Type 0} (meld : P → P → P) (alone : Bool) (name : Name) (item : Item) (by : Caller) (few most : ℕ) (result : Appended) (x y z : Sight P) → Did alone [] x.seen y.seen → IsPrefix x.cached y.cached → y.caches ≡ x.caches → x.steps ≤ y.steps → y.steps + few ≤ x.steps + most
-    → Appends meld alone (wanted item by) few (view_of name y) result (view_of name z) → Appends meld alone (wanted item by) most (view_of name x) result (view_of name z)
+pub appends_later : {P : Type 0} (meld : P → P → P) (alone : Bool) (name : Over P) (item : Item) (by : Caller) (few most : ℕ) (result : Appended) (x y z : Sight P) → Did alone [] x.seen y.seen → IsPrefix x.cached y.cached → y.caches ≡ x.caches → x.steps ≤ y.steps → y.steps + few ≤ x.steps + most
+    → Appends meld alone (wanted item by) few (view_at name y) result (view_at name z) → Appends meld alone (wanted item by) most (view_at name x) result (view_at name z)
 appends_later {P} meld alone name item by few most result x y z did kept same onward fewer ends = record { of = ends.of; outcome = later result ends.outcome; cached = prefix_trans x.cached y.cached z.cached kept ends.cached; caches = ends.caches ∙ same; onward = omega (arith, onward, ends.onward); steps = omega (arith, fewer, ends.steps) }
   where
     later : (r : Appended) → AppendIs alone name.limits item by y.seen z.seen r → AppendIs alone name.limits item by x.seen z.seen r
@@ -108,8 +108,8 @@ appends_later {P} meld alone name item by few most result x y z did kept same on
     later Full is = (did_wait alone [] x.seen y.seen z.seen did is.0, is.1)
 
 -- .. and one more step, whether it was the last or not
-pub appends_next : {P : Type 0} (meld : P → P → P) (alone : Bool) (name : Name) (item : Item) (by : Caller) (most : ℕ) (result : Option Appended) (x y z : Sight P) → Did alone [] x.seen y.seen → IsPrefix x.cached y.cached → y.caches ≡ x.caches → x.steps ≤ y.steps → y.steps + 1 ≤ x.steps + most
-    → MatchOption result (Goes meld alone false 1 (view_of name y) (view_of name z)) (λ a. Appends meld alone (wanted item by) 1 (view_of name y) a (view_of name z)) → MatchOption result (Goes meld alone false most (view_of name x) (view_of name z)) (λ a. Appends meld alone (wanted item by) most (view_of name x) a (view_of name z))
+pub appends_next : {P : Type 0} (meld : P → P → P) (alone : Bool) (name : Over P) (item : Item) (by : Caller) (most : ℕ) (result : Option Appended) (x y z : Sight P) → Did alone [] x.seen y.seen → IsPrefix x.cached y.cached → y.caches ≡ x.caches → x.steps ≤ y.steps → y.steps + 1 ≤ x.steps + most
+    → MatchOption result (Goes meld alone false 1 (view_at name y) (view_at name z)) (λ a. Appends meld alone (wanted item by) 1 (view_at name y) a (view_at name z)) → MatchOption result (Goes meld alone false most (view_at name x) (view_at name z)) (λ a. Appends meld alone (wanted item by) most (view_at name x) a (view_at name z))
 appends_next meld alone name item by most None x y z did kept same onward fewer went =
     record { of = went.of; did = did_wait alone [] x.seen y.seen z.seen did went.did; cached = prefix_trans x.cached y.cached z.cached kept went.cached; caches = went.caches ∙ same; onward = omega (arith, onward, went.onward); steps = omega (arith, fewer, went.steps) }
 appends_next meld alone name item by most (Some a) x y z did kept same onward fewer ends = appends_later meld alone name item by 1 most a x y z did kept same onward fewer ends

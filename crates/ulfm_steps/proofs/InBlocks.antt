@@ -8,14 +8,14 @@ use Rattle.std.proofs.Math.Nat.{pow-succ'}
 use Rattle.std.proofs.Math.Pow.{pow_mono}
 use mathlib.Core.List.{IsPrefix}
 use Rattle.ulfm_laws.specs.{declared.summary.Summary.{Summary}}
-use Rattle.ulfm_model.specs.declared.{block.Side.{Side}, block.Side.TheVariants.{Front, Back}, place.Place.TheVariants.{Slot as SlotAt}, limits.Limits.{Limits}}
-use Rattle.ulfm_model.specs.{Blocks.{IsBlock, IsBlockWithin, IsSide, IsSummed, block_of, block_word, width}, History.{History, IsLegal}, Words.{MayOpen}}
+use Rattle.ulfm_model.specs.declared.{block.Wing.{Wing}, block.Side.{Side}, block.Side.TheVariants.{Front, Back}, place.Place.TheVariants.{Slot as SlotAt}, limits.Limits.{Limits}}
+use Rattle.ulfm_model.specs.{Blocks.{IsBlockWithin, IsSide, IsSummed, IsWritten, block_of, width}, History.{History, IsLegal}, Words.{MayOpen}}
 use Rattle.ulfm_model.proofs.{Blocks.{width_is, width_power, width_wide}, Groups.{members_few}, Lists.{none_of}, Summed.{summed_later, summed_none}}
-use Rattle.ulfm_words.specs.{Blocks.{Caches, BlockSays}, Steps.{Name, Sight}, declared.step.Site.{Site}}
+use Rattle.ulfm_words.specs.{Blocks.{Caches, BlockSays}, Steps.{Over, Sight, View}, declared.step.Site.{Site}}
 use Rattle.ulfm_words.proofs.Ranks.{spawns_below}
-use Rattle.ulfm_words.specs.Steps.{view_of}
-use Rattle.ulfm_steps.specs.{Blocks.{BothTell, AtBlock, MembersTell, begins_at, block_at, blocks_cost, blocks_left, cost_behind, cost_of, first_of, next_in_block, peeks_left, site_of, starts_at, unread_cost, has_back, is_whole, said_at}, Rounds.{IsRoundOf}, Turns.{TakesAt}}
-use Rattle.ulfm_steps.specs.declared.{blocks.ReadBlocks.{ReadBlocks}, blocks.RoundBlocks.{RoundBlocks}}
+use Rattle.ulfm_words.specs.Steps.{view_at}
+use Rattle.ulfm_steps.specs.{Blocks.{BothTell, AtBlock, HoldsHalf, MembersTell, begins_at, block_at, blocks_cost, blocks_left, cost_behind, cost_of, first_of, next_in_block, peeks_from, peeks_left, site_of, starts_at, unread_cost, has_back, is_whole, said_at}, Rounds.{IsRoundOf}, Turns.{TakesAt}}
+use Rattle.ulfm_steps.specs.declared.{blocks.Peek.{Peek}, blocks.ReadBlocks.{ReadBlocks}, blocks.RoundBlocks.{RoundBlocks}}
 
 -- a block has as many members as it is wide
 pub block_length : (side : Side) (g : List ℕ) → length (block_of side g) ≡ width (length g)
@@ -100,10 +100,10 @@ width_of_power n i some low high =
     let wide = width_wide n some in
     p.1 ∙ same_power p.0 i n (omega (arith, p.1, w.0)) (omega (arith, p.1, wide)) low high
 
--- a block of a round, whose members were read, each of whom is settled
-pub is_block : {P : Type 0} (meld : P → P → P) (pack : P → ℕ) (limits : Limits) (h : History P) (c k : ℕ) (side : Side) (g : List ℕ) (n w : ℕ) (all : Summary P) → IsRoundOf limits h c k g → IsSide side g → n ≡ width (length g)
-    → IsSummed meld h c k (take n (block_of side g)) all → w ≡ block_word pack all → IsBlock meld pack limits.ranks h (block_at c k side) w
-is_block meld pack limits h c k side g n w all round there is read word = record {
+-- the words of a block of a round, whose members were read, each of whom is settled
+pub is_written : {P : Type 0} (meld : P → P → P) (written : Summary P → ℕ) (limits : Limits) (h : History P) (c k : ℕ) (side : Side) (g : List ℕ) (n w : ℕ) (all : Summary P) → IsRoundOf limits h c k g → IsSide side g → n ≡ width (length g)
+    → IsSummed meld h c k (take n (block_of side g)) all → w ≡ written all → IsWritten meld written limits.ranks h (block_at c k side) w
+is_written meld written limits h c k side g n w all round there is read word = record {
   exists = round.exists;
   side = subst (IsSide side) round.group_is there;
   all = all;
@@ -119,6 +119,14 @@ told_of meld limits h c k side g (Some all) round says = subst (λ x. IsSummed m
 
 pub within_of : {P : Type 0} (meld : P → P → P) (limits : Limits) (h : History P) (c k : ℕ) (side : Side) (g : List ℕ) → IsLegal meld limits h → MayOpen limits → IsRoundOf limits h c k g → IsBlockWithin limits (block_at c k side)
 within_of meld limits h c k side g legal may round = record { comm = omega (arith, round.exists, spawns_below meld limits h legal may.in_range.some_comms); round = round.in_rounds }
+
+-- nothing is held of a member once all were read
+pub nothing_held : {P : Type 0} (view : View P) (g : List ℕ) (r : ReadBlocks P) → HoldsHalf view g r → width (length g) ≤ r.read → r.first ≡ None
+nothing_held view g r half le = go r.first refl
+  where
+    go : (o : Option ℕ) → r.first ≡ o → r.first ≡ None
+    go None e = e
+    go (Some w) e = absurd (let lt = half.more (ap is_some e) in omega (arith, lt, le))
 
 -- one more block is known
 abbrev pub known_with : {P : Type 0} → RoundBlocks P → Side → Summary P → RoundBlocks P
@@ -156,78 +164,134 @@ pub apart_lt : (n : ℕ) → has_back n ≡ true → width n < n
 apart_lt n is = grind (arith, nat_tests)
 
 -- the member that a reading loads next
-pub rank_is : {P : Type 0} (meld : P → P → P) (h : History P) (g : List ℕ) (r : ReadBlocks P) → AtBlock meld h g r → slice_index g (r.first + r.read) ≡ next_in_block g r
+pub rank_is : {P : Type 0} (meld : P → P → P) (h : History P) (g : List ℕ) (r : ReadBlocks P) → AtBlock meld h g r → slice_index g (r.begin + r.read) ≡ next_in_block g r
 rank_is meld h g r at = ap (λ n. slice_index g (n + r.read)) at.begins
 
-pub rank_within : {P : Type 0} (meld : P → P → P) (h : History P) (g : List ℕ) (r : ReadBlocks P) → AtBlock meld h g r → r.read < width (length g) → r.first + r.read < length g
+pub rank_within : {P : Type 0} (meld : P → P → P) (h : History P) (g : List ℕ) (r : ReadBlocks P) → AtBlock meld h g r → r.read < width (length g) → r.begin + r.read < length g
 rank_within meld h g r at more = let lt = index_within r.side r.read g more in omega (arith, lt, at.begins)
 
--- a reading's next step while there are members of the block
-pub takes_member : {P : Type 0} (g : List ℕ) (r : ReadBlocks P) (before after : ℕ) (old new : Sight P) → r.read < r.width → TakesAt false (Site.Place (SlotAt r.comm r.round (next_in_block g r))) true before after old new
+-- where a reading's next step is, and whether it is a load
+pub takes_there : {P : Type 0} (g : List ℕ) (r : ReadBlocks P) (site : Site) (load : Bool) (before after : ℕ) (old new : Sight P) → site_of g r ≡ site → nat_lt r.read r.width ≡ load → TakesAt false site load before after old new
     → TakesAt false (site_of g r) (nat_lt r.read r.width) before after old new
-takes_member {P} g r before after old new lt takes =
-    let is : nat_lt r.read r.width ≡ true = grind (arith, nat_tests) in
-    subst (λ b. TakesAt false (if b then Site.Place (SlotAt r.comm r.round (next_in_block g r)) else Site.Block (block_at r.comm r.round r.side)) b before after old new) (sym is) takes
+takes_there g r site load before after old new at is takes =
+    subst (λ b. TakesAt false (site_of g r) b before after old new) (sym is) (subst (λ s. TakesAt false s load before after old new) (sym at) takes)
 
--- .. and where all of them were read
-pub takes_cache : {P : Type 0} (meld : P → P → P) (alone : Bool) (name : Name) (g : List ℕ) (r : ReadBlocks P) (word before after : ℕ) (old : Sight P) (result : Result (Unit {0}) ℕ) (new : Sight P) → r.width ≤ r.read → after + 1 ≤ before
-    → Caches meld alone (block_at r.comm r.round r.side) word (view_of name old) result (view_of name new) → TakesAt false (site_of g r) (nat_lt r.read r.width) before after old new
-takes_cache {P} meld alone name g r word before after old result new le fewer caches =
-    let is : nat_lt r.read r.width ≡ false = grind (arith, nat_tests) in
-    subst (λ b. TakesAt false (if b then Site.Place (SlotAt r.comm r.round (next_in_block g r)) else Site.Block (block_at r.comm r.round r.side)) b before after old new) (sym is)
-    (record { one = λ _. record { steps = caches.steps; word = _; last = caches.last }; some = omega (arith, caches.steps); turns = omega (arith, caches.steps, fewer) })
+module _ {P : Type 0} (g : List ℕ) (r : ReadBlocks P) where
+  reads_on : r.read < r.width → nat_lt r.read r.width ≡ true
+  reads_on lt = grind (arith, nat_tests)
+
+  read_up : r.width ≤ r.read → nat_lt r.read r.width ≡ false
+  read_up le = grind (arith, nat_tests)
+
+  site_slot : r.read < r.width → r.first ≡ None → site_of g r ≡ Site.Place (SlotAt r.comm r.round (next_in_block g r))
+  site_slot lt none = rw (reads_on lt, none) refl
+
+  site_slot_wing : (w : ℕ) → r.read < r.width → r.first ≡ Some w → site_of g r ≡ Site.Wing (Wing.Slot r.comm r.round (next_in_block g r))
+  site_slot_wing w lt some = rw (reads_on lt, some) refl
+
+  site_wing : r.width ≤ r.read → r.winged ≡ false → site_of g r ≡ Site.Wing (Wing.Block (block_at r.comm r.round r.side))
+  site_wing le bare = rw (read_up le, bare) refl
+
+  site_block : r.width ≤ r.read → r.winged ≡ true → site_of g r ≡ Site.Block (block_at r.comm r.round r.side)
+  site_block le set = rw (read_up le, set) refl
+
+  module _ (before after : ℕ) (old new : Sight P) where
+    -- a load of the next member's place
+    pub takes_member : r.read < r.width → r.first ≡ None → TakesAt false (Site.Place (SlotAt r.comm r.round (next_in_block g r))) true before after old new → TakesAt false (site_of g r) (nat_lt r.read r.width) before after old new
+    takes_member lt none takes = takes_there g r _ true before after old new (site_slot lt none) (reads_on lt) takes
+
+    -- .. and of its wing
+    pub takes_member_wing : (w : ℕ) → r.read < r.width → r.first ≡ Some w → TakesAt false (Site.Wing (Wing.Slot r.comm r.round (next_in_block g r))) true before after old new → TakesAt false (site_of g r) (nat_lt r.read r.width) before after old new
+    takes_member_wing w lt some takes = takes_there g r _ true before after old new (site_slot_wing w lt some) (reads_on lt) takes
+
+    -- an exchange of the block's wing
+    pub takes_wing : r.width ≤ r.read → r.winged ≡ false → TakesAt false (Site.Wing (Wing.Block (block_at r.comm r.round r.side))) false before after old new → TakesAt false (site_of g r) (nat_lt r.read r.width) before after old new
+    takes_wing le bare takes = takes_there g r _ false before after old new (site_wing le bare) (read_up le) takes
+
+    -- .. and of its word
+    pub takes_cache : (meld : P → P → P) (alone : Bool) (name : Over P) (word : ℕ) (result : Result (Unit {0}) ℕ) → r.width ≤ r.read → r.winged ≡ true → after + 1 ≤ before
+        → Caches meld alone (block_at r.comm r.round r.side) word (view_at name old) result (view_at name new) → TakesAt false (site_of g r) (nat_lt r.read r.width) before after old new
+    takes_cache meld alone name word result le set fewer caches =
+        takes_there g r _ false before after old new (site_block le set) (read_up le)
+        (record { one = λ _. record { steps = caches.steps; word = _; last = caches.last }; some = omega (arith, caches.steps); turns = omega (arith, caches.steps, fewer) })
 
 -- the cost of the block that comes next
-pub next_cost : {P : Type 0} (side : Side) (b : RoundBlocks P) (all : Summary P) (n : ℕ) → (side ≡ Back → is_some b.front ≡ true) → is_whole (known_with b side all) n ≡ false → cost_behind b side n ≡ width n + 1
+pub next_cost : {P : Type 0} (side : Side) (b : RoundBlocks P) (all : Summary P) (n : ℕ) → (side ≡ Back → is_some b.front ≡ true) → is_whole (known_with b side all) n ≡ false → cost_behind b side n ≡ 2 * width n + 2
 next_cost Front b all n before more = let next = next_by Front b all n before more in rw (next.2, next.1) refl
 next_cost Back b all n before more = let next = next_by Back b all n before more in absurd (let none = next.1 in cc none)
 
--- a peek and the readings of both blocks make two steps for each member at most, and two more
-pub peek_most : (n : ℕ) (side : Side) → 0 < n → peeks_left n side + blocks_cost n ≤ 2 * n + 2
-peek_most n side some = go side (has_back n) refl
+-- a peek and the readings of both blocks make four steps for each member at most, and four more
+pub peek_most : {P : Type 0} (n : ℕ) (peek : Peek P) → 0 < n → peeks_left n peek + blocks_cost n ≤ 4 * n + 4
+peek_most n peek some = let most = go peek.side (has_back n) refl in omega (arith, most)
   where
-    go : (side : Side) (t : Bool) → has_back n ≡ t → peeks_left n side + blocks_cost n ≤ 2 * n + 2
+    go : (side : Side) (t : Bool) → has_back n ≡ t → peeks_from n side + blocks_cost n ≤ 4 * n + 4
     go Front true apart = let lt = apart_lt n apart in rw apart (omega (arith, lt))
     go Front false whole = let w = width_is n in rw whole (omega (arith, w.0, some))
     go Back true apart = let lt = apart_lt n apart in rw apart (omega (arith, lt))
     go Back false whole = let w = width_is n in rw whole (omega (arith, w.0, some))
 
--- at least one load is left of a peek
-pub peek_some : (n : ℕ) (side : Side) → 0 < peeks_left n side
-peek_some n Front = go (has_back n)
+-- a block takes a peek two loads
+pub from_some : (n : ℕ) (side : Side) → 1 < peeks_from n side
+from_some n Front = go (has_back n)
   where
-    go : (t : Bool) → 0 < (if t then 2 else 1)
+    go : (t : Bool) → 1 < (if t then 4 else 2)
     go true = omega arith
     go false = omega arith
-peek_some n Back = omega arith
+from_some n Back = omega arith
+
+less_one : (n : ℕ) (t : Bool) → 1 < n → 0 < n - (if t then 1 else 0)
+less_one n true more = omega (arith, more)
+less_one n false more = omega (arith, more)
+
+-- at least one load is left of a peek
+pub peek_some : {P : Type 0} (n : ℕ) (peek : Peek P) → 0 < peeks_left n peek
+peek_some n peek = less_one (peeks_from n peek.side) (is_some peek.first) (from_some n peek.side)
+
+-- .. and four at most
+pub peeks_most : {P : Type 0} (n : ℕ) (peek : Peek P) → peeks_left n peek ≤ 4
+peeks_most n peek = go peek.side
+  where
+    front : (t : Bool) → (if t then 4 else 2) ≤ 4
+    front true = omega arith
+    front false = omega arith
+
+    go : (side : Side) → peeks_from n side - (if is_some peek.first then 1 else 0) ≤ 4
+    go Front = let most = front (has_back n) in omega (arith, most)
+    go Back = omega arith
 
 -- no more is to be read than both blocks
 pub unread_most : {P : Type 0} (blocks : RoundBlocks P) (n : ℕ) → unread_cost blocks n ≤ blocks_cost n
 unread_most {P} blocks n = go (has_back n)
   where
-    cost : (o : Option (Summary P)) → cost_of o n ≤ width n + 1
+    cost : (o : Option (Summary P)) → cost_of o n ≤ 2 * width n + 2
     cost None = omega arith
     cost (Some all) = omega arith
 
-    go : (t : Bool) → cost_of blocks.front n + (if t then cost_of blocks.back n else 0) ≤ width n + 1 + (if t then width n + 1 else 0)
+    go : (t : Bool) → cost_of blocks.front n + (if t then cost_of blocks.back n else 0) ≤ 2 * width n + 2 + (if t then 2 * width n + 2 else 0)
     go true = omega (arith, cost blocks.front, cost blocks.back)
     go false = omega (arith, cost blocks.front)
 
 -- no more steps are left than both blocks cost
-pub blocks_most : {P : Type 0} (n : ℕ) (r : ReadBlocks P) → blocks_left n r ≤ 2 * (width n + 1)
+pub blocks_most : {P : Type 0} (n : ℕ) (r : ReadBlocks P) → blocks_left n r ≤ 2 * (2 * width n + 2)
 blocks_most {P} n r = go r.side
   where
-    cost : (o : Option (Summary P)) → cost_of o n ≤ width n + 1
+    cost : (o : Option (Summary P)) → cost_of o n ≤ 2 * width n + 2
     cost None = omega arith
     cost (Some all) = omega arith
 
-    behind : (t : Bool) → (if t then cost_of r.blocks.back n else 0) ≤ width n + 1
+    behind : (t : Bool) → (if t then cost_of r.blocks.back n else 0) ≤ 2 * width n + 2
     behind true = cost r.blocks.back
     behind false = omega arith
 
-    go : (side : Side) → width n - r.read + 1 + cost_behind r.blocks side n ≤ 2 * (width n + 1)
-    go Front = omega (arith, behind (has_back n))
-    go Back = omega arith
+    own : (f w : Bool) → 2 * (width n - r.read) - (if f then 1 else 0) + (if w then 1 else 2) ≤ 2 * width n + 2
+    own true true = omega arith
+    own true false = omega arith
+    own false true = omega arith
+    own false false = omega arith
+
+    go : (side : Side) → 2 * (width n - r.read) - (if is_some r.first then 1 else 0) + (if r.winged then 1 else 2) + cost_behind r.blocks side n ≤ 2 * (2 * width n + 2)
+    go Front = omega (arith, own (is_some r.first) r.winged, behind (has_back n))
+    go Back = omega (arith, own (is_some r.first) r.winged)
 
 -- a reading of blocks that aren't all known begins at one that isn't
 pub starts : {P : Type 0} (meld : P → P → P) (h : History P) (c k : ℕ) (g : List ℕ) (blocks : RoundBlocks P) → 0 < length g → BothTell meld h c k g blocks → is_whole blocks (length g) ≡ false → AtBlock meld h g (starts_at c k blocks (length g))

@@ -1,23 +1,31 @@
 -- Blocks of a round that are known to be set.
-use Rattle.std.proofs.Common.{◌≡◌, ℕ, ◌<◌, Bool, true, false, if◌then◌else◌, List, length, Option, Some, is_some, refl, arith}
+use Rattle.std.proofs.Common.{◌≡◌, ℕ, ◌<◌, Bool, true, false, if◌then◌else◌, List, length, Option, None, Some, is_some, refl, arith}
 use Rattle.std.proofs.lemmas.Bool.Decides.{nat_tests}
 use mathlib.Core.List.{IsPrefix}
 use Rattle.ulfm_laws.specs.{declared.summary.Summary.{Summary}}
-use Rattle.ulfm_model.specs.declared.{block.Block.{Block}, block.Side.{Side}, block.Side.TheVariants.{Front, Back}}
+use Rattle.ulfm_model.specs.declared.{block.Beside.{Beside}, block.Block.{Block}, block.Wing.{Wing}, block.Side.{Side}, block.Side.TheVariants.{Front, Back}}
 use Rattle.ulfm_model.specs.Blocks.{has_block, width}
-use Rattle.ulfm_model.proofs.Blocks.{has_block_stays}
+use Rattle.ulfm_model.proofs.Blocks.{has_block_stays, has_wing_stays}
+use Rattle.ulfm_words.specs.{Blocks.{IsSpreadBlock}, Steps.{View}}
 use Rattle.ulfm_steps.specs.Blocks.{AllSet, AreSet, block_at, has_back, is_whole}
 use Rattle.ulfm_steps.specs.declared.{blocks.RoundBlocks.{RoundBlocks}}
 use Rattle.ulfm_steps.proofs.InBlocks.{known_with}
 
 -- what is set stays so
-pub set_later : {P : Type 0} (cached longer : List Block) (c k : ℕ) (blocks : RoundBlocks P) → IsPrefix cached longer → AreSet cached c k blocks → AreSet longer c k blocks
+pub set_later : {P : Type 0} (cached longer : List Beside) (c k : ℕ) (blocks : RoundBlocks P) → IsPrefix cached longer → AreSet cached c k blocks → AreSet longer c k blocks
 set_later cached longer c k blocks begins are side some = has_block_stays cached longer (block_at c k side) begins (are side some)
 
-pub all_later : (cached longer : List Block) (c k : ℕ) (group : List ℕ) → IsPrefix cached longer → AllSet cached c k group → AllSet longer c k group
+pub all_later : (cached longer : List Beside) (c k : ℕ) (group : List ℕ) → IsPrefix cached longer → AllSet cached c k group → AllSet longer c k group
 all_later cached longer c k group begins all side is = has_block_stays cached longer (block_at c k side) begins (all side is)
 
-module _ {P : Type 0} (cached longer : List Block) (c k : ℕ) (blocks : RoundBlocks P) (begins : IsPrefix cached longer) (are : AreSet cached c k blocks) where
+pub no_first : (o : Option ℕ) → o ≡ None → is_some o ≡ true → ⊥
+no_first None none some = absurd (cc some)
+no_first (Some w) none some = absurd (cc none)
+
+pub spread_later : {P : Type 0} (old new : View P) (b : Block) → IsPrefix old.pass.cached new.pass.cached → IsSpreadBlock old b → IsSpreadBlock new b
+spread_later old new b begins is = (is.0, is.1, has_wing_stays old.pass.cached new.pass.cached (Wing.Block b) is.0 begins is.2)
+
+module _ {P : Type 0} (cached longer : List Beside) (c k : ℕ) (blocks : RoundBlocks P) (begins : IsPrefix cached longer) (are : AreSet cached c k blocks) where
   -- one block more, if it is known
   pub set_front : (said : Option (Summary P)) → (is_some said ≡ true → has_block longer (block_at c k Front) ≡ true) → AreSet longer c k (record blocks { front = said })
   set_front said set Front some = set some
@@ -33,7 +41,7 @@ module _ {P : Type 0} (cached longer : List Block) (c k : ℕ) (blocks : RoundBl
   set_known Back all set = set_back (Some all) (λ some. set)
 
 -- a round whose blocks are known has none that isn't set
-pub all_known : {P : Type 0} (cached : List Block) (c k : ℕ) (group : List ℕ) (blocks : RoundBlocks P) → AreSet cached c k blocks → is_whole blocks (length group) ≡ true → AllSet cached c k group
+pub all_known : {P : Type 0} (cached : List Beside) (c k : ℕ) (group : List ℕ) (blocks : RoundBlocks P) → AreSet cached c k blocks → is_whole blocks (length group) ≡ true → AllSet cached c k group
 all_known {P} cached c k group blocks are whole = go
   where
     front : (t f b : Bool) → (if t then (if f then b else false) else f) ≡ true → f ≡ true

@@ -3,6 +3,7 @@ pub mod Looking
 pub mod Settling
 pub mod Groups
 pub mod Reading
+pub mod OneMore
 pub mod InBlocks
 pub mod KnownBlocks
 pub mod Arriving
@@ -12,3 +13,4 @@ pub mod Appending
 pub mod Coming
 pub mod Spawning
 pub mod Passing
+mod Peeking

@@ -12,9 +12,9 @@ use Rattle.ulfm_model.specs.declared.{contribution.MarkCount.{MarkCount}, contri
 use Rattle.ulfm_model.specs.{History.{History, IsLegal, entries_by, failed, failures, has, says, slot}, Runs.{Did}, Words.{MayOpen}}
 use Rattle.ulfm_model.specs.Terms.{settled_by}
 use Rattle.ulfm_model.proofs.{Histories.{failures_begin, legal_parts, slot_kept, slot_stays}, Lists.{distinct_filter, each_always, each_append, each_from, filter_same, get_prefix, is_some_of, length_prefix, not_in_filter, prefix_trans}, Says.{put_by}, Spawned.{failures_distinct}}
-use Rattle.ulfm_words.specs.{Steps.{IsAdded, IsView, Name, Sight}, Tries.{MayPut, Tries, entry}}
+use Rattle.ulfm_words.specs.{Steps.{IsAdded, IsView, Over, Sight}, Tries.{MayPut, Tries, entry}}
 use Rattle.ulfm_words.proofs.{Growing.{prefix_self}, Ranks.{failures_le}, Trails.{did_added, did_more, did_none, did_prefix, did_quiet, did_wait}}
-use Rattle.ulfm_words.specs.Steps.{view_of}
+use Rattle.ulfm_words.specs.Steps.{view_at}
 use Rattle.ulfm_words.specs.Tries.{attempt}
 use Rattle.ulfm_steps.specs.declared.mark_all.MarkAll.{MarkAll}
 use Rattle.ulfm_steps.specs.Marks.{HasMarked, IsMarkOf, Marks, MarksOnce, MarkSteps, MayMarkAll, marks_left, members_in}
@@ -248,9 +248,9 @@ module _ {P : Type 0} (alone : Bool) (number c k : ℕ) where
   marks_push xs r x y z out first last = marks_join xs (r ∷ []) x y z (out, tt) first last
 
   -- one exchange of a member's place
-  pub marks_try : (meld : P → P → P) (pack : P → ℕ) (name : Name) (r : ℕ) (mark : MarkCount) (won : Bool) (old new : Sight P)
-      → Tries meld pack alone (attempt (SlotAt c k r) (entry (ByRank number) (Mark c k r mark))) won (view_of name old) (view_of name new)
-      → MatchBool won (slot new.seen c k r ≡ Some (Marked mark)) ((s : Slot P) × (slot new.seen c k r ≡ Some s)) → MarkSteps meld alone number (round_on c k) (r ∷ []) (view_of name old) (view_of name new)
+  pub marks_try : (meld : P → P → P) (pack : P → ℕ) (name : Over P) (r : ℕ) (mark : MarkCount) (won : Bool) (old new : Sight P)
+      → Tries meld pack alone (attempt (SlotAt c k r) (entry (ByRank number) (Mark c k r mark))) won (view_at name old) (view_at name new)
+      → MatchBool won (slot new.seen c k r ≡ Some (Marked mark)) ((s : Slot P) × (slot new.seen c k r ≡ Some s)) → MarkSteps meld alone number (round_on c k) (r ∷ []) (view_at name old) (view_at name new)
   marks_try meld pack name r mark true old new tries stands =
       record { of = tries.of; marks = marks_won meld name.limits r mark (Marked mark) old.seen new.seen tries.outcome tries.of.legal stands; cached = tries.cached; caches = tries.caches; onward = omega (arith, tries.steps); steps = omega (arith, tries.steps) }
   marks_try meld pack name r mark false old new tries stands =
@@ -262,13 +262,13 @@ may_stays limits h longer c k group declared begins may =
     record { round = round_stays limits h longer c k group begins may.round; begins = prefix_trans declared (failures h) (failures longer) may.begins (failures_begin h longer begins) }
 
 -- the exchanges so far and one more
-pub steps_push : {P : Type 0} (meld : P → P → P) (alone : Bool) (name : Name) (number c k : ℕ) (xs : List ℕ) (r : ℕ) (x y z : Sight P) → has xs r ≡ false → MarkSteps meld alone number (round_on c k) xs (view_of name x) (view_of name y) → MarkSteps meld alone number (round_on c k) (r ∷ []) (view_of name y) (view_of name z)
-    → MarkSteps meld alone number (round_on c k) (xs ++ r ∷ []) (view_of name x) (view_of name z)
+pub steps_push : {P : Type 0} (meld : P → P → P) (alone : Bool) (name : Over P) (number c k : ℕ) (xs : List ℕ) (r : ℕ) (x y z : Sight P) → has xs r ≡ false → MarkSteps meld alone number (round_on c k) xs (view_at name x) (view_at name y) → MarkSteps meld alone number (round_on c k) (r ∷ []) (view_at name y) (view_at name z)
+    → MarkSteps meld alone number (round_on c k) (xs ++ r ∷ []) (view_at name x) (view_at name z)
 steps_push meld alone name number c k xs r x y z out first last =
     record { of = last.of; marks = marks_push alone number c k xs r x.seen y.seen z.seen out first.marks last.marks; cached = prefix_trans x.cached y.cached z.cached first.cached last.cached; caches = last.caches ∙ first.caches; onward = omega (arith, first.onward, last.onward); steps = omega (arith, first.steps, last.steps, length-append xs (r ∷ [])) }
 
 -- a marking that has marked nobody
-pub marked_none : {P : Type 0} (meld : P → P → P) (alone : Bool) (name : Name) (start : MarkAll) (group declared : List ℕ) (x : Sight P) → IsView meld (view_of name x) → HasMarked meld alone start (among group declared) start.next (view_of name x) (view_of name x)
+pub marked_none : {P : Type 0} (meld : P → P → P) (alone : Bool) (name : Over P) (start : MarkAll) (group declared : List ℕ) (x : Sight P) → IsView meld (view_at name x) → HasMarked meld alone start (among group declared) start.next (view_at name x) (view_at name x)
 marked_none meld alone name start group declared x of =
     record {
       between = [];
@@ -277,13 +277,13 @@ marked_none meld alone name start group declared x of =
     }
 
 -- .. and one that has marked one more
-pub marked_push : {P : Type 0} (meld : P → P → P) (alone : Bool) (name : Name) (start here after : MarkAll) (group declared : List ℕ) (x y z : Sight P) → here.rank ≡ start.rank → here.comm ≡ start.comm → here.round ≡ start.round → IsPrefix declared (failures y.seen)
-    → here.next < length declared → members_in group declared after.next ≡ members_in group declared here.next ++ slice_index declared here.next ∷ [] → HasMarked meld alone start (among group declared) here.next (view_of name x) (view_of name y)
-    → MarkSteps meld alone here.rank (round_on here.comm here.round) (slice_index declared here.next ∷ []) (view_of name y) (view_of name z) → HasMarked meld alone start (among group declared) after.next (view_of name x) (view_of name z)
+pub marked_push : {P : Type 0} (meld : P → P → P) (alone : Bool) (name : Over P) (start here after : MarkAll) (group declared : List ℕ) (x y z : Sight P) → here.rank ≡ start.rank → here.comm ≡ start.comm → here.round ≡ start.round → IsPrefix declared (failures y.seen)
+    → here.next < length declared → members_in group declared after.next ≡ members_in group declared here.next ++ slice_index declared here.next ∷ [] → HasMarked meld alone start (among group declared) here.next (view_at name x) (view_at name y)
+    → MarkSteps meld alone here.rank (round_on here.comm here.round) (slice_index declared here.next ∷ []) (view_at name y) (view_at name z) → HasMarked meld alone start (among group declared) after.next (view_at name x) (view_at name z)
 marked_push meld alone name start here after group declared x y z rank comm round begins more further so_far one =
     let r = slice_index declared here.next in
     let before = members_in group declared start.next in
-    let last : MarkSteps meld alone start.rank (round_on start.comm start.round) (r ∷ []) (view_of name y) (view_of name z) = rw (← rank, ← comm, ← round) one in
+    let last : MarkSteps meld alone start.rank (round_on start.comm start.round) (r ∷ []) (view_at name y) (view_at name z) = rw (← rank, ← comm, ← round) one in
     let new = new_member meld name.limits y.seen group declared before so_far.between here.next so_far.marks.of.legal begins more so_far.members_are in
     record {
       between = so_far.between ++ r ∷ [];
@@ -319,7 +319,7 @@ marks_fall group declared at next lt member same =
     omega (arith, more, push, within)
 
 -- those that were marked, and those that are left, are no more than were left before
-pub marks_turn : {P : Type 0} (meld : P → P → P) (alone : Bool) (name : Name) (start : MarkAll) (group declared : List ℕ) (at : ℕ) (old new : Sight P) → HasMarked meld alone start (among group declared) at (view_of name old) (view_of name new)
+pub marks_turn : {P : Type 0} (meld : P → P → P) (alone : Bool) (name : Over P) (start : MarkAll) (group declared : List ℕ) (at : ℕ) (old new : Sight P) → HasMarked meld alone start (among group declared) at (view_at name old) (view_at name new)
     → new.steps + marks_left group declared at ≤ old.steps + marks_left group declared start.next
 marks_turn meld alone name start group declared at old new marked =
     let joined = ap length marked.members_are in

@@ -55,21 +55,21 @@ impl Append {
         words: &W,
         pass: &mut W::Pass,
     ) -> Option<Appended>
-        requires of { IsView P.meld (view_of (W.name words.now) (W.sight pass.old)) }
-        requires may { MayAppendIn P.meld (view_of (W.name words.now) (W.sight pass.old)) self.old.item }
-        requires round { HasRound (limits_in (view_of (W.name words.now) (W.sight pass.old))) self.old.item }
-        requires passed { Passed (seen_in (view_of (W.name words.now) (W.sight pass.old))) self.old.item self.old.index }
-        requires more { self.old.index < room self.old.item (limits_in (view_of (W.name words.now) (W.sight pass.old))) }
+        requires of { IsView P.meld (view_of P.pack (W.name words.now) (W.sight pass.old)) }
+        requires may { MayAppendIn P.meld (view_of P.pack (W.name words.now) (W.sight pass.old)) self.old.item }
+        requires round { HasRound (limits_in (view_of P.pack (W.name words.now) (W.sight pass.old))) self.old.item }
+        requires passed { Passed (seen_in (view_of P.pack (W.name words.now) (W.sight pass.old))) self.old.item self.old.index }
+        requires more { self.old.index < room self.old.item (limits_in (view_of P.pack (W.name words.now) (W.sight pass.old))) }
         ensures same { (self.new.item ≡ self.old.item) × (self.new.by ≡ self.old.by) }
-        ensures goes { MatchOption result (Goes P.meld W.alone false 1 (view_of (W.name words.now) (W.sight pass.old))
-            (view_of (W.name words.now) (W.sight pass.new)))
-            (λ a. Appends P.meld W.alone (wanted self.old.item self.old.by) 1 (view_of (W.name words.now) (W.sight pass.old)) a
-            (view_of (W.name words.now) (W.sight pass.new))) }
-        ensures takes { AppendTakes false self.old result self.new (view_of (W.name words.now) (W.sight pass.old))
-            (view_of (W.name words.now) (W.sight pass.new)) }
-        ensures passed { MatchOption result (Passed (seen_in (view_of (W.name words.now) (W.sight pass.new))) self.old.item self.new.index) (λ _. Unit {0}) }
-        ensures empty { MatchOption result (FoundEmpty (seen_in (view_of (W.name words.now) (W.sight pass.new))) self.new) (λ _. Unit {0}) }
-        ensures within { MatchOption result (self.new.index < room self.old.item (limits_in (view_of (W.name words.now) (W.sight pass.old)))) (λ _. Unit {0}) }
+        ensures goes { MatchOption result (Goes P.meld W.alone false 1 (view_of P.pack (W.name words.now) (W.sight pass.old))
+            (view_of P.pack (W.name words.now) (W.sight pass.new)))
+            (λ a. Appends P.meld W.alone (wanted self.old.item self.old.by) 1 (view_of P.pack (W.name words.now) (W.sight pass.old)) a
+            (view_of P.pack (W.name words.now) (W.sight pass.new))) }
+        ensures takes { AppendTakes false self.old result self.new (view_of P.pack (W.name words.now) (W.sight pass.old))
+            (view_of P.pack (W.name words.now) (W.sight pass.new)) }
+        ensures passed { MatchOption result (Passed (seen_in (view_of P.pack (W.name words.now) (W.sight pass.new))) self.old.item self.new.index) (λ _. Unit {0}) }
+        ensures empty { MatchOption result (FoundEmpty (seen_in (view_of P.pack (W.name words.now) (W.sight pass.new))) self.new) (λ _. Unit {0}) }
+        ensures within { MatchOption result (self.new.index < room self.old.item (limits_in (view_of P.pack (W.name words.now) (W.sight pass.old)))) (λ _. Unit {0}) }
     {
         let standing = if self.empty {
             match set_item(words, pass, self.by, self.item, self.index) {
@@ -105,21 +105,21 @@ impl Append {
         pass: &mut W::Pass,
         whole: bool,
     ) -> Option<Appended>
-        requires of { IsView P.meld (view_of (W.name words.now) (W.sight pass.old)) }
-        requires may { MayAppendIn P.meld (view_of (W.name words.now) (W.sight pass.old)) self.old.item }
-        requires round { HasRound (limits_in (view_of (W.name words.now) (W.sight pass.old))) self.old.item }
-        requires passed { Passed (seen_in (view_of (W.name words.now) (W.sight pass.old))) self.old.item self.old.index }
-        requires more { self.old.index < room self.old.item (limits_in (view_of (W.name words.now) (W.sight pass.old))) }
+        requires of { IsView P.meld (view_of P.pack (W.name words.now) (W.sight pass.old)) }
+        requires may { MayAppendIn P.meld (view_of P.pack (W.name words.now) (W.sight pass.old)) self.old.item }
+        requires round { HasRound (limits_in (view_of P.pack (W.name words.now) (W.sight pass.old))) self.old.item }
+        requires passed { Passed (seen_in (view_of P.pack (W.name words.now) (W.sight pass.old))) self.old.item self.old.index }
+        requires more { self.old.index < room self.old.item (limits_in (view_of P.pack (W.name words.now) (W.sight pass.old))) }
         ensures same { (self.new.item ≡ self.old.item) × (self.new.by ≡ self.old.by) }
-        ensures goes { MatchOption result (Goes P.meld W.alone false (2 * room self.old.item (limits_in (view_of (W.name words.now) (W.sight pass.old))))
-            (view_of (W.name words.now) (W.sight pass.old)) (view_of (W.name words.now) (W.sight pass.new)))
-            (λ a. Appends P.meld W.alone (wanted self.old.item self.old.by) (2 * room self.old.item (limits_in (view_of (W.name words.now) (W.sight pass.old))))
-            (view_of (W.name words.now) (W.sight pass.old)) a (view_of (W.name words.now) (W.sight pass.new))) }
-        ensures takes { AppendTakes whole self.old result self.new (view_of (W.name words.now) (W.sight pass.old))
-            (view_of (W.name words.now) (W.sight pass.new)) }
-        ensures passed { MatchOption result (Passed (seen_in (view_of (W.name words.now) (W.sight pass.new))) self.old.item self.new.index) (λ _. Unit {0}) }
-        ensures empty { MatchOption result (FoundEmpty (seen_in (view_of (W.name words.now) (W.sight pass.new))) self.new) (λ _. Unit {0}) }
-        ensures within { MatchOption result (self.new.index < room self.old.item (limits_in (view_of (W.name words.now) (W.sight pass.old)))) (λ _. Unit {0}) }
+        ensures goes { MatchOption result (Goes P.meld W.alone false (2 * room self.old.item (limits_in (view_of P.pack (W.name words.now) (W.sight pass.old))))
+            (view_of P.pack (W.name words.now) (W.sight pass.old)) (view_of P.pack (W.name words.now) (W.sight pass.new)))
+            (λ a. Appends P.meld W.alone (wanted self.old.item self.old.by) (2 * room self.old.item (limits_in (view_of P.pack (W.name words.now) (W.sight pass.old))))
+            (view_of P.pack (W.name words.now) (W.sight pass.old)) a (view_of P.pack (W.name words.now) (W.sight pass.new))) }
+        ensures takes { AppendTakes whole self.old result self.new (view_of P.pack (W.name words.now) (W.sight pass.old))
+            (view_of P.pack (W.name words.now) (W.sight pass.new)) }
+        ensures passed { MatchOption result (Passed (seen_in (view_of P.pack (W.name words.now) (W.sight pass.new))) self.old.item self.new.index) (λ _. Unit {0}) }
+        ensures empty { MatchOption result (FoundEmpty (seen_in (view_of P.pack (W.name words.now) (W.sight pass.new))) self.new) (λ _. Unit {0}) }
+        ensures within { MatchOption result (self.new.index < room self.old.item (limits_in (view_of P.pack (W.name words.now) (W.sight pass.old)))) (λ _. Unit {0}) }
         ensures done { MatchOption result (whole ≡ false) (λ _. Unit {0}) }
     {
         loop {
@@ -137,13 +137,13 @@ impl Append {
         words: &W,
         pass: &mut W::Pass,
     ) -> Appended
-        requires of { IsView P.meld (view_of (W.name words.now) (W.sight pass.old)) }
-        requires may { MayAppendIn P.meld (view_of (W.name words.now) (W.sight pass.old)) self.item }
-        requires round { HasRound (limits_in (view_of (W.name words.now) (W.sight pass.old))) self.item }
-        requires passed { Passed (seen_in (view_of (W.name words.now) (W.sight pass.old))) self.item self.index }
-        requires within { self.index ≤ room self.item (limits_in (view_of (W.name words.now) (W.sight pass.old))) }
-        ensures { Appends P.meld W.alone (wanted self.item self.by) (2 * room self.item (limits_in (view_of (W.name words.now) (W.sight pass.old))))
-            (view_of (W.name words.now) (W.sight pass.old)) result (view_of (W.name words.now) (W.sight pass.new)) }
+        requires of { IsView P.meld (view_of P.pack (W.name words.now) (W.sight pass.old)) }
+        requires may { MayAppendIn P.meld (view_of P.pack (W.name words.now) (W.sight pass.old)) self.item }
+        requires round { HasRound (limits_in (view_of P.pack (W.name words.now) (W.sight pass.old))) self.item }
+        requires passed { Passed (seen_in (view_of P.pack (W.name words.now) (W.sight pass.old))) self.item self.index }
+        requires within { self.index ≤ room self.item (limits_in (view_of P.pack (W.name words.now) (W.sight pass.old))) }
+        ensures { Appends P.meld W.alone (wanted self.item self.by) (2 * room self.item (limits_in (view_of P.pack (W.name words.now) (W.sight pass.old))))
+            (view_of P.pack (W.name words.now) (W.sight pass.old)) result (view_of P.pack (W.name words.now) (W.sight pass.new)) }
     {
         let places = room_for(self.item, words.limits());
         if self.index == places {

@@ -76,13 +76,13 @@ fn is_there<P: Packed, A: Allocator, W: Words<P, A>>(
     rank: u16,
     asked: bool,
 ) -> bool
-    requires of { IsView P.meld (view_of (W.name words.now) (W.sight pass.old)) }
-    requires within { asked ≡ true → IsCell (limits_in (view_of (W.name words.now) (W.sight pass.old))) comm round rank }
-    ensures goes { Goes P.meld W.alone false 1 (view_of (W.name words.now) (W.sight pass.old)) (view_of (W.name words.now) (W.sight pass.new)) }
-    ensures steps { steps_in (view_of (W.name words.now) (W.sight pass.new))
-        ≡ steps_in (view_of (W.name words.now) (W.sight pass.old)) + (if asked then 1 else 0) }
-    ensures arrived { MatchBool result (asked ≡ true → has_arrived (seen_in (view_of (W.name words.now) (W.sight pass.new))) comm round rank ≡ true)
-        ((asked ≡ true) × (has_arrived (seen_in (view_of (W.name words.now) (W.sight pass.new))) comm round rank ≡ false)) }
+    requires of { IsView P.meld (view_of P.pack (W.name words.now) (W.sight pass.old)) }
+    requires within { asked ≡ true → IsCell (limits_in (view_of P.pack (W.name words.now) (W.sight pass.old))) comm round rank }
+    ensures goes { Goes P.meld W.alone false 1 (view_of P.pack (W.name words.now) (W.sight pass.old)) (view_of P.pack (W.name words.now) (W.sight pass.new)) }
+    ensures steps { steps_in (view_of P.pack (W.name words.now) (W.sight pass.new))
+        ≡ steps_in (view_of P.pack (W.name words.now) (W.sight pass.old)) + (if asked then 1 else 0) }
+    ensures arrived { MatchBool result (asked ≡ true → has_arrived (seen_in (view_of P.pack (W.name words.now) (W.sight pass.new))) comm round rank ≡ true)
+        ((asked ≡ true) × (has_arrived (seen_in (view_of P.pack (W.name words.now) (W.sight pass.new))) comm round rank ≡ false)) }
 {
     if !asked {
         return true;
@@ -102,16 +102,16 @@ fn arrived_from<P: Packed, A: Allocator, W: Words<P, A>>(
     others: bool,
     start: usize,
 ) -> bool
-    requires of { IsView P.meld (view_of (W.name words.now) (W.sight pass.old)) }
-    requires round { IsRoundIn (view_of (W.name words.now) (W.sight pass.old)) comm round group.now }
+    requires of { IsView P.meld (view_of P.pack (W.name words.now) (W.sight pass.old)) }
+    requires round { IsRoundIn (view_of P.pack (W.name words.now) (W.sight pass.old)) comm round group.now }
     requires within { IsPosition group.now declared.now others start }
-    requires before { list_all (has_arrived (seen_in (view_of (W.name words.now) (W.sight pass.old))) comm round)
+    requires before { list_all (has_arrived (seen_in (view_of P.pack (W.name words.now) (W.sight pass.old))) comm round)
         (asked_before group.now declared.now others start) ≡ true }
     ensures goes { Goes P.meld W.alone false (length (asked_members group.now declared.now others) - length (asked_before group.now declared.now others start))
-        (view_of (W.name words.now) (W.sight pass.old)) (view_of (W.name words.now) (W.sight pass.new)) }
+        (view_of P.pack (W.name words.now) (W.sight pass.old)) (view_of P.pack (W.name words.now) (W.sight pass.new)) }
     ensures more { IsAsked group.now declared.now others start
-        → steps_in (view_of (W.name words.now) (W.sight pass.old)) < steps_in (view_of (W.name words.now) (W.sight pass.new)) }
-    ensures arrived { result ≡ list_all (has_arrived (seen_in (view_of (W.name words.now) (W.sight pass.new))) comm round)
+        → steps_in (view_of P.pack (W.name words.now) (W.sight pass.old)) < steps_in (view_of P.pack (W.name words.now) (W.sight pass.new)) }
+    ensures arrived { result ≡ list_all (has_arrived (seen_in (view_of P.pack (W.name words.now) (W.sight pass.new))) comm round)
         (asked_members group.now declared.now others) }
 {
     let ranks = if others { group } else { declared };
@@ -179,18 +179,18 @@ impl Arrivals {
         group: &[u16],
         declared: &[u16],
     ) -> Option<Missing>
-        requires of { IsView P.meld (view_of (W.name words.now) (W.sight pass.old)) }
-        requires round { IsRoundIn (view_of (W.name words.now) (W.sight pass.old)) self.old.comm self.old.round group.now }
-        requires at { AtArrival group.now declared.now self.old (seen_in (view_of (W.name words.now) (W.sight pass.old))) }
-        ensures goes { Goes P.meld W.alone false 1 (view_of (W.name words.now) (W.sight pass.old)) (view_of (W.name words.now) (W.sight pass.new)) }
-        ensures takes { ArrivalsTake false (among group.now declared.now) self.old result self.new (view_of (W.name words.now) (W.sight pass.old))
-            (view_of (W.name words.now) (W.sight pass.new)) }
+        requires of { IsView P.meld (view_of P.pack (W.name words.now) (W.sight pass.old)) }
+        requires round { IsRoundIn (view_of P.pack (W.name words.now) (W.sight pass.old)) self.old.comm self.old.round group.now }
+        requires at { AtArrival group.now declared.now self.old (seen_in (view_of P.pack (W.name words.now) (W.sight pass.old))) }
+        ensures goes { Goes P.meld W.alone false 1 (view_of P.pack (W.name words.now) (W.sight pass.old)) (view_of P.pack (W.name words.now) (W.sight pass.new)) }
+        ensures takes { ArrivalsTake false (among group.now declared.now) self.old result self.new (view_of P.pack (W.name words.now) (W.sight pass.old))
+            (view_of P.pack (W.name words.now) (W.sight pass.new)) }
         ensures comm { self.new.comm ≡ self.old.comm }
         ensures round { self.new.round ≡ self.old.round }
         ensures further { MatchOption result (length (asked_before group.now declared.now self.new.others self.new.next) ≡ length
             (asked_before group.now declared.now self.old.others self.old.next) + 1) (λ _. Unit {0}) }
-        ensures at { MatchOption result (AtArrival group.now declared.now self.new (seen_in (view_of (W.name words.now) (W.sight pass.new)))) (λ _. Unit {0}) }
-        ensures are { IfSome result (λ m. MissingAre (seen_in (view_of (W.name words.now) (W.sight pass.new))) self.old.comm self.old.round group.now
+        ensures at { MatchOption result (AtArrival group.now declared.now self.new (seen_in (view_of P.pack (W.name words.now) (W.sight pass.new)))) (λ _. Unit {0}) }
+        ensures are { IfSome result (λ m. MissingAre (seen_in (view_of P.pack (W.name words.now) (W.sight pass.new))) self.old.comm self.old.round group.now
             declared.now m) }
     {
         let rank = if self.others {
@@ -222,20 +222,20 @@ impl Arrivals {
         declared: &[u16],
         whole: bool,
     ) -> Option<Missing>
-        requires of { IsView P.meld (view_of (W.name words.now) (W.sight pass.old)) }
-        requires round { IsRoundIn (view_of (W.name words.now) (W.sight pass.old)) self.old.comm self.old.round group.now }
-        requires at { AtArrival group.now declared.now self.old (seen_in (view_of (W.name words.now) (W.sight pass.old))) }
+        requires of { IsView P.meld (view_of P.pack (W.name words.now) (W.sight pass.old)) }
+        requires round { IsRoundIn (view_of P.pack (W.name words.now) (W.sight pass.old)) self.old.comm self.old.round group.now }
+        requires at { AtArrival group.now declared.now self.old (seen_in (view_of P.pack (W.name words.now) (W.sight pass.old))) }
         ensures goes { Goes P.meld W.alone false (length (in_order group.now declared.now) - length
-            (asked_before group.now declared.now self.old.others self.old.next)) (view_of (W.name words.now) (W.sight pass.old))
-            (view_of (W.name words.now) (W.sight pass.new)) }
-        ensures takes { ArrivalsTake whole (among group.now declared.now) self.old result self.new (view_of (W.name words.now) (W.sight pass.old))
-            (view_of (W.name words.now) (W.sight pass.new)) }
+            (asked_before group.now declared.now self.old.others self.old.next)) (view_of P.pack (W.name words.now) (W.sight pass.old))
+            (view_of P.pack (W.name words.now) (W.sight pass.new)) }
+        ensures takes { ArrivalsTake whole (among group.now declared.now) self.old result self.new (view_of P.pack (W.name words.now) (W.sight pass.old))
+            (view_of P.pack (W.name words.now) (W.sight pass.new)) }
         ensures comm { self.new.comm ≡ self.old.comm }
         ensures round { self.new.round ≡ self.old.round }
         ensures further { MatchOption result (length (asked_before group.now declared.now self.new.others self.new.next) ≡ length
             (asked_before group.now declared.now self.old.others self.old.next) + 1) (λ _. Unit {0}) }
-        ensures at { MatchOption result (AtArrival group.now declared.now self.new (seen_in (view_of (W.name words.now) (W.sight pass.new)))) (λ _. Unit {0}) }
-        ensures are { IfSome result (λ m. MissingAre (seen_in (view_of (W.name words.now) (W.sight pass.new))) self.old.comm self.old.round group.now
+        ensures at { MatchOption result (AtArrival group.now declared.now self.new (seen_in (view_of P.pack (W.name words.now) (W.sight pass.new)))) (λ _. Unit {0}) }
+        ensures are { IfSome result (λ m. MissingAre (seen_in (view_of P.pack (W.name words.now) (W.sight pass.new))) self.old.comm self.old.round group.now
             declared.now m) }
         ensures done { MatchOption result (whole ≡ false) (λ _. Unit {0}) }
     {
@@ -254,13 +254,13 @@ impl Arrivals {
         group: &[u16],
         declared: &[u16],
     ) -> Missing
-        requires of { IsView P.meld (view_of (W.name words.now) (W.sight pass.old)) }
-        requires round { IsRoundIn (view_of (W.name words.now) (W.sight pass.old)) self.comm self.round group.now }
-        requires at { AtArrival group.now declared.now self (seen_in (view_of (W.name words.now) (W.sight pass.old))) }
+        requires of { IsView P.meld (view_of P.pack (W.name words.now) (W.sight pass.old)) }
+        requires round { IsRoundIn (view_of P.pack (W.name words.now) (W.sight pass.old)) self.comm self.round group.now }
+        requires at { AtArrival group.now declared.now self (seen_in (view_of P.pack (W.name words.now) (W.sight pass.old))) }
         ensures goes { Goes P.meld W.alone false (length (in_order group.now declared.now) - length (asked_before group.now declared.now self.others self.next))
-            (view_of (W.name words.now) (W.sight pass.old)) (view_of (W.name words.now) (W.sight pass.new)) }
-        ensures more { steps_in (view_of (W.name words.now) (W.sight pass.old)) < steps_in (view_of (W.name words.now) (W.sight pass.new)) }
-        ensures are { MissingAre (seen_in (view_of (W.name words.now) (W.sight pass.new))) self.comm self.round group.now declared.now result }
+            (view_of P.pack (W.name words.now) (W.sight pass.old)) (view_of P.pack (W.name words.now) (W.sight pass.new)) }
+        ensures more { steps_in (view_of P.pack (W.name words.now) (W.sight pass.old)) < steps_in (view_of P.pack (W.name words.now) (W.sight pass.new)) }
+        ensures are { MissingAre (seen_in (view_of P.pack (W.name words.now) (W.sight pass.new))) self.comm self.round group.now declared.now result }
     {
         let mut start = self.next;
         if !self.others {

@@ -1,20 +1,23 @@
 // The two blocks of an agreement round: what is known of them, the loads that a poll begins with, and the reading of those that are 0:
 // each block's members in order, up to the first who isn't settled, and then its cache. A member that was found settled stays so and
 // says the same; that one is missing holds at its load alone.
-ghost use Rattle.std.specs.Prelude.{◌≡◌, ◌<◌, ◌+◌, ◌*◌, None, false, true, is_some, length};
+ghost use Rattle.std.specs.Prelude.{◌≡◌, ◌<◌, None, Some, false, true, is_some, length};
 ghost use Rattle.ulfm_model.specs.Blocks.{width as width_of};
 ghost use Rattle.ulfm_model.specs.History.{History};
-ghost use Rattle.ulfm_model.specs.declared.block.Side.TheVariants.{Front, Back};
-ghost use Rattle.ulfm_steps.specs.Blocks.{BothTell, FindsSet, MayPeek, MayReadBlocks, PeeksOn, ReadsBlocks, MembersTell};
+ghost use Rattle.ulfm_model.specs.declared.block.Side.TheVariants.{Front};
+ghost use Rattle.ulfm_steps.specs.Blocks.{BothTell, MayPeek, MayReadBlocks, PeeksOn, ReadsBlocks, MembersTell, ends_peek, told_peek};
 ghost use Rattle.ulfm_steps.specs.Blocks.{has_back as is_apart, is_whole, said_at, starts_at};
 ghost use Rattle.ulfm_steps.specs.Turns.{running};
-ghost use Rattle.ulfm_words.specs.Steps.{view_of, cached_in};
+ghost use Rattle.ulfm_words.specs.Steps.{view_of};
 
 use std::alloc::Allocator;
 use ulfm_laws::meld::{Meld, Packed};
 use ulfm_laws::summary::Summary;
-use ulfm_model::block::{Block, Side};
-use ulfm_words::{Words, block_word, load_said, load_summary};
+use ulfm_model::block::{Block, Side, Wing};
+use ulfm_words::{
+    Found as Loaded, Words, block_wing, block_word, load_block, load_block_rest, load_rest,
+    load_slot,
+};
 
 /// What is known of the two blocks of an agreement round: what the members of each say together, where that is known.
 #[derive(Clone, Copy)]
@@ -94,6 +97,8 @@ pub struct Peek<P: Packed> {
     pub blocks: RoundBlocks<P>,
     /// The block that is loaded next.
     pub side: Side,
+    /// Its first word, where that was loaded and its wing comes next.
+    pub first: Option<u64>,
 }
 
 impl<P: Packed> Peek<P> {
@@ -102,6 +107,7 @@ impl<P: Packed> Peek<P> {
         ensures comm { result.comm ≡ comm }
         ensures round { result.round ≡ round }
         ensures side { result.side ≡ Front }
+        ensures first { result.first ≡ None }
         ensures none { (is_some result.blocks.front ≡ false) × (is_some result.blocks.back ≡ false) }
     {
         Peek {
@@ -109,10 +115,11 @@ impl<P: Packed> Peek<P> {
             round,
             blocks: RoundBlocks::new(),
             side: Side::Front,
+            first: None,
         }
     }
 
-    /// One load, of the next block: whether it was the last one.
+    /// One load, of the next block's word or of its wing: whether it was the last one.
     #[inline(always)]
     pub fn step<A: Allocator, W: Words<P, A>>(
         &mut self,
@@ -120,24 +127,39 @@ impl<P: Packed> Peek<P> {
         pass: &mut W::Pass,
         group: &[u16],
     ) -> bool
-        requires { MayPeek P.meld group.now (running self.old (view_of (W.name words.now) (W.sight pass.old))) }
-        ensures peeks { PeeksOn P.meld W.alone false group.now (running self.old (view_of (W.name words.now) (W.sight pass.old))) result
-            (running self.new (view_of (W.name words.now) (W.sight pass.new))) }
-        ensures next { result ≡ false → (self.old.side ≡ Front) × (self.new.side ≡ Back) × (is_apart (length group.now) ≡ true) }
-        ensures last { result ≡ true → self.old.side ≡ Front → is_apart (length group.now) ≡ false }
-        ensures back { self.old.side ≡ Back → FindsSet (cached_in (view_of (W.name words.now) (W.sight pass.old))) self.new Back }
+        requires { MayPeek P.meld group.now (running self.old (view_of P.pack (W.name words.now) (W.sight pass.old))) }
+        ensures { PeeksOn P.meld W.alone false group.now (running self.old (view_of P.pack (W.name words.now) (W.sight pass.old))) result
+            (running self.new (view_of P.pack (W.name words.now) (W.sight pass.new))) }
     {
         let block = Block {
             comm: self.comm,
             round: self.round,
             side: self.side,
         };
-        let said = load_said(words, pass, block);
+        if let Some(word) = self.first {
+            let said = load_block_rest(words, pass, block, word);
+            return self.tells(Some(said), group.len() as u16);
+        }
+        let Some(word) = load_block(words, pass, block) else {
+            return self.tells(None, group.len() as u16);
+        };
+        self.first = Some(word);
+        false
+    }
+
+    // The next block says this, where it is set: whether it was the last one.
+    #[inline(always)]
+    fn tells(&mut self, said: Option<Summary<P>>, members: u16) -> bool
+        requires { 0 < members }
+        ensures done { result ≡ ends_peek self.old members }
+        ensures told { self.new ≡ told_peek self.old said }
+    {
+        self.first = None;
         match self.side {
             Side::Front => {
                 self.blocks.front = said;
                 self.side = Side::Back;
-                !has_back(group.len() as u16)
+                !has_back(members)
             }
             Side::Back => {
                 self.blocks.back = said;
@@ -155,17 +177,16 @@ impl<P: Packed> Peek<P> {
         group: &[u16],
         whole: bool,
     ) -> bool
-        requires { MayPeek P.meld group.now (running self.old (view_of (W.name words.now) (W.sight pass.old))) }
-        ensures { PeeksOn P.meld W.alone whole group.now (running self.old (view_of (W.name words.now) (W.sight pass.old))) result
-            (running self.new (view_of (W.name words.now) (W.sight pass.new))) }
+        requires { MayPeek P.meld group.now (running self.old (view_of P.pack (W.name words.now) (W.sight pass.old))) }
+        ensures { PeeksOn P.meld W.alone whole group.now (running self.old (view_of P.pack (W.name words.now) (W.sight pass.old))) result
+            (running self.new (view_of P.pack (W.name words.now) (W.sight pass.new))) }
     {
-        if self.step(words, pass, group) {
-            return true;
+        loop {
+            let done = self.step(words, pass, group);
+            if !whole || done {
+                return done;
+            }
         }
-        if !whole {
-            return false;
-        }
-        self.step(words, pass, group)
     }
 }
 
@@ -190,11 +211,15 @@ pub struct ReadBlocks<P: Packed> {
     /// How many members a block has.
     pub width: u16,
     /// How many members of the round stand before this block.
-    pub first: u16,
+    pub begin: u16,
     /// How many of its members were found settled, the first of them.
     pub read: u16,
     /// What these say together.
     pub all: Summary<P>,
+    /// The first word of the next member's contribution, where that was loaded and its wing comes next.
+    pub first: Option<u64>,
+    /// Whether the block's wing is set, behind which its cache comes.
+    pub winged: bool,
     /// What is known of both blocks.
     pub blocks: RoundBlocks<P>,
 }
@@ -206,7 +231,7 @@ impl<P: Packed> ReadBlocks<P> {
         ensures { result ≡ starts_at comm round blocks members }
     {
         let width = width(members);
-        let (side, first) = match blocks.front {
+        let (side, begin) = match blocks.front {
             None => (Side::Front, 0),
             Some(_) => (Side::Back, members - width),
         };
@@ -215,14 +240,17 @@ impl<P: Packed> ReadBlocks<P> {
             round,
             side,
             width,
-            first,
+            begin,
             read: 0,
             all: Summary::unit(),
+            first: None,
+            winged: false,
             blocks,
         }
     }
 
-    /// One step: a load of the next member's place, or, once all of the block are read, its cache.
+    /// One step: a load of the next member's place, or of its wing; or, once all of the block are read, an exchange of its wing, and then its
+    /// cache.
     #[inline(always)]
     pub fn step<A: Allocator, W: Words<P, A>>(
         &mut self,
@@ -230,12 +258,18 @@ impl<P: Packed> ReadBlocks<P> {
         pass: &mut W::Pass,
         group: &[u16],
     ) -> Option<Found<P>>
-        requires { MayReadBlocks P.meld group.now (running self.old (view_of (W.name words.now) (W.sight pass.old))) }
-        ensures { ReadsBlocks P.meld W.alone false group.now (running self.old (view_of (W.name words.now) (W.sight pass.old))) result
-            (running self.new (view_of (W.name words.now) (W.sight pass.new))) }
+        requires { MayReadBlocks P.meld group.now (running self.old (view_of P.pack (W.name words.now) (W.sight pass.old))) }
+        ensures { ReadsBlocks P.meld W.alone false group.now (running self.old (view_of P.pack (W.name words.now) (W.sight pass.old))) result
+            (running self.new (view_of P.pack (W.name words.now) (W.sight pass.new))) }
     {
         if self.read < self.width {
-            return self.load(words, pass, group);
+            return match self.first {
+                None => self.load(words, pass, group),
+                Some(first) => self.load_rest(words, pass, group, first),
+            };
+        }
+        if !self.winged {
+            return self.spread(words, pass, group);
         }
         self.cache(words, pass, group)
     }
@@ -249,9 +283,9 @@ impl<P: Packed> ReadBlocks<P> {
         group: &[u16],
         whole: bool,
     ) -> Option<Found<P>>
-        requires { MayReadBlocks P.meld group.now (running self.old (view_of (W.name words.now) (W.sight pass.old))) }
-        ensures { ReadsBlocks P.meld W.alone whole group.now (running self.old (view_of (W.name words.now) (W.sight pass.old))) result
-            (running self.new (view_of (W.name words.now) (W.sight pass.new))) }
+        requires { MayReadBlocks P.meld group.now (running self.old (view_of P.pack (W.name words.now) (W.sight pass.old))) }
+        ensures { ReadsBlocks P.meld W.alone whole group.now (running self.old (view_of P.pack (W.name words.now) (W.sight pass.old))) result
+            (running self.new (view_of P.pack (W.name words.now) (W.sight pass.new))) }
     {
         loop {
             let found = self.step(words, pass, group);
@@ -269,33 +303,86 @@ impl<P: Packed> ReadBlocks<P> {
         pass: &mut W::Pass,
         group: &[u16],
     ) -> Option<Found<P>>
-        requires may { MayReadBlocks P.meld group.now (running self.old (view_of (W.name words.now) (W.sight pass.old))) }
+        requires may { MayReadBlocks P.meld group.now (running self.old (view_of P.pack (W.name words.now) (W.sight pass.old))) }
         requires more { self.old.read < width_of (length group.now) }
-        ensures { ReadsBlocks P.meld W.alone false group.now (running self.old (view_of (W.name words.now) (W.sight pass.old))) result
-            (running self.new (view_of (W.name words.now) (W.sight pass.new))) }
+        requires none { self.old.first ≡ None }
+        ensures { ReadsBlocks P.meld W.alone false group.now (running self.old (view_of P.pack (W.name words.now) (W.sight pass.old))) result
+            (running self.new (view_of P.pack (W.name words.now) (W.sight pass.new))) }
     {
-        let rank = group[(self.first + self.read) as usize];
-        match load_summary(words, pass, self.comm, self.round, rank) {
-            None => Some(Found::Missing),
-            Some(said) => {
+        let rank = group[(self.begin + self.read) as usize];
+        match load_slot(words, pass, self.comm, self.round, rank) {
+            Loaded::Nothing => Some(Found::Missing),
+            Loaded::Marked(said) => {
                 self.all = self.all.meld(&said);
                 self.read += 1;
+                None
+            }
+            Loaded::First(word) => {
+                self.first = Some(word);
                 None
             }
         }
     }
 
-    // The cache of a block whose members were all read. A block that another has cached meanwhile has the same word.
+    // One load, of the wing of the next member's contribution.
+    #[inline(always)]
+    fn load_rest<A: Allocator, W: Words<P, A>>(
+        &mut self,
+        words: &W,
+        pass: &mut W::Pass,
+        group: &[u16],
+        first: u64,
+    ) -> Option<Found<P>>
+        requires may { MayReadBlocks P.meld group.now (running self.old (view_of P.pack (W.name words.now) (W.sight pass.old))) }
+        requires more { self.old.read < width_of (length group.now) }
+        requires some { self.old.first ≡ Some first }
+        ensures { ReadsBlocks P.meld W.alone false group.now (running self.old (view_of P.pack (W.name words.now) (W.sight pass.old))) result
+            (running self.new (view_of P.pack (W.name words.now) (W.sight pass.new))) }
+    {
+        let rank = group[(self.begin + self.read) as usize];
+        let said = load_rest(words, pass, self.comm, self.round, rank, first);
+        self.all = self.all.meld(&said);
+        self.read += 1;
+        self.first = None;
+        None
+    }
+
+    // The exchange of the wing of a block whose members were all read. One that another has set meanwhile has the same word.
+    fn spread<A: Allocator, W: Words<P, A>>(
+        &mut self,
+        words: &W,
+        pass: &mut W::Pass,
+        group: &[u16],
+    ) -> Option<Found<P>>
+        requires may { MayReadBlocks P.meld group.now (running self.old (view_of P.pack (W.name words.now) (W.sight pass.old))) }
+        requires all { self.old.read ≡ width_of (length group.now) }
+        requires bare { self.old.winged ≡ false }
+        ensures { ReadsBlocks P.meld W.alone false group.now (running self.old (view_of P.pack (W.name words.now) (W.sight pass.old))) result
+            (running self.new (view_of P.pack (W.name words.now) (W.sight pass.new))) }
+    {
+        let block = Block {
+            comm: self.comm,
+            round: self.round,
+            side: self.side,
+        };
+        let _ = words.set_wing(pass, Wing::Block(block), block_wing(&self.all));
+        self.winged = true;
+        let _ = group;
+        None
+    }
+
+    // The cache of a block whose wing is set. A block that another has cached meanwhile has the same word.
     fn cache<A: Allocator, W: Words<P, A>>(
         &mut self,
         words: &W,
         pass: &mut W::Pass,
         group: &[u16],
     ) -> Option<Found<P>>
-        requires may { MayReadBlocks P.meld group.now (running self.old (view_of (W.name words.now) (W.sight pass.old))) }
+        requires may { MayReadBlocks P.meld group.now (running self.old (view_of P.pack (W.name words.now) (W.sight pass.old))) }
         requires all { self.old.read ≡ width_of (length group.now) }
-        ensures { ReadsBlocks P.meld W.alone false group.now (running self.old (view_of (W.name words.now) (W.sight pass.old))) result
-            (running self.new (view_of (W.name words.now) (W.sight pass.new))) }
+        requires winged { self.old.winged ≡ true }
+        ensures { ReadsBlocks P.meld W.alone false group.now (running self.old (view_of P.pack (W.name words.now) (W.sight pass.old))) result
+            (running self.new (view_of P.pack (W.name words.now) (W.sight pass.new))) }
     {
         let block = Block {
             comm: self.comm,
@@ -312,9 +399,10 @@ impl<P: Packed> ReadBlocks<P> {
             return Some(Found::All(all));
         }
         self.side = Side::Back;
-        self.first = members - self.width;
+        self.begin = members - self.width;
         self.read = 0;
         self.all = Summary::unit();
+        self.winged = false;
         None
     }
 }

@@ -31,11 +31,11 @@ pub(crate) fn load_item<P: Packed, A: Allocator, W: Words<P, A>>(
     item: Item,
     index: u16,
 ) -> Option<Item>
-    requires of { IsView P.meld (view_of (W.name words.now) (W.sight pass.old)) }
-    requires within { index < room item (limits_in (view_of (W.name words.now) (W.sight pass.old))) }
-    ensures loads { Loads P.meld P.pack W.alone (place_at item index) (view_of (W.name words.now) (W.sight pass.old))
-        (view_of (W.name words.now) (W.sight pass.new)) }
-    ensures stands { result ≡ slice_get (items item (seen_in (view_of (W.name words.now) (W.sight pass.new)))) index }
+    requires of { IsView P.meld (view_of P.pack (W.name words.now) (W.sight pass.old)) }
+    requires within { index < room item (limits_in (view_of P.pack (W.name words.now) (W.sight pass.old))) }
+    ensures loads { Loads P.meld P.pack W.alone (place_at item index) (view_of P.pack (W.name words.now) (W.sight pass.old))
+        (view_of P.pack (W.name words.now) (W.sight pass.new)) }
+    ensures stands { result ≡ slice_get (items item (seen_in (view_of P.pack (W.name words.now) (W.sight pass.new)))) index }
 {
     match item {
         Item::Failure { .. } => match load_failure(words, pass, index) {
@@ -57,14 +57,14 @@ pub(crate) fn set_item<P: Packed, A: Allocator, W: Words<P, A>>(
     item: Item,
     index: u16,
 ) -> Result<(), Item>
-    requires of { IsView P.meld (view_of (W.name words.now) (W.sight pass.old)) }
-    requires within { index < room item (limits_in (view_of (W.name words.now) (W.sight pass.old))) }
-    requires may { MayStandIn P.meld (view_of (W.name words.now) (W.sight pass.old)) item index }
-    requires round { HasRound (limits_in (view_of (W.name words.now) (W.sight pass.old))) item }
+    requires of { IsView P.meld (view_of P.pack (W.name words.now) (W.sight pass.old)) }
+    requires within { index < room item (limits_in (view_of P.pack (W.name words.now) (W.sight pass.old))) }
+    requires may { MayStandIn P.meld (view_of P.pack (W.name words.now) (W.sight pass.old)) item index }
+    requires round { HasRound (limits_in (view_of P.pack (W.name words.now) (W.sight pass.old))) item }
     ensures tries { Tries P.meld P.pack W.alone (attempt (place_at item index) (entry by (event_at item index))) (is_ok result)
-        (view_of (W.name words.now) (W.sight pass.old)) (view_of (W.name words.now) (W.sight pass.new)) }
-    ensures stands { MatchResult result (λ _. slice_get (items item (seen_in (view_of (W.name words.now) (W.sight pass.new)))) index ≡ Some item)
-        (λ x. slice_get (items item (seen_in (view_of (W.name words.now) (W.sight pass.new)))) index ≡ Some x) }
+        (view_of P.pack (W.name words.now) (W.sight pass.old)) (view_of P.pack (W.name words.now) (W.sight pass.new)) }
+    ensures stands { MatchResult result (λ _. slice_get (items item (seen_in (view_of P.pack (W.name words.now) (W.sight pass.new)))) index ≡ Some item)
+        (λ x. slice_get (items item (seen_in (view_of P.pack (W.name words.now) (W.sight pass.new)))) index ≡ Some x) }
 {
     match item {
         Item::Failure { rank } => match set_failure(words, pass, by, index, rank) {

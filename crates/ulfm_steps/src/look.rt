@@ -35,14 +35,14 @@ impl Look {
         pass: &mut W::Pass,
         found: &mut Vec<u16, B>,
     )
-        requires of { IsView P.meld (view_of (W.name words.now) (W.sight pass.old)) }
+        requires of { IsView P.meld (view_of P.pack (W.name words.now) (W.sight pass.old)) }
         requires going { self.old.done ≡ false }
-        requires look { LookIsIn (view_of (W.name words.now) (W.sight pass.old)) false found.old.items }
-        requires room { (limits_in (view_of (W.name words.now) (W.sight pass.old))).ranks ≤ vec_capacity found.old }
-        ensures goes { Goes P.meld W.alone false 1 (view_of (W.name words.now) (W.sight pass.old)) (view_of (W.name words.now) (W.sight pass.new)) }
-        ensures takes { LookTakesIn false found.old.items self.new.done found.new.items (view_of (W.name words.now) (W.sight pass.old))
-            (view_of (W.name words.now) (W.sight pass.new)) }
-        ensures look { LookIsIn (view_of (W.name words.now) (W.sight pass.new)) self.new.done found.new.items }
+        requires look { LookIsIn (view_of P.pack (W.name words.now) (W.sight pass.old)) false found.old.items }
+        requires room { (limits_in (view_of P.pack (W.name words.now) (W.sight pass.old))).ranks ≤ vec_capacity found.old }
+        ensures goes { Goes P.meld W.alone false 1 (view_of P.pack (W.name words.now) (W.sight pass.old)) (view_of P.pack (W.name words.now) (W.sight pass.new)) }
+        ensures takes { LookTakesIn false found.old.items self.new.done found.new.items (view_of P.pack (W.name words.now) (W.sight pass.old))
+            (view_of P.pack (W.name words.now) (W.sight pass.new)) }
+        ensures look { LookIsIn (view_of P.pack (W.name words.now) (W.sight pass.new)) self.new.done found.new.items }
         ensures further { self.new.done ≡ false → vec_len found.new ≡ vec_len found.old + 1 }
         ensures room { vec_capacity found.old ≤ vec_capacity found.new }
     {
@@ -65,15 +65,15 @@ impl Look {
         found: &mut Vec<u16, B>,
         whole: bool,
     )
-        requires of { IsView P.meld (view_of (W.name words.now) (W.sight pass.old)) }
+        requires of { IsView P.meld (view_of P.pack (W.name words.now) (W.sight pass.old)) }
         requires going { self.old.done ≡ false }
-        requires look { LookIsIn (view_of (W.name words.now) (W.sight pass.old)) false found.old.items }
-        requires room { (limits_in (view_of (W.name words.now) (W.sight pass.old))).ranks ≤ vec_capacity found.old }
-        ensures goes { Goes P.meld W.alone false (if whole then (limits_in (view_of (W.name words.now) (W.sight pass.old))).ranks else 1)
-            (view_of (W.name words.now) (W.sight pass.old)) (view_of (W.name words.now) (W.sight pass.new)) }
-        ensures takes { LookTakesIn whole found.old.items self.new.done found.new.items (view_of (W.name words.now) (W.sight pass.old))
-            (view_of (W.name words.now) (W.sight pass.new)) }
-        ensures look { LookIsIn (view_of (W.name words.now) (W.sight pass.new)) self.new.done found.new.items }
+        requires look { LookIsIn (view_of P.pack (W.name words.now) (W.sight pass.old)) false found.old.items }
+        requires room { (limits_in (view_of P.pack (W.name words.now) (W.sight pass.old))).ranks ≤ vec_capacity found.old }
+        ensures goes { Goes P.meld W.alone false (if whole then (limits_in (view_of P.pack (W.name words.now) (W.sight pass.old))).ranks else 1)
+            (view_of P.pack (W.name words.now) (W.sight pass.old)) (view_of P.pack (W.name words.now) (W.sight pass.new)) }
+        ensures takes { LookTakesIn whole found.old.items self.new.done found.new.items (view_of P.pack (W.name words.now) (W.sight pass.old))
+            (view_of P.pack (W.name words.now) (W.sight pass.new)) }
+        ensures look { LookIsIn (view_of P.pack (W.name words.now) (W.sight pass.new)) self.new.done found.new.items }
         ensures further { self.new.done ≡ false → vec_len found.new ≡ vec_len found.old + 1 }
         ensures done { whole ≡ true → self.new.done ≡ true }
         ensures room { vec_capacity found.old ≤ vec_capacity found.new }
@@ -94,13 +94,13 @@ impl Look {
         pass: &mut W::Pass,
         found: &mut Vec<u16, B>,
     )
-        requires of { IsView P.meld (view_of (W.name words.now) (W.sight pass.old)) }
+        requires of { IsView P.meld (view_of P.pack (W.name words.now) (W.sight pass.old)) }
         requires going { self.done ≡ false }
-        requires look { LookIsIn (view_of (W.name words.now) (W.sight pass.old)) false found.old.items }
-        requires room { (limits_in (view_of (W.name words.now) (W.sight pass.old))).ranks ≤ vec_capacity found.old }
-        ensures goes { Goes P.meld W.alone false (limits_in (view_of (W.name words.now) (W.sight pass.old))).ranks
-            (view_of (W.name words.now) (W.sight pass.old)) (view_of (W.name words.now) (W.sight pass.new)) }
-        ensures found { found.new.items ≡ failures (seen_in (view_of (W.name words.now) (W.sight pass.new))) }
+        requires look { LookIsIn (view_of P.pack (W.name words.now) (W.sight pass.old)) false found.old.items }
+        requires room { (limits_in (view_of P.pack (W.name words.now) (W.sight pass.old))).ranks ≤ vec_capacity found.old }
+        ensures goes { Goes P.meld W.alone false (limits_in (view_of P.pack (W.name words.now) (W.sight pass.old))).ranks
+            (view_of P.pack (W.name words.now) (W.sight pass.old)) (view_of P.pack (W.name words.now) (W.sight pass.new)) }
+        ensures found { found.new.items ≡ failures (seen_in (view_of P.pack (W.name words.now) (W.sight pass.new))) }
         ensures room { vec_capacity found.old ≤ vec_capacity found.new }
     {
         self.advance(words, pass, found, true);

@@ -73,12 +73,12 @@ impl MarkAll {
         group: &[u16],
         declared: &[u16],
     )
-        requires of { IsView P.meld (view_of (W.name words.now) (W.sight pass.old)) }
-        requires may { MayMarkAllIn (view_of (W.name words.now) (W.sight pass.old)) self.old.comm self.old.round group.now declared.now }
+        requires of { IsView P.meld (view_of P.pack (W.name words.now) (W.sight pass.old)) }
+        requires may { MayMarkAllIn (view_of P.pack (W.name words.now) (W.sight pass.old)) self.old.comm self.old.round group.now declared.now }
         requires at { IsAt group.now declared.now self.old.next self.old.known }
         requires more { self.old.next < length declared.now }
-        ensures takes { MarksTake false group.now declared.now self.old self.new (view_of (W.name words.now) (W.sight pass.old))
-            (view_of (W.name words.now) (W.sight pass.new)) }
+        ensures takes { MarksTake false group.now declared.now self.old self.new (view_of P.pack (W.name words.now) (W.sight pass.old))
+            (view_of P.pack (W.name words.now) (W.sight pass.new)) }
         ensures rank { self.new.rank ≡ self.old.rank }
         ensures comm { self.new.comm ≡ self.old.comm }
         ensures round { self.new.round ≡ self.old.round }
@@ -87,9 +87,9 @@ impl MarkAll {
         ensures further { members_in group.now declared.now self.new.next ≡ members_in group.now declared.now self.old.next ++ slice_index declared.now
             self.old.next ∷ [] }
         ensures once { MarksOnce W.alone self.old.rank self.old.comm self.old.round (slice_index declared.now self.old.next)
-            (seen_in (view_of (W.name words.now) (W.sight pass.old))) (seen_in (view_of (W.name words.now) (W.sight pass.new))) }
+            (seen_in (view_of P.pack (W.name words.now) (W.sight pass.old))) (seen_in (view_of P.pack (W.name words.now) (W.sight pass.new))) }
         ensures marks { MarkSteps P.meld W.alone self.old.rank (round_on self.old.comm self.old.round) (slice_index declared.now self.old.next ∷ [])
-            (view_of (W.name words.now) (W.sight pass.old)) (view_of (W.name words.now) (W.sight pass.new)) }
+            (view_of P.pack (W.name words.now) (W.sight pass.old)) (view_of P.pack (W.name words.now) (W.sight pass.new)) }
     {
         let rank = declared[self.next];
         self.known += 1;
@@ -111,12 +111,12 @@ impl MarkAll {
         declared: &[u16],
         whole: bool,
     )
-        requires of { IsView P.meld (view_of (W.name words.now) (W.sight pass.old)) }
-        requires may { MayMarkAllIn (view_of (W.name words.now) (W.sight pass.old)) self.old.comm self.old.round group.now declared.now }
+        requires of { IsView P.meld (view_of P.pack (W.name words.now) (W.sight pass.old)) }
+        requires may { MayMarkAllIn (view_of P.pack (W.name words.now) (W.sight pass.old)) self.old.comm self.old.round group.now declared.now }
         requires at { IsAt group.now declared.now self.old.next self.old.known }
         requires more { self.old.next < length declared.now }
-        ensures takes { MarksTake whole group.now declared.now self.old self.new (view_of (W.name words.now) (W.sight pass.old))
-            (view_of (W.name words.now) (W.sight pass.new)) }
+        ensures takes { MarksTake whole group.now declared.now self.old self.new (view_of P.pack (W.name words.now) (W.sight pass.old))
+            (view_of P.pack (W.name words.now) (W.sight pass.new)) }
         ensures rank { self.new.rank ≡ self.old.rank }
         ensures comm { self.new.comm ≡ self.old.comm }
         ensures round { self.new.round ≡ self.old.round }
@@ -125,9 +125,9 @@ impl MarkAll {
         ensures done { whole ≡ true → self.new.next ≡ length declared.now }
         ensures once { whole ≡ false
             → MarksOnce W.alone self.old.rank self.old.comm self.old.round (slice_index declared.now self.old.next)
-            (seen_in (view_of (W.name words.now) (W.sight pass.old))) (seen_in (view_of (W.name words.now) (W.sight pass.new))) }
-        ensures marks { HasMarked P.meld W.alone self.old (among group.now declared.now) self.new.next (view_of (W.name words.now) (W.sight pass.old))
-            (view_of (W.name words.now) (W.sight pass.new)) }
+            (seen_in (view_of P.pack (W.name words.now) (W.sight pass.old))) (seen_in (view_of P.pack (W.name words.now) (W.sight pass.new))) }
+        ensures marks { HasMarked P.meld W.alone self.old (among group.now declared.now) self.new.next (view_of P.pack (W.name words.now) (W.sight pass.old))
+            (view_of P.pack (W.name words.now) (W.sight pass.new)) }
     {
         while self.next < declared.len() {
             self.step(words, pass, group, declared);
@@ -146,11 +146,11 @@ impl MarkAll {
         group: &[u16],
         declared: &[u16],
     )
-        requires of { IsView P.meld (view_of (W.name words.now) (W.sight pass.old)) }
-        requires may { MayMarkAllIn (view_of (W.name words.now) (W.sight pass.old)) self.comm self.round group.now declared.now }
+        requires of { IsView P.meld (view_of P.pack (W.name words.now) (W.sight pass.old)) }
+        requires may { MayMarkAllIn (view_of P.pack (W.name words.now) (W.sight pass.old)) self.comm self.round group.now declared.now }
         requires at { IsAt group.now declared.now self.next self.known }
-        ensures marks { HasMarked P.meld W.alone self (among group.now declared.now) (length declared.now) (view_of (W.name words.now) (W.sight pass.old))
-            (view_of (W.name words.now) (W.sight pass.new)) }
+        ensures marks { HasMarked P.meld W.alone self (among group.now declared.now) (length declared.now) (view_of P.pack (W.name words.now) (W.sight pass.old))
+            (view_of P.pack (W.name words.now) (W.sight pass.new)) }
     {
         if self.next < declared.len() {
             self.advance(words, pass, group, declared, true);

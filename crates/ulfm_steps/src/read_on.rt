@@ -57,18 +57,18 @@ impl ReadOn {
         count: u16,
         seen: &mut Vec<u16, B>,
     )
-        requires of { IsView P.meld (view_of (W.name words.now) (W.sight pass.old)) }
-        requires may { MayReadOn group.now count seen.old.items (failures (seen_in (view_of (W.name words.now) (W.sight pass.old)))) }
+        requires of { IsView P.meld (view_of P.pack (W.name words.now) (W.sight pass.old)) }
+        requires may { MayReadOn group.now count seen.old.items (failures (seen_in (view_of P.pack (W.name words.now) (W.sight pass.old)))) }
         requires at { AtFailure group.now count self.old seen.old.items }
         requires more { self.old.found < count }
-        requires room { (limits_in (view_of (W.name words.now) (W.sight pass.old))).ranks ≤ vec_capacity seen.old }
-        ensures goes { Goes P.meld W.alone false 1 (view_of (W.name words.now) (W.sight pass.old)) (view_of (W.name words.now) (W.sight pass.new)) }
-        ensures takes { ReadOnTakesIn false seen.old.items seen.new.items (view_of (W.name words.now) (W.sight pass.old))
-            (view_of (W.name words.now) (W.sight pass.new)) }
+        requires room { (limits_in (view_of P.pack (W.name words.now) (W.sight pass.old))).ranks ≤ vec_capacity seen.old }
+        ensures goes { Goes P.meld W.alone false 1 (view_of P.pack (W.name words.now) (W.sight pass.old)) (view_of P.pack (W.name words.now) (W.sight pass.new)) }
+        ensures takes { ReadOnTakesIn false seen.old.items seen.new.items (view_of P.pack (W.name words.now) (W.sight pass.old))
+            (view_of P.pack (W.name words.now) (W.sight pass.new)) }
         ensures at { AtFailure group.now count self.new seen.new.items }
         ensures further { vec_len seen.new ≡ vec_len seen.old + 1 }
         ensures goes_on { IsPrefix seen.old.items seen.new.items }
-        ensures begins { IsPrefix seen.new.items (failures (seen_in (view_of (W.name words.now) (W.sight pass.new)))) }
+        ensures begins { IsPrefix seen.new.items (failures (seen_in (view_of P.pack (W.name words.now) (W.sight pass.new)))) }
         ensures room { vec_capacity seen.old ≤ vec_capacity seen.new }
     {
         let Some(rank) = load_failure(words, pass, seen.len() as u16) else {
@@ -90,20 +90,20 @@ impl ReadOn {
         seen: &mut Vec<u16, B>,
         whole: bool,
     )
-        requires of { IsView P.meld (view_of (W.name words.now) (W.sight pass.old)) }
-        requires may { MayReadOn group.now count seen.old.items (failures (seen_in (view_of (W.name words.now) (W.sight pass.old)))) }
+        requires of { IsView P.meld (view_of P.pack (W.name words.now) (W.sight pass.old)) }
+        requires may { MayReadOn group.now count seen.old.items (failures (seen_in (view_of P.pack (W.name words.now) (W.sight pass.old)))) }
         requires at { AtFailure group.now count self.old seen.old.items }
         requires more { self.old.found < count }
-        requires room { (limits_in (view_of (W.name words.now) (W.sight pass.old))).ranks ≤ vec_capacity seen.old }
-        ensures goes { Goes P.meld W.alone false (limits_in (view_of (W.name words.now) (W.sight pass.old))).ranks
-            (view_of (W.name words.now) (W.sight pass.old)) (view_of (W.name words.now) (W.sight pass.new)) }
-        ensures takes { ReadOnTakesIn whole seen.old.items seen.new.items (view_of (W.name words.now) (W.sight pass.old))
-            (view_of (W.name words.now) (W.sight pass.new)) }
+        requires room { (limits_in (view_of P.pack (W.name words.now) (W.sight pass.old))).ranks ≤ vec_capacity seen.old }
+        ensures goes { Goes P.meld W.alone false (limits_in (view_of P.pack (W.name words.now) (W.sight pass.old))).ranks
+            (view_of P.pack (W.name words.now) (W.sight pass.old)) (view_of P.pack (W.name words.now) (W.sight pass.new)) }
+        ensures takes { ReadOnTakesIn whole seen.old.items seen.new.items (view_of P.pack (W.name words.now) (W.sight pass.old))
+            (view_of P.pack (W.name words.now) (W.sight pass.new)) }
         ensures at { AtFailure group.now count self.new seen.new.items }
-        ensures further { steps_in (view_of (W.name words.now) (W.sight pass.new)) + vec_len seen.old
-            ≡ steps_in (view_of (W.name words.now) (W.sight pass.old)) + vec_len seen.new }
+        ensures further { steps_in (view_of P.pack (W.name words.now) (W.sight pass.new)) + vec_len seen.old
+            ≡ steps_in (view_of P.pack (W.name words.now) (W.sight pass.old)) + vec_len seen.new }
         ensures goes_on { IsPrefix seen.old.items seen.new.items }
-        ensures begins { IsPrefix seen.new.items (failures (seen_in (view_of (W.name words.now) (W.sight pass.new)))) }
+        ensures begins { IsPrefix seen.new.items (failures (seen_in (view_of P.pack (W.name words.now) (W.sight pass.new)))) }
         ensures room { vec_capacity seen.old ≤ vec_capacity seen.new }
         ensures done { whole ≡ true → self.new.found ≡ count }
     {

@@ -21,10 +21,10 @@ const FOUR: Limits = Limits {
 
 // A rank arrives in the world's first barrier round.
 fn arrive<P: Packed, A: Allocator, W: Words<P, A>>(words: &W, pass: &mut W::Pass, rank: u16) -> bool
-    requires of { IsView P.meld (view_of (W.name words.now) (W.sight pass.old)) }
+    requires of { IsView P.meld (view_of P.pack (W.name words.now) (W.sight pass.old)) }
     requires there { rank < (W.name words.now).limits.ranks }
     requires rounds { 0 < (W.name words.now).limits.rounds }
-    ensures { IsView P.meld (view_of (W.name words.now) (W.sight pass.new)) }
+    ensures { IsView P.meld (view_of P.pack (W.name words.now) (W.sight pass.new)) }
 {
     set_arrival(words, pass, Caller::Rank(rank), 0, 0, rank)
 }
@@ -37,11 +37,11 @@ fn missing<P: Packed, A: Allocator, W: Words<P, A>>(
     declared: &[u16],
     whole: bool,
 ) -> Missing
-    requires of { IsView P.meld (view_of (W.name words.now) (W.sight pass.old)) }
+    requires of { IsView P.meld (view_of P.pack (W.name words.now) (W.sight pass.old)) }
     requires group { group.now ≡ first_ranks (W.name words.now).limits.ranks }
     requires some { 0 < length group.now }
     requires rounds { 0 < (W.name words.now).limits.rounds }
-    ensures { IsView P.meld (view_of (W.name words.now) (W.sight pass.new)) }
+    ensures { IsView P.meld (view_of P.pack (W.name words.now) (W.sight pass.new)) }
 {
     let mut arrivals = Arrivals::new(0, 0, group, declared);
     loop {

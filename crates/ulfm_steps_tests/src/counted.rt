@@ -1,10 +1,10 @@
-// Words of the tests' own: plain words whose pass counts the loads and exchanges that are made, those of blocks apart.
+// Words of the tests' own: plain words whose pass counts the loads and exchanges that are made, those of blocks and of wings apart.
 ghost use Rattle.std.specs.Prelude.{[], true, false};
 ghost use Rattle.ulfm_words.specs.Pass.{plain_name};
 
 use std::alloc::{AllocError, Allocator, Global};
 use ulfm_laws::meld::Packed;
-use ulfm_model::block::Block;
+use ulfm_model::block::{Block, Wing};
 use ulfm_model::limits::Limits;
 use ulfm_model::place::Place;
 use ulfm_words::{OpenWords, PlainPass, PlainTold, PlainWords, Step, Words};
@@ -21,6 +21,8 @@ pub(crate) struct CountedPass<P: Packed, A: Allocator = Global> {
     pub exchanges: u32,
     pub block_loads: u32,
     pub caches: u32,
+    pub wing_loads: u32,
+    pub spreads: u32,
 }
 
 impl<P: Packed, A: Allocator + Copy + Drop> Words<P, A> for Counted<P> {
@@ -56,6 +58,16 @@ impl<P: Packed, A: Allocator + Copy + Drop> Words<P, A> for Counted<P> {
         pass.plain.cache(block, word)
     }
 
+    fn load_wing(&self, pass: &mut CountedPass<P, A>, wing: Wing) -> u64 {
+        pass.wing_loads = pass.wing_loads.saturating_add(1);
+        pass.plain.load_wing(wing)
+    }
+
+    fn set_wing(&self, pass: &mut CountedPass<P, A>, wing: Wing, word: u64) -> Result<(), u64> {
+        pass.spreads = pass.spreads.saturating_add(1);
+        pass.plain.set_wing(wing, word)
+    }
+
     fn steps_made(&self, pass: &CountedPass<P, A>) -> u64 {
         pass.plain.steps_made()
     }
@@ -80,6 +92,8 @@ impl<P: Packed, A: Allocator + Copy + Drop> OpenWords<P, A> for Counted<P> {
             exchanges: 0,
             block_loads: 0,
             caches: 0,
+            wing_loads: 0,
+            spreads: 0,
         })
     }
 

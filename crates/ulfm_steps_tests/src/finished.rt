@@ -25,10 +25,10 @@ pub(crate) fn give<P: Packed, A: Allocator, W: Words<P, A>>(
     rank: u16,
     flag: P,
 ) -> bool
-    requires of { IsView P.meld (view_of (W.name words.now) (W.sight pass.old)) }
+    requires of { IsView P.meld (view_of P.pack (W.name words.now) (W.sight pass.old)) }
     requires there { rank < (W.name words.now).limits.ranks }
     requires rounds { 0 < (W.name words.now).limits.rounds }
-    ensures { IsView P.meld (view_of (W.name words.now) (W.sight pass.new)) }
+    ensures { IsView P.meld (view_of P.pack (W.name words.now) (W.sight pass.new)) }
 {
     let given = Contribution {
         offer: Offer::Flag(flag),
@@ -42,7 +42,7 @@ pub(crate) fn give<P: Packed, A: Allocator, W: Words<P, A>>(
         rank,
         given,
     };
-    settle.finish(words, pass).is_ok()
+    settle.spread(words, pass) && settle.step(words, pass).is_ok()
 }
 
 // What rank 0's poll of that round does: it looks, marks and reads.
@@ -52,11 +52,11 @@ fn poll<P: Packed, A: Allocator, W: Words<P, A>, B: Allocator>(
     group: &[u16],
     found: &mut Vec<u16, B>,
 ) -> Option<Summary<P>>
-    requires of { IsView P.meld (view_of (W.name words.now) (W.sight pass.old)) }
+    requires of { IsView P.meld (view_of P.pack (W.name words.now) (W.sight pass.old)) }
     requires group { group.now ≡ first_ranks (W.name words.now).limits.ranks }
     requires rounds { 0 < (W.name words.now).limits.rounds }
     requires room { (W.name words.now).limits.ranks ≤ vec_capacity found.old }
-    ensures of { IsView P.meld (view_of (W.name words.now) (W.sight pass.new)) }
+    ensures of { IsView P.meld (view_of P.pack (W.name words.now) (W.sight pass.new)) }
     ensures room { vec_capacity found.old ≤ vec_capacity found.new }
 {
     Look::new(found).finish(words, pass, found);
@@ -119,21 +119,57 @@ fn steps_over_own_words(rt: HostRuntime) -> Result<(), Fail> {
     let mut pass = words.pass(rt.alloc())?;
     let mut found = Vec::with_capacity(rt.alloc(), 3)?;
     let group = [0, 1, 2];
-    assert!(rt; give(&words, &mut pass, 0, FlagAnd { bits: 0xf }));
+    assert!(rt;
+        give(
+            &words,
+            &mut pass,
+            0,
+            FlagAnd {
+                bits: 0xa_0000_000f
+            }
+        )
+    );
     assert!(rt; poll(&words, &mut pass, &group, &mut found).is_none());
     // One load of the list, then the places of ranks 0 and 1.
     assert_eq!(rt; (pass.loads, pass.exchanges), (3, 1));
-    assert!(rt; give(&words, &mut pass, 1, FlagAnd { bits: 0x3c }));
+    // The wing of rank 0, which it had set before its place.
+    assert_eq!(rt; (pass.wing_loads, pass.spreads), (1, 1));
+    assert!(rt;
+        give(
+            &words,
+            &mut pass,
+            1,
+            FlagAnd {
+                bits: 0x6_0000_003c
+            }
+        )
+    );
     assert!(rt; declare(&words, &mut pass, 2) == Appended::Won(0));
     assert_eq!(rt; (pass.loads, pass.exchanges), (4, 3));
     let all = poll(&words, &mut pass, &group, &mut found);
     // Two loads of the list, the mark of rank 2, and the places of all.
     assert_eq!(rt; (pass.loads, pass.exchanges), (9, 4));
+    // Rank 2 has a mark, which has no wing.
+    assert_eq!(rt; (pass.wing_loads, pass.spreads), (3, 2));
     let agreed = Summary {
-        body: Body::Flag(FlagAnd { bits: 0xc }),
+        body: Body::Flag(FlagAnd {
+            bits: 0x2_0000_000c,
+        }),
         known: Known { count: 1 },
         acked: Acked { count: 0 },
     };
     assert!(rt; all == Some(agreed));
+    Ok(())
+}
+
+#[test]
+fn a_rank_contributes_once(rt: HostRuntime) -> Result<(), Fail> {
+    let plain = PlainWords::<FlagAnd>::open(THREE)?;
+    let words = Counted { plain };
+    let mut pass = words.pass(rt.alloc())?;
+    assert!(rt; give(&words, &mut pass, 0, FlagAnd { bits: 0xf }));
+    // Its wing is set, and nothing is tried beside that.
+    assert!(rt; !give(&words, &mut pass, 0, FlagAnd { bits: 0xf }));
+    assert_eq!(rt; (pass.spreads, pass.exchanges), (2, 1));
     Ok(())
 }

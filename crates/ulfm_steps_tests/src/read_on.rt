@@ -41,12 +41,12 @@ fn read<P: Packed, A: Allocator, W: Words<P, A>, B: Allocator>(
     seen: &mut Vec<u16, B>,
     whole: bool,
 ) -> usize
-    requires of { IsView P.meld (view_of (W.name words.now) (W.sight pass.old)) }
+    requires of { IsView P.meld (view_of P.pack (W.name words.now) (W.sight pass.old)) }
     requires rises { IsStrictlyIncreasing group.now }
     requires begins { IsPrefix seen.old.items (failures (W.sight pass.old).seen) }
     requires found { (W.name words.now).limits.ranks ≤ vec_capacity found.old }
     requires seen { (W.name words.now).limits.ranks ≤ vec_capacity seen.old }
-    ensures of { IsView P.meld (view_of (W.name words.now) (W.sight pass.new)) }
+    ensures of { IsView P.meld (view_of P.pack (W.name words.now) (W.sight pass.new)) }
     ensures begins { IsPrefix seen.new.items (failures (W.sight pass.new).seen) }
     ensures found { vec_capacity found.old ≤ vec_capacity found.new }
     ensures seen { vec_capacity seen.old ≤ vec_capacity seen.new }

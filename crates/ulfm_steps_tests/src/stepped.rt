@@ -22,9 +22,9 @@ fn declare<P: Packed, A: Allocator, W: Words<P, A>>(
     pass: &mut W::Pass,
     rank: u16,
 ) -> Appended
-    requires of { IsView P.meld (view_of (W.name words.now) (W.sight pass.old)) }
+    requires of { IsView P.meld (view_of P.pack (W.name words.now) (W.sight pass.old)) }
     requires there { rank < (W.name words.now).limits.ranks }
-    ensures { IsView P.meld (view_of (W.name words.now) (W.sight pass.new)) }
+    ensures { IsView P.meld (view_of P.pack (W.name words.now) (W.sight pass.new)) }
 {
     let mut append = Append::new(Item::Failure { rank }, Caller::Outside);
     loop {
@@ -40,9 +40,9 @@ fn look<P: Packed, A: Allocator, W: Words<P, A>, B: Allocator>(
     pass: &mut W::Pass,
     found: &mut Vec<u16, B>,
 )
-    requires of { IsView P.meld (view_of (W.name words.now) (W.sight pass.old)) }
+    requires of { IsView P.meld (view_of P.pack (W.name words.now) (W.sight pass.old)) }
     requires room { (W.name words.now).limits.ranks ≤ vec_capacity found.old }
-    ensures of { IsView P.meld (view_of (W.name words.now) (W.sight pass.new)) }
+    ensures of { IsView P.meld (view_of P.pack (W.name words.now) (W.sight pass.new)) }
     ensures found { found.new.items ≡ failures (W.sight pass.new).seen }
     ensures room { vec_capacity found.old ≤ vec_capacity found.new }
 {
@@ -59,9 +59,9 @@ fn mark<P: Packed, A: Allocator, W: Words<P, A>>(
     group: &[u16],
     declared: &[u16],
 )
-    requires of { IsView P.meld (view_of (W.name words.now) (W.sight pass.old)) }
+    requires of { IsView P.meld (view_of P.pack (W.name words.now) (W.sight pass.old)) }
     requires may { MayMarkAll (W.name words.now).limits (W.sight pass.old).seen 0 0 group.now declared.now }
-    ensures { IsView P.meld (view_of (W.name words.now) (W.sight pass.new)) }
+    ensures { IsView P.meld (view_of P.pack (W.name words.now) (W.sight pass.new)) }
 {
     let mut marking = MarkAll::new(0, 0, 0, group, declared);
     while marking.next < declared.len() {
@@ -75,10 +75,10 @@ fn read<P: Packed, A: Allocator, W: Words<P, A>>(
     pass: &mut W::Pass,
     group: &[u16],
 ) -> Option<Summary<P>>
-    requires of { IsView P.meld (view_of (W.name words.now) (W.sight pass.old)) }
+    requires of { IsView P.meld (view_of P.pack (W.name words.now) (W.sight pass.old)) }
     requires group { group.now ≡ first_ranks (W.name words.now).limits.ranks }
     requires rounds { 0 < (W.name words.now).limits.rounds }
-    ensures { IsView P.meld (view_of (W.name words.now) (W.sight pass.new)) }
+    ensures { IsView P.meld (view_of P.pack (W.name words.now) (W.sight pass.new)) }
 {
     let mut reading = ReadRound::new(0, 0);
     while reading.read < group.len() {
@@ -96,11 +96,11 @@ fn look_and_mark<P: Packed, A: Allocator, W: Words<P, A>, B: Allocator>(
     group: &[u16],
     found: &mut Vec<u16, B>,
 )
-    requires of { IsView P.meld (view_of (W.name words.now) (W.sight pass.old)) }
+    requires of { IsView P.meld (view_of P.pack (W.name words.now) (W.sight pass.old)) }
     requires group { group.now ≡ first_ranks (W.name words.now).limits.ranks }
     requires rounds { 0 < (W.name words.now).limits.rounds }
     requires room { (W.name words.now).limits.ranks ≤ vec_capacity found.old }
-    ensures { IsView P.meld (view_of (W.name words.now) (W.sight pass.new)) }
+    ensures { IsView P.meld (view_of P.pack (W.name words.now) (W.sight pass.new)) }
 {
     look(words, pass, found);
     mark(words, pass, group, found);

@@ -21,9 +21,9 @@ pub(crate) fn declare<P: Packed, A: Allocator, W: Words<P, A>>(
     pass: &mut W::Pass,
     rank: u16,
 ) -> Appended
-    requires of { IsView P.meld (view_of (W.name words.now) (W.sight pass.old)) }
+    requires of { IsView P.meld (view_of P.pack (W.name words.now) (W.sight pass.old)) }
     requires there { rank < (W.name words.now).limits.ranks }
-    ensures { IsView P.meld (view_of (W.name words.now) (W.sight pass.new)) }
+    ensures { IsView P.meld (view_of P.pack (W.name words.now) (W.sight pass.new)) }
 {
     Append::new(Item::Failure { rank }, Caller::Outside).finish(words, pass)
 }

@@ -4,13 +4,14 @@ use Rattle.std.specs.Fmt.{decimal}
 use Rattle.std.specs.declared.vec.Vec.{Vec}
 use Rattle.ulfm_laws.specs.{Flags.{flag_meld}, declared.flag_and.FlagAnd.{FlagAnd}, declared.summary.Body.{Body}}
 use Rattle.ulfm_model.specs.History.{Decision, History, decision, is_decided}
-use Rattle.ulfm_script.specs.{Digits.{hex_digits}, Printed.{error_text}}
+use Rattle.ulfm_lines.specs.LineTexts.{mask_flag}
+use Rattle.ulfm_script.specs.{Digits.{flag_text}, Printed.{error_text}}
 
 -- what was contributed, combined: nothing, flags, sets of context ids, or both
 abbrev pub body_text : Body FlagAnd → List ℕ
 body_text Body.Unit = codes ": nobody"
-body_text (Body.Flag flag) = codes ": agreed " ++ hex_digits 8 flag.bits
-body_text (Body.Ctx mask) = codes ": ids " ++ hex_digits 8 mask.bits
+body_text (Body.Flag flag) = codes ": agreed " ++ flag_text flag
+body_text (Body.Ctx mask) = codes ": ids " ++ flag_text (mask_flag mask)
 body_text Body.Clash = codes ": mismatch"
 
 -- how many ranks a decision leaves out, and whether it is raised

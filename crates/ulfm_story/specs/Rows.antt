@@ -17,7 +17,7 @@ caller_lane (Caller.Rank rank) = rank_lane rank
 
 -- the lane of a line: that of whose line it is
 abbrev pub line_lane : Line FlagAnd → ℕ
-line_lane (Line.Called asked) = caller_lane (traits_of asked).by
+line_lane (Line.Called asked padded) = caller_lane (traits_of asked).by
 line_lane (Line.Looked rank count) = rank_lane rank
 line_lane (Line.Happened by event) = caller_lane by
 line_lane (Line.Replied by point reply) = caller_lane by

@@ -92,7 +92,7 @@ impl<A: Allocator + Copy + Drop> Calls<A> {
         ensures { IfOk result (IsRow line) }
     {
         match line {
-            Line::Called(asked) => Ok(self.begin(asked, at)),
+            Line::Called { call, padded } => Ok(self.begin(call, padded, at)),
             Line::Looked { rank, .. } => Ok(plain_row(line, lane_of_rank(rank))),
             Line::Happened {
                 by,
@@ -120,14 +120,18 @@ impl<A: Allocator + Copy + Drop> Calls<A> {
     }
 
     /// A call begins.
-    fn begin(&mut self, asked: Call<FlagAnd>, at: u16) -> Row
-        ensures { IsRow (Line.Called asked) result }
+    fn begin(&mut self, asked: Call<FlagAnd>, padded: bool, at: u16) -> Row
+        ensures { IsRow (Line.Called asked padded) result }
     {
         let lane = lane_of(caller_of(&asked));
         if let Some(place) = self.begun.get_mut(usize::from(lane)) {
             *place = Some(Begun { asked, row: at });
         }
-        plain_row(Line::Called(asked), lane)
+        let line = Line::Called {
+            call: asked,
+            padded,
+        };
+        plain_row(line, lane)
     }
 
     /// An event happens.

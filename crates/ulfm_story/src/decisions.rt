@@ -2,7 +2,7 @@
 ghost use Rattle.std.specs.Prelude.{◌≡◌, ◌++◌, IfOk, OnOk};
 ghost use Rattle.std.specs.Fmt.{decimal};
 ghost use Rattle.ulfm_history.specs.Walked.{decision_of};
-ghost use Rattle.ulfm_script.specs.Digits.{hex_digits};
+ghost use Rattle.ulfm_script.specs.Digits.{flag_text};
 ghost use Rattle.ulfm_story.specs.Decisions.{TellsDecision, body_text, decided_text, failed_text};
 
 use itoa::Buffer;
@@ -10,7 +10,7 @@ use std::alloc::{AllocError, Allocator};
 use ulfm_history::decide::{Decided, decision, is_decided};
 use ulfm_laws::{Body, FlagAnd};
 use ulfm_model::event::Entry;
-use ulfm_script::words::flag_digits;
+use ulfm_script::flag_digits;
 
 /// What a round decides by these events, in words: none where some member isn't settled yet.
 ///
@@ -81,12 +81,12 @@ fn print_failed<A: Allocator, B: Allocator>(
     text.extend_from_slice(if made.raised { b" raised" } else { b" clean" })
 }
 
-/// A set of 32 bits as eight hexadecimal digits.
-#[tactic(auto, unfolding(ulfm_script::specs::Digits::flag_text))]
+/// A flag, or a set of context ids, as flags are printed.
 fn print_bits<A: Allocator>(text: &mut Vec<u8, A>, flag: FlagAnd) -> Result<(), AllocError>
-    ensures { OnOk result (text.new.items ≡ text.old.items ++ hex_digits 8 flag.bits) }
+    ensures { OnOk result (text.new.items ≡ text.old.items ++ flag_text flag) }
 {
-    text.extend_from_slice(&flag_digits(flag))
+    let digits = flag_digits(flag);
+    text.extend_from_slice(digits.text())
 }
 
 /// A count in decimal.

@@ -14,7 +14,7 @@ use Rattle.ulfm_trace.specs.Texts.{AreTold, BreaksOff, IsBadLine, IsBadNext, IsF
 
 -- what a line of the grammar tells is never bad for its text
 pub never_text : (now : TraceState) (group : List ℕ) (line : TraceLine) → ¬ IsBad flag_meld now group line Text
-never_text now group (Called asked) bad = cc (bad.0)
+never_text now group (Called asked padded) bad = cc (bad.0)
 never_text now group (Looked r count) (inl bad) = cc (bad.0)
 never_text now group (Looked r count) (inr bad) = cc (bad.0)
 never_text now group (Happened by None) bad = cc (bad)

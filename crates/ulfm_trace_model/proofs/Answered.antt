@@ -4,8 +4,8 @@ use Rattle.std.specs.{Prelude.{drop}, List.{AllByRecursion}}
 use Rattle.std.proofs.Math.Seq.{take-append_seam}
 use Rattle.std.proofs.lemmas.{Bool.{eqb-true}, List.{take-append-drop}}
 use mathlib.Core.List.{IsPrefix}
-use Rattle.ulfm_model.specs.declared.{call.Call.{Call}, event.Caller.{Caller}, limits.Limits.{Limits}, refusal.Refusal.{Refusal}, reply.Reply.{Reply}}
-use Rattle.ulfm_model.specs.Answers.{IsReply, IsSelfFailed, MayOwn, Sees, AtPoint, left_by, polled_by, comm_of}
+use Rattle.ulfm_model.specs.declared.{event.Caller.{Caller}, limits.Limits.{Limits}, refusal.Refusal.{Refusal}, reply.Reply.{Reply}}
+use Rattle.ulfm_model.specs.Answers.{IsReply, IsSelfFailed, MayOwn, Sees, AtPoint, left_by, polled_by}
 use Rattle.ulfm_model.specs.{History.{History, entries_by, failures}, Records.{Record, is_shrink}, Runs.{IsRun, IsSpan, StandsIn}}
 use Rattle.ulfm_model.specs.Records.{moment}
 use Rattle.ulfm_model.proofs.{Histories.{failures_begin}, LeftRuns.{left_keeps}, Lists.{each_always, find_holds}}
@@ -35,6 +35,7 @@ module _ {P : Type 0} (meld : P → P → P) (now : Traced P) (kept : IsKept mel
         look = first;
         point = take point now.history;
         own = u.own;
+        spread = true;
         looked = record { since = s.later; goes_on = ap (λ w. w ++ s.later) before_is; stands = tt; quiet = λ alone. absurd (cc alone) };
         did = record { since = s.rest; goes_on = s.goes_on; stands = subst (λ c. StandsIn (entries_by c u.own) s.rest) mine s.stands; quiet = λ alone. absurd (cc alone) };
         point_begins = take_prefix u.begun point now.history since_begin;
@@ -97,7 +98,7 @@ module _ {P : Type 0} (meld : P → P → P) (now : Traced P) (kept : IsKept mel
         )
 
         abbrev view : List ℕ → AtPoint P
-        view l = record { look = l; history = take point now.history; own = u.own }
+        view l = record { look = l; history = take point now.history; own = u.own; spread = true }
 
         run_answers : IsFalse own.refused → IsSelfFailed (view_at now u point) own u.asked reply ⊎ IsReply meld now.limits (view_at now u point) own u.asked reply
             → (run : IsRun meld now.limits false (moment own (take u.begun now.history)) u.asked reply (moment left now.history)) × (run.span.point ≡ take point now.history)

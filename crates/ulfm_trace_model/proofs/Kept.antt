@@ -239,7 +239,7 @@ module _ {P : Type 0} (meld : P → P → P) where
           go false is rest = (spans_reply now by v point reply u is each.0, rest)
 
   limits_after : (now : Traced P) (line : Line P) → (after now line).limits ≡ now.limits
-  limits_after now (Line.Called asked) = refl
+  limits_after now (Line.Called asked padded) = refl
   limits_after now (Line.Looked r count) = refl
   limits_after now (Line.Happened by None) = refl
   limits_after now (Line.Happened by (Some event)) = refl
@@ -257,7 +257,7 @@ module _ {P : Type 0} (meld : P → P → P) where
 
   -- a line that may come keeps it
   pub kept_after : (now : Traced P) (group : List ℕ) (line : Line P) → MayCome meld now group line → IsKept meld now → IsKept meld (after now line)
-  kept_after now group (Line.Called asked) may kept =
+  kept_after now group (Line.Called asked padded) may kept =
       record { legal = kept.legal; each = each_push (Spans now.history now.records) now.calls (record { asked = asked; begun = length now.history; look = None; own = [] }) kept.each (spans_new now.history now.records asked) }
   kept_after now group (Line.Looked r count) may kept =
       record {

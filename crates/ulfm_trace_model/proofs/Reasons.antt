@@ -24,7 +24,7 @@ module _ {P : Type 0} (meld : P → P → P) (now : Traced P) (group : List ℕ)
   Comes line = MayCome meld now group line
 
   pub one_reason : (line : Line P) → IsBadForOne meld now group line
-  one_reason (Line.Called asked) = record { apart = λ reason bad. bad.1; some = λ may_not none. none Why.Call (refl, may_not); one = λ reason other x y. x.0 ∙ sym y.0 }
+  one_reason (Line.Called asked padded) = record { apart = λ reason bad. bad.1; some = λ may_not none. none Why.Call (refl, may_not); one = λ reason other x y. x.0 ∙ sym y.0 }
   one_reason (Line.Looked r count) =
       record {
         apart = tests_apart Why.Call Why.Look (IsOpen now (Caller.Rank r)) (Comes (Line.Looked r count)) (Comes (Line.Looked r count)) (λ may. (ap is_some may.0.is_open, may)) (λ first may. may);

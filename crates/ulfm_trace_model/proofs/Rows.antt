@@ -1,5 +1,5 @@
 -- Worked traces, computed.
-use Rattle.std.proofs.Common.{◌≡◌, ℕ, List, [], ◌∷◌, ◌++◌, Some, true, refl, subst, arith, inl, inr}
+use Rattle.std.proofs.Common.{◌≡◌, ℕ, List, [], ◌∷◌, ◌++◌, Some, true, false, refl, subst, arith, inl, inr}
 use Rattle.std.specs.Prelude.{bit_and}
 use Rattle.ulfm_model.specs.declared.{call.Call.{Call}, contribution.Offer.{Offer}, event.Caller.{Caller}, event.Event.{Event}, limits.Limits.{Limits}}
 use Rattle.ulfm_model.specs.declared.{refusal.Refusal.{Refusal}, reply.Reply.{Reply}}
@@ -23,7 +23,7 @@ plain line = record { line = line; group = [] }
 
 -- a rank's call with its look, which finds so many failures
 abbrev asks : ℕ → Call ℕ → ℕ → List (Told ℕ)
-asks r asked count = plain (Line.Called asked) ∷ plain (Line.Looked r count) ∷ []
+asks r asked count = plain (Line.Called asked false) ∷ plain (Line.Looked r count) ∷ []
 
 abbrev did : Caller → Event ℕ → Told ℕ
 did by event = plain (Line.Happened by (Some event))
@@ -33,7 +33,7 @@ replied by point reply = plain (Line.Replied by point (Some reply))
 
 -- the outside declares a rank, as the event of this number
 abbrev fails : ℕ → ℕ → List (Told ℕ)
-fails r point = plain (Line.Called (Call.Fail r)) ∷ did Caller.Outside (Event.Fail r) ∷ replied Caller.Outside point Reply.Declared ∷ []
+fails r point = plain (Line.Called (Call.Fail r) false) ∷ did Caller.Outside (Event.Fail r) ∷ replied Caller.Outside point Reply.Declared ∷ []
 
 -- a rank contributes a flag to the first round, as the event of this number
 abbrev gives : ℕ → ℕ → ℕ → ℕ → List (Told ℕ)
@@ -246,7 +246,7 @@ fails_is_piece = (1, Reply.Declared, refl)
 -- the lines of one that declares another rank too are none
 abbrev fails_another : List (Told ℕ)
 fails_another =
-    plain (Line.Called (Call.Fail 2)) ∷ did Caller.Outside (Event.Fail 1) ∷ did Caller.Outside (Event.Fail 2)
+    plain (Line.Called (Call.Fail 2) false) ∷ did Caller.Outside (Event.Fail 1) ∷ did Caller.Outside (Event.Fail 2)
     ∷ replied Caller.Outside 2 Reply.Declared ∷ []
 
 fails_another_is_no_piece : ¬ IsPiece (nothing three) (StepLine.Failed 2) fails_another

@@ -10,7 +10,7 @@ use Rattle.ulfm_trace_model.specs.Traces.{AreLegalAfter, IsOpen, Told, Traced, n
 
 -- whether a line is a look, an event or a reply in this caller's name
 abbrev pub is_of : {P : Type 0} → Caller → Line P → Bool
-is_of by (Line.Called asked) = false
+is_of by (Line.Called asked padded) = false
 is_of by (Line.Looked r count) = same_caller (Caller.Rank r) by
 is_of by (Line.Happened other event) = same_caller other by
 is_of by (Line.Replied other point reply) = same_caller other by
@@ -56,9 +56,9 @@ AreOf by piece = AllByRecursion (λ told. IsTrue (is_of by told.line)) piece
 abbrev pub EndsInReply : {P : Type 0} → List (Told P) → Type 0
 EndsInReply {P} piece = (first : List (Told P)) × (last : Told P) × (piece ≡ first ++ last ∷ []) × IsTrue (is_reply last.line)
 
--- the line of a call that begins
-abbrev pub called : {P : Type 0} → Call P → Told P
-called asked = record { line = Line.Called asked; group = [] }
+-- the line of a call that begins, with its flag spelled so
+abbrev pub called : {P : Type 0} → Call P → Bool → Told P
+called asked padded = record { line = Line.Called asked padded; group = [] }
 
 -- a call that needs no step is answered at once, by one reply in its caller's name
 abbrev pub IsAtOnce : {P : Type 0} → Call P → List (Told P) → Type 0
@@ -73,13 +73,13 @@ fail_event r _ = []
 -- the lines of a whole declaration of rank r, which is answered at this point: its call, its event, if the call made it, and its reply
 abbrev pub fail_piece : {P : Type 0} → ℕ → ℕ → Reply P → List (Told P)
 fail_piece r point reply =
-    called (Call.Fail r) ∷ (fail_event r reply ++ record { line = Line.Replied Caller.Outside point (Some reply); group = [] } ∷ [])
+    called (Call.Fail r) false ∷ (fail_event r reply ++ record { line = Line.Replied Caller.Outside point (Some reply); group = [] } ∷ [])
 
--- The piece of a trace that one line of a script gives, where so much was said before. A call begins; a rank's steps give lines in its name,
--- at most as many looks and events as steps, none by a step of the name before which it stops, and a reply at last where its call is finished; a
--- declaration is whole, with nothing in between.
+-- The piece of a trace that one line of a script gives, where so much was said before. A call begins, and is spelled as the script spells it; a
+-- rank's steps give lines in its name, at most as many looks and events as steps, none by a step of the name before which it stops, and a reply at
+-- last where its call is finished; a declaration is whole, with nothing in between.
 abbrev pub IsPiece : {P : Type 0} → Traced P → StepLine P → List (Told P) → Type 0
-IsPiece {P} now (StepLine.Called asked) piece = (rest : List (Told P)) × (piece ≡ called asked ∷ rest) × IsAtOnce asked rest
+IsPiece {P} now (StepLine.Called asked padded) piece = (rest : List (Told P)) × (piece ≡ called asked padded ∷ rest) × IsAtOnce asked rest
 IsPiece now (StepLine.Stepped r count) piece = AreOf (Caller.Rank r) piece × (steps_in piece ≤ count)
 IsPiece now (StepLine.Before r name) piece = AreOf (Caller.Rank r) piece × NoneBy name piece
 IsPiece now (StepLine.Finished r) piece = AreOf (Caller.Rank r) piece × (IsOpen now (Caller.Rank r) → EndsInReply piece)
@@ -101,8 +101,9 @@ pub record Runs {P : Type 0} (meld : P → P → P) (old : Traced P) (lines : Li
 pub record FindsOpen {P : Type 0} (meld : P → P → P) (limits : Limits) (lines : List (StepLine P)) (number : ℕ) (trace : List (Told P)) : Type 0 where
   pub first : List (StepLine P)
   pub asked : Call P
+  pub padded : Bool
   pub behind : List (StepLine P)
-  pub lines_are : lines ≡ first ++ StepLine.Called asked ∷ behind
+  pub lines_are : lines ≡ first ++ StepLine.Called asked padded ∷ behind
   pub number_is : number ≡ length first + 2
   pub now : Traced P
   pub runs : Runs meld (nothing limits) first trace now

@@ -52,9 +52,9 @@ record_in now r = find (λ own. own.number == r) now.records
 abbrev pub found_by : {P : Type 0} → Traced P → Under P → List ℕ
 found_by now u = take (unwrap_or u.look 0) (failures now.history)
 
--- what a reply rests on at a point, which is the number of events before it
+-- what a reply rests on at a point, which is the number of events before it. Lines tell of no wing, so that one may be set at any time
 abbrev pub view_at : {P : Type 0} → Traced P → Under P → ℕ → AtPoint P
-view_at now u point = record { look = found_by now u; history = take point now.history; own = u.own }
+view_at now u point = record { look = found_by now u; history = take point now.history; own = u.own; spread = true }
 
 -- a look is due: the rank's call has made none, and the world has the rank, which wasn't refused for good before
 pub record IsLookDue {P : Type 0} (now : Traced P) (r : ℕ) : Type 0 where
@@ -109,7 +109,7 @@ pub record MayReply {P : Type 0} (meld : P → P → P) (now : Traced P) (by : C
 
 -- the line may come next; its caller has a call under way where it is a look or a reply, and none where a call begins
 abbrev pub MayCome : {P : Type 0} → (P → P → P) → Traced P → List ℕ → Line P → Type 0
-MayCome meld now group (Line.Called asked) = call_by now (traits_of asked).by ≡ None
+MayCome meld now group (Line.Called asked padded) = call_by now (traits_of asked).by ≡ None
 MayCome meld now group (Line.Looked r count) = IsLookDue now r × (count ≡ length (failures now.history))
 MayCome meld now group (Line.Happened by None) = ⊥
 MayCome meld now group (Line.Happened by (Some event)) = MayFollow meld now.limits now.history event × MayAddBy now by event
@@ -122,7 +122,7 @@ FailsAt one first other second reason = ((reason ≡ one) × ¬ first) ⊎ ((rea
 
 -- the line may not come next, and this is the reason: the first of its tests that fails
 abbrev pub IsBad : {P : Type 0} → (P → P → P) → Traced P → List ℕ → Line P → Why → Type 0
-IsBad meld now group (Line.Called asked) reason = (reason ≡ Why.Call) × ¬ MayCome meld now group (Line.Called asked)
+IsBad meld now group (Line.Called asked padded) reason = (reason ≡ Why.Call) × ¬ MayCome meld now group (Line.Called asked padded)
 IsBad meld now group (Line.Looked r count) reason =
     FailsAt Why.Call (IsOpen now (Caller.Rank r)) Why.Look (MayCome meld now group (Line.Looked r count)) reason
 IsBad meld now group (Line.Happened by None) reason = reason ≡ Why.Event
@@ -163,7 +163,7 @@ after_reply now by point reply (Some u) =
 
 -- what is said after a line that may come
 abbrev pub after : {P : Type 0} → Traced P → Line P → Traced P
-after now (Line.Called asked) =
+after now (Line.Called asked padded) =
     record now { calls = now.calls ++ record { asked = asked; begun = length now.history; look = None; own = [] } ∷ [] }
 after now (Line.Looked r count) = record now { calls = change_by (Caller.Rank r) (λ u. record u { look = Some count }) now.calls }
 after now (Line.Happened by (Some event)) =

@@ -9,7 +9,11 @@ use ulfm_model::reply::Reply;
 /// A line behind the header. The ranks that a reply lists stand beside it.
 pub enum Line<P> {
     /// A call begins.
-    Called(Call<P>),
+    Called {
+        call: Call<P>,
+        /// Whether its flag is spelled with all digits though the upper half is 0, and would be printed without.
+        padded: bool,
+    },
     /// The look of a rank's call has ended, and found so many failures.
     Looked {
         /// The caller.

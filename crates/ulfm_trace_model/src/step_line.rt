@@ -8,15 +8,29 @@ use ulfm_model::step_name::StepName;
 /// A line behind the header.
 pub enum StepLine<P> {
     /// A rank begins a call.
-    Called(Call<P>),
+    Called {
+        call: Call<P>,
+        /// Whether its flag is spelled with all digits though the upper half is 0, and would be printed without.
+        padded: bool,
+    },
     /// Up to so many atomic steps of a rank's call.
-    Stepped { rank: u16, count: u16 },
+    Stepped {
+        rank: u16,
+        count: u16,
+    },
     /// The steps of a rank's call up to its next one of this name, which isn't made.
-    Before { rank: u16, name: StepName },
+    Before {
+        rank: u16,
+        name: StepName,
+    },
     /// All steps of a rank's call.
-    Finished { rank: u16 },
+    Finished {
+        rank: u16,
+    },
     /// The outside declares a rank, whole.
-    Failed { rank: u16 },
+    Failed {
+        rank: u16,
+    },
 }
 
 impl<P: Copy> Copy for StepLine<P> {}

@@ -94,7 +94,7 @@ fn is_unrefused<A: Allocator + Copy>(
     }
 }
 
-/// The start of an agree or a shrink.
+/// The start of an agree or a shrink. Its wing may have been set at any time, which no line tells.
 fn is_started<A: Allocator + Copy>(
     asking: &Asking<'_, A>,
     holder: &Holder<A>,
@@ -106,6 +106,9 @@ fn is_started<A: Allocator + Copy>(
     let Some(held) = holder.at(comm) else {
         return Ok(false);
     };
+    if reply == Reply::Refused(Refusal::Twice) {
+        return Ok(asking.own.is_empty());
+    }
     let Some(Slot::Given(given)) = slot_at(asking.past, (comm, held.next_agreement, rank)) else {
         return Ok(false);
     };
@@ -117,7 +120,6 @@ fn is_started<A: Allocator + Copy>(
             let counts = usize::from(given.known.count) == known.len();
             Ok(!asking.own.is_empty() && body && counts && given.acked.count == held.acked)
         }
-        Reply::Refused(Refusal::Twice) => Ok(asking.own.is_empty()),
         _ => Ok(false),
     }
 }

@@ -73,9 +73,9 @@ impl<A: Allocator> Holder<A> {
 
     /// The context ids that none of its communicators has.
     pub(crate) fn free_ids(&self) -> CtxMask {
-        let mut bits = 0xffff_ffff;
+        let mut bits = u64::MAX;
         for held in &self.held {
-            bits &= !(1u32.wrapping_shl(u32::from(held.context)));
+            bits &= !(1u64.wrapping_shl(u32::from(held.context)));
         }
         CtxMask { bits }
     }

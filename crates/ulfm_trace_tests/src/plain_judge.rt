@@ -65,7 +65,7 @@ impl<A: Allocator + Copy> PlainJudge<A> {
         group: &[u16],
     ) -> Result<Option<Why>, AllocError> {
         match *line {
-            Line::Called(asked) => self.called(asked),
+            Line::Called { call: asked, .. } => self.called(asked),
             Line::Looked { rank, failures } => self.looked(rank, failures),
             Line::Happened { by, event } => self.happened(by, event),
             Line::Replied { by, point, reply } => self.replied(by, point, reply, group),

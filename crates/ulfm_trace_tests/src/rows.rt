@@ -2,7 +2,7 @@
 use crate::tested::check;
 use crate::traces::{
     CONTRIBUTION_IN_FLIGHT, DECISION_OF_NOBODY, LATE_ARRIVAL, MARK_COMES_FIRST, MARK_ENDS,
-    MARKS_ALONE, REVOKED_BETWEEN_LOADS, SHRINK, spliced, text_of,
+    MARKS_ALONE, REVOKED_BETWEEN_LOADS, SHRINK, SIXTEEN_DIGITS, THIRTY_TWO_IDS, spliced, text_of,
 };
 use std::alloc::AllocError;
 use std::test::Fail;
@@ -25,13 +25,14 @@ fn replaced(
 
 #[test]
 fn traces_of_steps_are_legal(rt: HostRuntime) -> Result<(), Fail> {
-    let all: [&[&str]; 6] = [
+    let all: [&[&str]; 7] = [
         &CONTRIBUTION_IN_FLIGHT,
         &DECISION_OF_NOBODY,
         &MARKS_ALONE,
         &REVOKED_BETWEEN_LOADS,
         &LATE_ARRIVAL,
         &SHRINK,
+        &SIXTEEN_DIGITS,
     ];
     for lines in all {
         let text = text_of(rt.alloc(), lines)?;
@@ -39,6 +40,18 @@ fn traces_of_steps_are_legal(rt: HostRuntime) -> Result<(), Fail> {
         assert_eq!(rt; check(&rt, &text), Ok(Verdict::Legal), "{title}");
     }
     let text = spliced(rt.alloc(), &MARK_COMES_FIRST, 21, &[MARK_ENDS], 21)?;
+    assert_eq!(rt; check(&rt, &text), Ok(Verdict::Legal));
+    Ok(())
+}
+
+/// A shrink offers all 64 context ids that its rank doesn't hold.
+#[test]
+fn ids_of_another_width(rt: HostRuntime) -> Result<(), Fail> {
+    let lines = &THIRTY_TWO_IDS;
+    let text = text_of(rt.alloc(), lines)?;
+    assert_eq!(rt; check(&rt, &text), illegal(5, Why::Reply));
+    let all = "event 0 settle 0 0 0 ctx fffffffffffffffe known 0 acked 0";
+    let text = replaced(&rt, lines, 4, all)?;
     assert_eq!(rt; check(&rt, &text), Ok(Verdict::Legal));
     Ok(())
 }

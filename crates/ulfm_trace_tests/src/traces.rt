@@ -124,6 +124,34 @@ pub(crate) const LATE_ARRIVAL: [&str; 15] = [
     "reply 0 2 refused 11 proc-failed",
 ];
 
+/// Flags with an upper half, and one of all digits without, whose call alone is spelled so.
+pub(crate) const SIXTEEN_DIGITS: [&str; 15] = [
+    "ulfm-trace 1 2 1 2",
+    "call agree 0 0 000000000000000f",
+    "look 0 0",
+    "event 0 settle 0 0 0 flag 0000000f known 0 acked 0",
+    "reply 0 1 started",
+    "call agree 1 0 0000000300000007",
+    "look 1 0",
+    "event 1 settle 0 0 1 flag 0000000300000007 known 0 acked 0",
+    "reply 1 2 started",
+    "call poll 0 0",
+    "look 0 0",
+    "reply 0 2 agreed 00000007 failed 0 clean",
+    "call poll 1 0",
+    "look 1 0",
+    "reply 1 2 agreed 00000007 failed 0 clean",
+];
+
+/// A shrink of the time when there were 32 context ids.
+pub(crate) const THIRTY_TWO_IDS: [&str; 5] = [
+    "ulfm-trace 1 1 2 2",
+    "call shrink 0 0",
+    "look 0 0",
+    "event 0 settle 0 0 0 ctx fffffffe known 0 acked 0",
+    "reply 0 1 started",
+];
+
 /// A shrink without the declared rank, and a call on what it made.
 pub(crate) const SHRINK: [&str; 29] = [
     "ulfm-trace 1 3 2 4",
@@ -132,11 +160,11 @@ pub(crate) const SHRINK: [&str; 29] = [
     "reply - 1 declared",
     "call shrink 0 0",
     "look 0 1",
-    "event 0 settle 0 0 0 ctx fffffffe known 1 acked 0",
+    "event 0 settle 0 0 0 ctx fffffffffffffffe known 1 acked 0",
     "reply 0 2 started",
     "call shrink 2 0",
     "look 2 1",
-    "event 2 settle 0 0 2 ctx fffffffe known 1 acked 0",
+    "event 2 settle 0 0 2 ctx fffffffffffffffe known 1 acked 0",
     "reply 2 3 started",
     "call poll 0 0",
     "look 0 1",

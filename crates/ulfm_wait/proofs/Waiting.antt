@@ -7,7 +7,7 @@ use Rattle.ulfm_model.specs.declared.{refusal.Refusal.{Refusal}, reply.Reply.{Re
 use Rattle.ulfm_model.specs.{Answers.{opened}, History.{IsLegal}, Records.{Fits, Held, Record, change_at, held_at}, Runs.{IsCall}, Terms.{comm_of}}
 use Rattle.ulfm_model.specs.Records.{moment}
 use Rattle.ulfm_model.proofs.{LeftRuns.{call_legal, call_number}, Lists.{prefix_trans}}
-use Rattle.ulfm_words.specs.Steps.{view_of, IsView, Name, Sight}
+use Rattle.ulfm_words.specs.Steps.{view_at, view_of, IsView, Name, Over, Sight, over}
 use Rattle.ulfm_comm.specs.{Calls.{Calls}, Polls.{IsNotPending, PollIs, polled}}
 use Rattle.ulfm_comm.specs.declared.calls.polled.{Polled.{Polled}, Polled.TheVariants.{Agreed, Done, Pending as StillPending, Shrunk}}
 use Rattle.ulfm_comm.proofs.CallRuns.{called_run}
@@ -24,38 +24,38 @@ answer_ends (Agreed value count raised) answer = inl (value, count, raised, refl
 answer_ends (Shrunk j context size) answer = inr (inl (j, context, size, refl))
 answer_ends Done answer = inr (inr refl)
 
-module _ {P : Type 0} (meld : P → P → P) (alone : Bool) (name : Name) (c : ℕ) where
+module _ {P : Type 0} (meld : P → P → P) (alone : Bool) (name : Over P) (c : ℕ) where
   -- the last poll, and how it stands before it
   pub record IsLast (old : Record) (before : Sight P) (result : Result (Polled P) Refusal) (new : Record) (after : Sight P) : Type 0 where
     pub own : Record
     pub at : Sight P
-    pub of : IsView meld (view_of name at)
+    pub of : IsView meld (view_at name at)
     pub fits : Fits meld name.limits at.seen own
     pub number : own.number ≡ old.number
     pub held : own.held ≡ old.held
     pub begins : IsPrefix before.seen at.seen
     pub answered : IfOk result IsNotPending
-    pub poll : PollIs meld alone (Poll own.number c) (local own (view_of name at)) result (local new (view_of name after))
+    pub poll : PollIs meld alone (Poll own.number c) (local own (view_at name at)) result (local new (view_at name after))
 
   -- a rank started a request, and then polled until one poll was answered
   pub record IsAwaited (asked : Call P) (old : Record) (before : Sight P) (result : Result (Polled P) Refusal) (new : Record) (after : Sight P) : Type 0 where
     pub own : Record
     pub at : Sight P
-    pub starts : Calls meld alone asked (local old (view_of name before)) Started (local own (view_of name at))
-    pub polls : IsPolledOn meld alone c (local own (view_of name at)) result (local new (view_of name after))
+    pub starts : Calls meld alone asked (local old (view_at name before)) Started (local own (view_at name at))
+    pub polls : IsPolledOn meld alone c (local own (view_at name at)) result (local new (view_at name after))
 
   -- a pending poll comes first
-  pub pends_first : (old mid : Record) (before then : Sight P) (result : Result (Polled P) Refusal) (new : Record) (after : Sight P) → Calls meld alone (Poll old.number c) (local old (view_of name before)) Pending (local mid (view_of name then))
-      → IsPolledOn meld alone c (local mid (view_of name then)) result (local new (view_of name after)) → IsPolledOn meld alone c (local old (view_of name before)) result (local new (view_of name after))
+  pub pends_first : (old mid : Record) (before then : Sight P) (result : Result (Polled P) Refusal) (new : Record) (after : Sight P) → Calls meld alone (Poll old.number c) (local old (view_at name before)) Pending (local mid (view_at name then))
+      → IsPolledOn meld alone c (local mid (view_at name then)) result (local new (view_at name after)) → IsPolledOn meld alone c (local old (view_at name before)) result (local new (view_at name after))
   pends_first old mid before then result new after called (n, rest) = (suc n, (mid, then, called, rest))
 
   -- a call goes on from what was seen
-  pub goes_on : (asked : Call P) (old : Record) (before : Sight P) (reply : Reply P) (new : Record) (after : Sight P) → IsView meld (view_of name before) → Calls meld alone asked (local old (view_of name before)) reply (local new (view_of name after)) → IsPrefix before.seen after.seen
+  pub goes_on : (asked : Call P) (old : Record) (before : Sight P) (reply : Reply P) (new : Record) (after : Sight P) → IsView meld (view_at name before) → Calls meld alone asked (local old (view_at name before)) reply (local new (view_at name after)) → IsPrefix before.seen after.seen
   goes_on asked old before reply new after of calls = (call_legal meld name.limits alone before.seen after.seen old asked reply new of.legal (called_run meld alone name asked old before reply new after calls)).0
 
   -- there is a last poll
-  pub last_poll : (n : ℕ) (old : Record) (before : Sight P) (result : Result (Polled P) Refusal) (new : Record) (after : Sight P) → IsView meld (view_of name before) → Fits meld name.limits before.seen old
-      → PollsUntil meld alone c n (local old (view_of name before)) result (local new (view_of name after)) → IsLast old before result new after
+  pub last_poll : (n : ℕ) (old : Record) (before : Sight P) (result : Result (Polled P) Refusal) (new : Record) (after : Sight P) → IsView meld (view_at name before) → Fits meld name.limits before.seen old
+      → PollsUntil meld alone c n (local old (view_at name before)) result (local new (view_at name after)) → IsLast old before result new after
   last_poll zero old before result new after of fits polls = record {
     own = old;
     at = before;
@@ -83,11 +83,11 @@ module _ {P : Type 0} (meld : P → P → P) (alone : Bool) (name : Name) (c : �
       }
 
   -- the last poll's call, where it was answered
-  last_goes : (own : Record) (at : Sight P) (reply : Polled P) (new : Record) (after : Sight P) → IsView meld (view_of name at) → PollIs meld alone (Poll own.number c) (local own (view_of name at)) (Ok reply) (local new (view_of name after)) → IsPrefix at.seen after.seen × IsLegal meld name.limits after.seen
+  last_goes : (own : Record) (at : Sight P) (reply : Polled P) (new : Record) (after : Sight P) → IsView meld (view_at name at) → PollIs meld alone (Poll own.number c) (local own (view_at name at)) (Ok reply) (local new (view_at name after)) → IsPrefix at.seen after.seen × IsLegal meld name.limits after.seen
   last_goes own at reply new after of called = (goes_on (Poll own.number c) own at (polled reply) new after of called, called.linearizes.of.legal)
 
   -- a start that started is on a communicator that the rank holds
-  pub started_on : (asked : Call P) (old : Record) (before : Sight P) (own : Record) (at : Sight P) → Calls meld alone asked (local old (view_of name before)) Started (local own (view_of name at)) → (x : Held) × (held_at old (comm_of asked) ≡ Some x)
+  pub started_on : (asked : Call P) (old : Record) (before : Sight P) (own : Record) (at : Sight P) → Calls meld alone asked (local old (view_at name before)) Started (local own (view_at name at)) → (x : Held) × (held_at old (comm_of asked) ≡ Some x)
   started_on asked old before own at calls = go (called_run meld alone name asked old before Started own at calls)
     where
       go : IsCall meld name.limits alone (moment old before.seen) asked Started (moment own at.seen) → (x : Held) × (held_at old (comm_of asked) ≡ Some x)
@@ -145,25 +145,25 @@ is_answer (Agreed value count raised) other = tt
 is_answer (Shrunk j context size) other = tt
 is_answer Done other = tt
 
-module _ {P : Type 0} (meld : P → P → P) where
+module _ {P : Type 0} (meld : P → P → P) (pack : P → ℕ) where
   -- a member of these words
-  pub same_words : (name : Name) (m : Membership P) → m.view.words ≡ name → IsView meld (view_of name m.view.pass) → Fits meld name.limits m.view.pass.seen m.own → IsMember meld m
+  pub same_words : (name : Name) (m : Membership P) → m.view.words ≡ name → IsView meld (view_of pack name m.view.pass) → Fits meld name.limits m.view.pass.seen m.own → IsMember meld pack m
   same_words name m same of fits = record {
-    of = subst (λ w. IsView meld (view_of w m.view.pass)) (sym same) of;
+    of = subst (λ w. IsView meld (view_of pack w m.view.pass)) (sym same) of;
     fits = subst (λ (w : Name). Fits meld w.limits m.view.pass.seen m.own) (sym same) fits;
   }
 
-module _ {P : Type 0} (meld : P → P → P) (alone : Bool) (c : ℕ) where
+module _ {P : Type 0} (meld : P → P → P) (pack : P → ℕ) (alone : Bool) (c : ℕ) where
   -- polls of a member are polls of its rank with its pass
-  polls_seen : (n : ℕ) (name : Name) (old : Membership P) (result : Result (Polled P) Refusal) (new : Membership P) → old.view.words ≡ name → MemberPollsUntil meld alone c n old result new
-      → PollsUntil meld alone c n (local old.own (view_of name old.view.pass)) result (local new.own (view_of name new.view.pass))
-  polls_seen zero name old result new same polls = (polls.0, subst (λ w. PollIs meld alone (Poll old.own.number c) (local old.own (view_of w old.view.pass)) result (local new.own (view_of w new.view.pass))) same polls.1.polls.run)
+  polls_seen : (n : ℕ) (name : Name) (old : Membership P) (result : Result (Polled P) Refusal) (new : Membership P) → old.view.words ≡ name → MemberPollsUntil meld pack alone c n old result new
+      → PollsUntil meld alone c n (local old.own (view_of pack name old.view.pass)) result (local new.own (view_of pack name new.view.pass))
+  polls_seen zero name old result new same polls = (polls.0, subst (λ w. PollIs meld alone (Poll old.own.number c) (local old.own (view_of pack w old.view.pass)) result (local new.own (view_of pack w new.view.pass))) same polls.1.polls.run)
   polls_seen (suc n) name old result new same (mid, pends, rest) =
-      (mid.own, mid.view.pass, subst (λ w. Calls meld alone (Poll old.own.number c) (local old.own (view_of w old.view.pass)) Pending (local mid.own (view_of w mid.view.pass))) same pends.polls.run, polls_seen n name mid result new (pends.words ∙ same) rest)
+      (mid.own, mid.view.pass, subst (λ w. Calls meld alone (Poll old.own.number c) (local old.own (view_of pack w old.view.pass)) Pending (local mid.own (view_of pack w mid.view.pass))) same pends.polls.run, polls_seen n name mid result new (pends.words ∙ same) rest)
 
   -- and so is a request that was awaited
-  awaited_seen : (asked : Call P) (old : Membership P) (result : Result (Polled P) Refusal) (new : Membership P) → MemberAwaits meld alone c asked old result new
-      → IsAwaited meld alone old.view.words c asked old.own old.view.pass result new.own new.view.pass
+  awaited_seen : (asked : Call P) (old : Membership P) (result : Result (Polled P) Refusal) (new : Membership P) → MemberAwaits meld pack alone c asked old result new
+      → IsAwaited meld alone (over pack old.view.words) c asked old.own old.view.pass result new.own new.view.pass
   awaited_seen asked old result new awaits = record {
     own = awaits.mid.own;
     at = awaits.mid.view.pass;
@@ -172,29 +172,29 @@ module _ {P : Type 0} (meld : P → P → P) (alone : Bool) (c : ℕ) where
   }
 
   -- what polls leave is a member of the same words
-  pub poll_member : (old : Membership P) (result : Result (Polled P) Refusal) (new : Membership P) → MemberPolls meld alone c old result new → IsMember meld new
-  poll_member old result new polls = same_words meld old.view.words new polls.words polls.polls.of polls.polls.fits
+  pub poll_member : (old : Membership P) (result : Result (Polled P) Refusal) (new : Membership P) → MemberPolls meld pack alone c old result new → IsMember meld pack new
+  poll_member old result new polls = same_words meld pack old.view.words new polls.words polls.polls.of polls.polls.fits
 
-  polled_until : (n : ℕ) (old : Membership P) (result : Result (Polled P) Refusal) (new : Membership P) → MemberPollsUntil meld alone c n old result new → (new.view.words ≡ old.view.words) × IsMember meld new
+  polled_until : (n : ℕ) (old : Membership P) (result : Result (Polled P) Refusal) (new : Membership P) → MemberPollsUntil meld pack alone c n old result new → (new.view.words ≡ old.view.words) × IsMember meld pack new
   polled_until zero old result new polls = (polls.1.words, poll_member old result new polls.1)
   polled_until (suc n) old result new (mid, pends, rest) = let later = polled_until n mid result new rest in (later.0 ∙ pends.words, later.1)
 
   -- a pending poll of a member comes first
-  pub member_pends : (old mid new : Membership P) (result : Result (Polled P) Refusal) → MemberPolls meld alone c old (Ok StillPending) mid → MemberPollsOn meld alone c mid result new
-      → MemberPollsOn meld alone c old result new
+  pub member_pends : (old mid new : Membership P) (result : Result (Polled P) Refusal) → MemberPolls meld pack alone c old (Ok StillPending) mid → MemberPollsOn meld pack alone c mid result new
+      → MemberPollsOn meld pack alone c old result new
   member_pends old mid new result pends (n, rest) = (suc n, (mid, pends, rest))
 
   -- and one that isn't pending last
-  pub member_answered : (old new : Membership P) (result : Result (Polled P) Refusal) → MemberPolls meld alone c old result new → IfOk result IsNotPending → MemberPollsOn meld alone c old result new
+  pub member_answered : (old new : Membership P) (result : Result (Polled P) Refusal) → MemberPolls meld pack alone c old result new → IfOk result IsNotPending → MemberPollsOn meld pack alone c old result new
   member_answered old new result polls answered = (0, (answered, polls))
 
-  awaited_runs : (asked : Call P) (old : Membership P) (result : Result (Polled P) Refusal) (new : Membership P) → MemberAwaits meld alone c asked old result new → MemberRuns meld alone c asked old result new
+  awaited_runs : (asked : Call P) (old : Membership P) (result : Result (Polled P) Refusal) (new : Membership P) → MemberAwaits meld pack alone c asked old result new → MemberRuns meld pack alone c asked old result new
   awaited_runs asked old (Ok reply) new awaits = awaits
   awaited_runs asked old (Err refusal) new awaits = inr awaits
 
   -- a member that started and was polled on has waited
-  pub member_waits : (asked : Call P) (old mid new : Membership P) (result : Result (Polled P) Refusal) → MemberCalls meld alone asked old Started mid → MemberPollsOn meld alone c mid result new
-      → MemberWaits meld alone c asked old result new
+  pub member_waits : (asked : Call P) (old mid new : Membership P) (result : Result (Polled P) Refusal) → MemberCalls meld pack alone asked old Started mid → MemberPollsOn meld pack alone c mid result new
+      → MemberWaits meld pack alone c asked old result new
   member_waits asked old mid new result starts polls =
       let later = polled_until polls.0 mid result new polls.1 in
       record {
@@ -204,19 +204,19 @@ module _ {P : Type 0} (meld : P → P → P) (alone : Bool) (c : ℕ) where
       }
 
   -- so has one whose start was refused
-  pub member_refused : (asked : Call P) (old new : Membership P) (refusal : Refusal) → MemberCalls meld alone asked old (Refused refusal) new → MemberWaits meld alone c asked old (Err refusal) new
+  pub member_refused : (asked : Call P) (old new : Membership P) (refusal : Refusal) → MemberCalls meld pack alone asked old (Refused refusal) new → MemberWaits meld pack alone c asked old (Err refusal) new
   member_refused asked old new refusal starts =
-      record { words = starts.words; is = same_words meld old.view.words new starts.words starts.calls.linearizes.of starts.calls.linearizes.fits; run = inl starts }
+      record { words = starts.words; is = same_words meld pack old.view.words new starts.words starts.calls.linearizes.of starts.calls.linearizes.fits; run = inl starts }
 
   -- what an agree of a member tells
-  pub member_tells : (value : P) (old new : Membership P) (result : Result (Polled P) Refusal) → MemberWaits meld alone c (Agree old.own.number c value) old result new
+  pub member_tells : (value : P) (old new : Membership P) (result : Result (Polled P) Refusal) → MemberWaits meld pack alone c (Agree old.own.number c value) old result new
       → IfOk result (TellsAgree meld old.view.words.limits new.view.pass.seen c value old.own)
   member_tells value old new (Ok reply) waits =
-      tells_agree meld alone old.view.words c value old.own old.view.pass reply new.own new.view.pass (awaited_seen (Agree old.own.number c value) old (Ok reply) new waits.run)
+      tells_agree meld alone (over pack old.view.words) c value old.own old.view.pass reply new.own new.view.pass (awaited_seen (Agree old.own.number c value) old (Ok reply) new waits.run)
   member_tells value old new (Err refusal) waits = tt
 
   -- and what a shrink tells
-  pub member_made : (old new : Membership P) (result : Result (Polled P) Refusal) → MemberWaits meld alone c (Shrink old.own.number c) old result new
+  pub member_made : (old new : Membership P) (result : Result (Polled P) Refusal) → MemberWaits meld pack alone c (Shrink old.own.number c) old result new
       → IfOk result (TellsShrink meld old.view.words.limits new.view.pass.seen c old.own)
-  member_made old new (Ok reply) waits = tells_shrink meld alone old.view.words c old.own old.view.pass reply new.own new.view.pass (awaited_seen (Shrink old.own.number c) old (Ok reply) new waits.run)
+  member_made old new (Ok reply) waits = tells_shrink meld alone (over pack old.view.words) c old.own old.view.pass reply new.own new.view.pass (awaited_seen (Shrink old.own.number c) old (Ok reply) new waits.run)
   member_made old new (Err refusal) waits = tt

@@ -2,7 +2,7 @@
 use Rattle.std.specs.Prelude.{◌≡◌, ◌⊎◌, ℕ, zero, suc, Bool, Some, IfOk, Result, Ok, Err}
 use Rattle.ulfm_model.specs.declared.{call.Call.{Call}, limits.Limits.{Limits}, refusal.Refusal.{Refusal}, reply.Reply.{Reply}}
 use Rattle.ulfm_model.specs.{History.{History}, Records.{Held, Record, held_at}}
-use Rattle.ulfm_words.specs.Steps.{view_of, Sight, View}
+use Rattle.ulfm_words.specs.Steps.{view_at, Sight, View}
 use Rattle.ulfm_comm.specs.{Calls.{Calls}, Polls.{IsNotPending, PollIs, polled}}
 use Rattle.ulfm_comm.specs.declared.calls.polled.Polled.{Polled}
 use Rattle.ulfm_comm.specs.Local.{Local, local}
@@ -13,8 +13,8 @@ use Rattle.ulfm_rounds.specs.Rounds.{Gave, IsDecision, IsMadeOf}
 abbrev pub PollsUntil : {P : Type 0} → (P → P → P) → Bool → ℕ → ℕ → Local P → Result (Polled P) Refusal → Local P → Type 0
 PollsUntil meld alone c zero old result new = IfOk result IsNotPending × PollIs meld alone (Call.Poll old.own.number c) old result new
 PollsUntil {P} meld alone c (suc pending) old result new =
-    (mid : Record) × (then : Sight P) × Calls meld alone (Call.Poll old.own.number c) old Reply.Pending (local mid (view_of new.view.words then))
-    × PollsUntil meld alone c pending (local mid (view_of new.view.words then)) result new
+    (mid : Record) × (then : Sight P) × Calls meld alone (Call.Poll old.own.number c) old Reply.Pending (local mid (view_at new.view.words then))
+    × PollsUntil meld alone c pending (local mid (view_at new.view.words then)) result new
 
 -- polls of a rank go on until one is answered
 abbrev pub IsPolledOn : {P : Type 0} → (P → P → P) → Bool → ℕ → Local P → Result (Polled P) Refusal → Local P → Type 0
@@ -25,39 +25,39 @@ pub record IsAwaited {P : Type 0} (meld : P → P → P) (alone : Bool) (c : ℕ
     (new : Local P) : Type 0 where
   pub own : Record
   pub at : Sight P
-  pub starts : Calls meld alone asked old Reply.Started (local own (view_of new.view.words at))
-  pub polls : IsPolledOn meld alone c (local own (view_of new.view.words at)) result new
+  pub starts : Calls meld alone asked old Reply.Started (local own (view_at new.view.words at))
+  pub polls : IsPolledOn meld alone c (local own (view_at new.view.words at)) result new
 
 -- polls of a member on communicator c, each in no more steps than it may make: so many are pending, and then one is answered
-abbrev pub MemberPollsUntil : {P : Type 0} → (P → P → P) → Bool → ℕ → ℕ → Membership P → Result (Polled P) Refusal → Membership P → Type 0
-MemberPollsUntil meld alone c zero old result new = IfOk result IsNotPending × MemberPolls meld alone c old result new
-MemberPollsUntil {P} meld alone c (suc pending) old result new =
-    (mid : Membership P) × MemberPolls meld alone c old (Ok Polled.Pending) mid × MemberPollsUntil meld alone c pending mid result new
+abbrev pub MemberPollsUntil : {P : Type 0} → (P → P → P) → (P → ℕ) → Bool → ℕ → ℕ → Membership P → Result (Polled P) Refusal → Membership P → Type 0
+MemberPollsUntil meld pack alone c zero old result new = IfOk result IsNotPending × MemberPolls meld pack alone c old result new
+MemberPollsUntil {P} meld pack alone c (suc pending) old result new =
+    (mid : Membership P) × MemberPolls meld pack alone c old (Ok Polled.Pending) mid × MemberPollsUntil meld pack alone c pending mid result new
 
 -- polls of a member go on until one is answered
-abbrev pub MemberPollsOn : {P : Type 0} → (P → P → P) → Bool → ℕ → Membership P → Result (Polled P) Refusal → Membership P → Type 0
-MemberPollsOn meld alone c old result new = (pending : ℕ) × MemberPollsUntil meld alone c pending old result new
+abbrev pub MemberPollsOn : {P : Type 0} → (P → P → P) → (P → ℕ) → Bool → ℕ → Membership P → Result (Polled P) Refusal → Membership P → Type 0
+MemberPollsOn meld pack alone c old result new = (pending : ℕ) × MemberPollsUntil meld pack alone c pending old result new
 
 -- the member started a request, and then polled until one poll was answered
-pub record MemberAwaits {P : Type 0} (meld : P → P → P) (alone : Bool) (c : ℕ) (asked : Call P) (old : Membership P) (result : Result (Polled P) Refusal)
-    (new : Membership P) : Type 0 where
+pub record MemberAwaits {P : Type 0} (meld : P → P → P) (pack : P → ℕ) (alone : Bool) (c : ℕ) (asked : Call P) (old : Membership P)
+    (result : Result (Polled P) Refusal) (new : Membership P) : Type 0 where
   pub mid : Membership P
-  pub starts : MemberCalls meld alone asked old Reply.Started mid
-  pub polls : MemberPollsOn meld alone c mid result new
+  pub starts : MemberCalls meld pack alone asked old Reply.Started mid
+  pub polls : MemberPollsOn meld pack alone c mid result new
 
 -- so it did, or its start was refused
-abbrev pub MemberRuns : {P : Type 0} → (P → P → P) → Bool → ℕ → Call P → Membership P → Result (Polled P) Refusal → Membership P → Type 0
-MemberRuns meld alone c asked old (Ok reply) new = MemberAwaits meld alone c asked old (Ok reply) new
-MemberRuns meld alone c asked old (Err refusal) new =
-    MemberCalls meld alone asked old (Reply.Refused refusal) new ⊎ MemberAwaits meld alone c asked old (Err refusal) new
+abbrev pub MemberRuns : {P : Type 0} → (P → P → P) → (P → ℕ) → Bool → ℕ → Call P → Membership P → Result (Polled P) Refusal → Membership P → Type 0
+MemberRuns meld pack alone c asked old (Ok reply) new = MemberAwaits meld pack alone c asked old (Ok reply) new
+MemberRuns meld pack alone c asked old (Err refusal) new =
+    MemberCalls meld pack alone asked old (Reply.Refused refusal) new ⊎ MemberAwaits meld pack alone c asked old (Err refusal) new
 
 -- A call of a member that waits: whatever it answers, it is a member of the same words still, and the start and each poll made no
 -- more steps than they may make.
-pub record MemberWaits {P : Type 0} (meld : P → P → P) (alone : Bool) (c : ℕ) (asked : Call P) (old : Membership P) (result : Result (Polled P) Refusal)
-    (new : Membership P) : Type 0 where
+pub record MemberWaits {P : Type 0} (meld : P → P → P) (pack : P → ℕ) (alone : Bool) (c : ℕ) (asked : Call P) (old : Membership P)
+    (result : Result (Polled P) Refusal) (new : Membership P) : Type 0 where
   pub words : new.view.words ≡ old.view.words
-  pub is : IsMember meld new
-  pub run : MemberRuns meld alone c asked old result new
+  pub is : IsMember meld pack new
+  pub run : MemberRuns meld pack alone c asked old result new
 
 -- what an agree tells that was answered: what the rank's next round decided, to which the rank gave its flag
 pub record TellsAgree {P : Type 0} (meld : P → P → P) (limits : Limits) (h : History P) (c : ℕ) (value : P) (old : Record) (reply : Polled P) : Type 0 where

@@ -37,7 +37,7 @@ pub fn agree<W, P: Packed, A: Allocator + Copy, R: Wait>(
 ) -> Result<Polled<P>, Refusal>
 where
     W: Words<P, A>,
-    ensures waits { MemberWaits P.meld W.alone comm (Agree member.old.own.number comm value) member.old result member.new }
+    ensures waits { MemberWaits P.meld P.pack W.alone comm (Agree member.old.own.number comm value) member.old result member.new }
     ensures tells { IfOk result (TellsAgree P.meld member.old.view.words.limits member.new.view.pass.seen comm value member.old.own) }
 {
     match member.iagree(comm, value) {
@@ -47,7 +47,7 @@ where
 }
 
 /// Starts a shrink of a communicator, and polls until there is a reply, which is never `Pending`: the new communicator, its
-/// context id, 0 to 31, and its size. The calling rank holds the new communicator from then on.
+/// context id, 0 to 63, and its size. The calling rank holds the new communicator from then on.
 ///
 /// It may wait for as long as some member of the communicator neither starts a shrink nor is declared failed, and yields between two polls.
 /// A refusal is that of the start, as of `Member::ishrink`, or of the poll that ended the wait, as of `Member::poll`; after it the member is
@@ -70,7 +70,7 @@ pub fn shrink<W, P: Packed, A: Allocator + Copy, R: Wait>(
 ) -> Result<Polled<P>, Refusal>
 where
     W: Words<P, A>,
-    ensures waits { MemberWaits P.meld W.alone comm (Shrink member.old.own.number comm) member.old result member.new }
+    ensures waits { MemberWaits P.meld P.pack W.alone comm (Shrink member.old.own.number comm) member.old result member.new }
     ensures tells { IfOk result (TellsShrink P.meld member.old.view.words.limits member.new.view.pass.seen comm member.old.own) }
 {
     match member.ishrink(comm) {
@@ -97,7 +97,7 @@ pub fn barrier<W, P: Packed, A: Allocator + Copy, R: Wait>(
 ) -> Result<Polled<P>, Refusal>
 where
     W: Words<P, A>,
-    ensures { MemberWaits P.meld W.alone comm (Barrier member.old.own.number comm) member.old result member.new }
+    ensures { MemberWaits P.meld P.pack W.alone comm (Barrier member.old.own.number comm) member.old result member.new }
 {
     match member.ibarrier(comm) {
         Ok(()) => poll_on(rt, member, comm),
@@ -113,7 +113,7 @@ fn poll_on<W, P: Packed, A: Allocator + Copy, R: Wait>(
 ) -> Result<Polled<P>, Refusal>
 where
     W: Words<P, A>,
-    ensures { MemberPollsOn P.meld W.alone comm member.old result member.new }
+    ensures { MemberPollsOn P.meld P.pack W.alone comm member.old result member.new }
 {
     for _ in rt.forever() {
         match member.poll(comm) {

@@ -48,7 +48,7 @@ impl<'a, W: Words<P, A>, P: Packed, A: Allocator> Model for AgreeFuture<'a, W, P
       held = option_map (λ s. member_of f.world.now s.1 (W.sight s.0)) f.held;
     } };
 
-    ghost invariant = { λ f. IfSome f.held (λ s. FutureHolds P.meld (record { comm = f.comm; value = f.value; started = f.started })
+    ghost invariant = { λ f. IfSome f.held (λ s. FutureHolds P.meld P.pack (record { comm = f.comm; value = f.value; started = f.started })
         (member_of f.world.now s.1 (W.sight s.0))) };
 }
 
@@ -75,18 +75,18 @@ impl<'a, W: Words<P, A>, P: Packed, A: Allocator + Copy> AgreeFuture<'a, W, P, A
         comm: u16,
         value: P,
     ) -> AgreeFuture<'a, W, P, A>
-        requires of { IsView P.meld (view_of world.now (W.sight pass)) }
-        requires fits { FitsView P.meld (local rank.own (view_of world.now (W.sight pass))) }
+        requires of { IsView P.meld (view_of P.pack world.now (W.sight pass)) }
+        requires fits { FitsView P.meld (local rank.own (view_of P.pack world.now (W.sight pass))) }
         ensures fresh { result ≡ record {
           agree = record { comm = comm; value = value; started = false };
           held = Some (member_of world.now rank (W.sight pass));
         } }
         ensures may { ⟦<AgreeFuture<'a, W, P, A> as Future>⟧.can_poll result }
         ensures gives { (out : _) → ⟦<AgreeFuture<'a, W, P, A> as Future>⟧.gives result out
-            → MemberWaits P.meld W.alone comm (Agree rank.own.number comm value) (member_of world.now rank (W.sight pass)) out.2
+            → MemberWaits P.meld P.pack W.alone comm (Agree rank.own.number comm value) (member_of world.now rank (W.sight pass)) out.2
             (member_of world.now out.1 (W.sight out.0)) }
         ensures tells { (out : _) → ⟦<AgreeFuture<'a, W, P, A> as Future>⟧.gives result out
-            → IfOk out.2 (AgreeIsTold P.meld comm value rank.own (view_of world.now (W.sight out.0))) }
+            → IfOk out.2 (AgreeIsTold P.meld comm value rank.own (view_of P.pack world.now (W.sight out.0))) }
     {
         AgreeFuture {
             world,
@@ -101,14 +101,14 @@ impl<'a, W: Words<P, A>, P: Packed, A: Allocator + Copy> AgreeFuture<'a, W, P, A
 impl<'a, W: Words<P, A>, P: Packed, A: Allocator + Copy> Future for AgreeFuture<'a, W, P, A> {
     type Output = (W::Pass, Rank<P, A>, Result<Polled<P>, Refusal>);
 
-    ghost gives = { λ f out. FutureGives P.meld W.alone f out.2 out.1 (W.sight out.0) };
+    ghost gives = { λ f out. FutureGives P.meld P.pack W.alone f out.2 out.1 (W.sight out.0) };
 
     fn poll(
         &mut self,
         cx: &mut Context<'_>,
     ) -> Poll<(W::Pass, Rank<P, A>, Result<Polled<P>, Refusal>)>
-        ensures pends { OnPending result (Pends P.meld W.alone self.old self.new) }
-        ensures ends { IfReady result (λ out. FutureEnds P.meld W.alone self.old out.2 out.1 (W.sight out.0) self.new) }
+        ensures pends { OnPending result (Pends P.meld P.pack W.alone self.old self.new) }
+        ensures ends { IfReady result (λ out. FutureEnds P.meld P.pack W.alone self.old out.2 out.1 (W.sight out.0) self.new) }
         ensures woken { OnPending result (cx.new.is_woken ≡ true) }
         ensures asleep { IfReady result (λ _. cx.new ≡ cx.old) }
         ensures value { IfReady result (⟦<AgreeFuture<'a, W, P, A> as Future>⟧.gives self.old) }
@@ -161,9 +161,9 @@ fn step<W: Words<P, A>, P: Packed, A: Allocator + Copy>(
     value: P,
     started: bool,
 ) -> Result<Polled<P>, Refusal>
-    requires of { IsView P.meld (view_of world.now (W.sight pass.old)) }
-    requires fits { FitsView P.meld (local rank.old.own (view_of world.now (W.sight pass.old))) }
-    ensures { TakesAgreeTurn P.meld W.alone (record { comm = comm; value = value; started = started })
+    requires of { IsView P.meld (view_of P.pack world.now (W.sight pass.old)) }
+    requires fits { FitsView P.meld (local rank.old.own (view_of P.pack world.now (W.sight pass.old))) }
+    ensures { TakesAgreeTurn P.meld P.pack W.alone (record { comm = comm; value = value; started = started })
         (member_of world.now rank.old (W.sight pass.old)) result (member_of world.now rank.new (W.sight pass.new)) }
 {
     if started {

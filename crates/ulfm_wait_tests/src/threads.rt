@@ -31,7 +31,7 @@ fn four_members(alloc: Global) -> Result<Vec<Member>, OpenFault> {
 /// Agrees, shrinks, and arrives in a barrier of what the shrink made: the replies.
 fn take_part<R: Wait>(rt: &R, member: &mut Member) -> [Reply; 3] {
     let value = FlagAnd {
-        bits: !(1 << (u32::from(member.number()) % 32)),
+        bits: !(1 << (u32::from(member.number()) % 64)),
     };
     [
         agree(rt, member, 0, value),
@@ -67,7 +67,9 @@ fn all_revoke_or_wait<R: Threads + Wait + Sync>(
 #[test]
 fn calls_wait(rt: HostRuntime) -> Result<(), Fail> {
     let agreed = Polled::Agreed {
-        value: FlagAnd { bits: 0xffff_fff0 },
+        value: FlagAnd {
+            bits: 0xffff_ffff_ffff_fff0,
+        },
         failed: 0,
         raised: false,
     };

@@ -1,18 +1,19 @@
--- A block's word stands for one summary, and a slot's word is that of what it says.
+-- A block's number stands for one summary, and a slot's number is that of what it says.
 use Rattle.std.proofs.Common.{◌≡◌, ◌⊎◌, inl, inr, ℕ, ◌≤◌, ◌<◌, ◌^◌, min, max, Option, Some, List, [], ◌∷◌, refl, ap, sym, ◌∙◌, subst, arith}
 use Rattle.ulfm_laws.specs.{declared.summary.Body.{Body}, declared.summary.Body.TheVariants.{Unit as Nothing, Flag as OfFlags, Ctx as OfIds, Clash}, declared.summary.Summary.{Summary}, Bodies.{body_meld}, Counts.{acked_le, same_acked, same_known}, Masks.{same_mask}}
+use Rattle.ulfm_laws.specs.Ranges.{payload_bits}
 use Rattle.ulfm_model.specs.declared.{contribution.Offer.{Offer}, contribution.Offer.TheVariants.{Flag, Ctx}, contribution.Slot.{Slot}, contribution.Slot.TheVariants.{Given, Mark as Marked}}
-use Rattle.ulfm_model.specs.{Blocks.{block_word, payload_of, tag_of}, History.{body_of}, Laws.{all_of, summary_of}, Words.{offer_word, packed, slot_word}}
-use Rattle.ulfm_words.specs.{Blocks.{BlocksAreRead, BlocksHaveOneWord, FitsBody, IsBodyOf, IsFlagBody, IsOfSome, SlotsAreOfSome}, Slots.{IsExact, acked_in, known_in, payload_in, tag_in}}
+use Rattle.ulfm_model.specs.{Blocks.{block_number, payload_of, tag_of}, History.{body_of}, Laws.{all_of, summary_of}, Words.{offer_number, packed, slot_number}}
+use Rattle.ulfm_words.specs.{Blocks.{FitsBody, IsBodyOf, IsFlagBody, IsNumberOf, IsOfSome, SlotsAreOfSome}, Slots.{IsExact, number_bits, acked_in, known_in, payload_in, tag_in}}
 use Rattle.ulfm_words.proofs.SlotWords.{acked_back, below, known_back, odd, parts_are, payload_back, tag_back}
 
 module _ {P : Type 0} (pack : P → ℕ) where
-  -- the word of a slot is that of what it says
-  pub slot_is_said : (s : Slot P) → slot_word pack s ≡ block_word pack (summary_of s)
+  -- the number of a slot is that of what it says
+  pub slot_is_said : (s : Slot P) → slot_number pack s ≡ block_number pack (summary_of s)
   slot_is_said (Marked mark) = refl
   slot_is_said (Given given) = by_offer given.offer
     where
-      by_offer : (o : Offer P) → offer_word pack given.known.count given.acked.count o ≡ packed (tag_of (body_of o)) given.known.count given.acked.count (payload_of pack (body_of o))
+      by_offer : (o : Offer P) → offer_number pack given.known.count given.acked.count o ≡ packed (tag_of (body_of o)) given.known.count given.acked.count (payload_of pack (body_of o))
       by_offer (Flag flag) = refl
       by_offer (Ctx mask) = refl
 
@@ -35,7 +36,7 @@ module _ {P : Type 0} (pack : P → ℕ) where
     pub acked : acked_in w ≡ s.acked.count
     pub payload : payload_in w ≡ payload_of pack s.body
 
-  pub parts : (w : ℕ) (s : Summary P) → w ≡ block_word pack s → Parts w s
+  pub parts : (w : ℕ) (s : Summary P) → w ≡ block_number pack s → Parts w s
   parts w s e =
       let t = tag_of s.body in
       let p = payload_of pack s.body in
@@ -78,17 +79,19 @@ module _ {P : Type 0} (pack : P → ℕ) where
         same_all x y (same_body (tag_in w) (payload_in w) x.body y.body body body') (same_known x.known y.known (known ∙ sym known')) (same_acked x.acked y.acked (acked ∙ sym acked'))
 
     -- a body whose tag and payload are a word's
-    word_of_body : (w : ℕ) (body : Body P) → (IsFlagBody body → IsExact pack unpack) → w < 2 ^ 57 → IsBodyOf unpack (tag_in w) (payload_in w) body → (tag_in w ≡ tag_of body) × (payload_in w ≡ payload_of pack body)
+    word_of_body : (w : ℕ) (body : Body P) → (IsFlagBody body → IsExact pack unpack) → w < 2 ^ number_bits → IsBodyOf unpack (tag_in w) (payload_in w) body → (tag_in w ≡ tag_of body) × (payload_in w ≡ payload_of pack body)
     word_of_body w Nothing exact last is = (is.0, is.1)
     word_of_body w (OfFlags flag) exact last is = (is.0, sym (exact tt (payload_in w) flag (omega (arith, last)) is.1))
     word_of_body w (OfIds mask) exact last is = (is.0, sym is.1)
     word_of_body w Clash exact last is = (is.0, is.1)
 
-    pub have_one_word : BlocksHaveOneWord pack unpack
-    have_one_word w all is = (
-      λ other that. same_said w other all that.known that.acked is.known is.acked that.body is.body,
-      λ exact. let b = word_of_body w all.body exact is.last_bits is.body in parts_are w (tag_of all.body) all.known.count all.acked.count (payload_of pack all.body) is.first_bit b.0 (sym is.known) (sym is.acked) b.1,
-    )
+    pub one_summary : (w : ℕ) (x y : Summary P) → IsNumberOf unpack w x → IsNumberOf unpack w y → x ≡ y
+    one_summary w x y is that = same_said w x y is.known is.acked that.known that.acked is.body that.body
+
+    pub one_number : (w : ℕ) (all : Summary P) → IsNumberOf unpack w all → (IsFlagBody all.body → IsExact pack unpack) → block_number pack all ≡ w
+    one_number w all is exact =
+        let b = word_of_body w all.body exact is.last_bits is.body in
+        parts_are w (tag_of all.body) all.known.count all.acked.count (payload_of pack all.body) is.first_bit b.0 (sym is.known) (sym is.acked) b.1
 
     module _ (back : (x : P) → unpack (pack x) ≡ Some x) where
       own_body : (body : Body P) → IsBodyOf unpack (tag_of body) (payload_of pack body) body
@@ -101,7 +104,7 @@ module _ {P : Type 0} (pack : P → ℕ) where
       body_in w s p = subst (λ t. IsBodyOf unpack t (payload_in w) s.body) (sym p.tag) (subst (λ n. IsBodyOf unpack (tag_of s.body) n s.body) (sym p.payload) (own_body s.body))
 
       -- a summary of the parts of a word is the word's
-      pub said_is : (w : ℕ) (s all : Summary P) → all.known.count ≡ known_in w → all.acked.count ≡ acked_in w → IsBodyOf unpack (tag_in w) (payload_in w) all.body → w ≡ block_word pack s → all ≡ s
+      pub said_is : (w : ℕ) (s all : Summary P) → all.known.count ≡ known_in w → all.acked.count ≡ acked_in w → IsBodyOf unpack (tag_in w) (payload_in w) all.body → w ≡ block_number pack s → all ≡ s
       said_is w s all known acked body e =
           let p = parts w s e in same_said w all s known acked (sym p.known) (sym p.acked) body (body_in w s p)
 
@@ -111,10 +114,10 @@ module _ {P : Type 0} (pack : P → ℕ) where
       flag_there w (OfIds n) tag payload one = absurd (omega (arith, tag, one))
       flag_there w Clash tag payload one = absurd (omega (arith, tag, one))
 
-      pub flag_unpacks : (w : ℕ) (s : Summary P) → w ≡ block_word pack s → tag_in w ≡ 1 → (x : P) × (unpack (payload_in w) ≡ Some x)
+      pub flag_unpacks : (w : ℕ) (s : Summary P) → w ≡ block_number pack s → tag_in w ≡ 1 → (x : P) × (unpack (payload_in w) ≡ Some x)
       flag_unpacks w s e one = let p = parts w s e in flag_there w s.body p.tag p.payload one
 
-      pub no_payload : (w : ℕ) (s : Summary P) → w ≡ block_word pack s → (tag_in w ≡ 0) ⊎ (tag_in w ≡ 3) → payload_in w ≡ 0
+      pub no_payload : (w : ℕ) (s : Summary P) → w ≡ block_number pack s → (tag_in w ≡ 0) ⊎ (tag_in w ≡ 3) → payload_in w ≡ 0
       no_payload w s e which = let p = parts w s e in go s.body p.tag p.payload which
         where
           go : (body : Body P) → tag_in w ≡ tag_of body → payload_in w ≡ payload_of pack body → (tag_in w ≡ 0) ⊎ (tag_in w ≡ 3) → payload_in w ≡ 0
@@ -125,26 +128,28 @@ module _ {P : Type 0} (pack : P → ℕ) where
           go (OfIds n) tag payload (inl none) = absurd (omega (arith, tag, none))
           go (OfIds n) tag payload (inr clash) = absurd (omega (arith, tag, clash))
 
-      pub are_read : ((x : P) → pack x < 2 ^ 32) → BlocksAreRead pack unpack
-      are_read fits all some =
-          let t = tag_of all.body in
-          let p = payload_of pack all.body in
-          let w = block_word pack all in
-          let ps = parts w all refl in
-          record {
-            first_bit = odd t all.known.count all.acked.count p;
-            last_bits = below t all.known.count all.acked.count p (tag_lt all.body) (known_lt all) (acked_lt all) (payload_lt all.body);
-            known = sym ps.known;
-            acked = sym ps.acked;
-            body = body_in w all ps;
-            fits = some;
-          }
-        where
-          payload_lt : (body : Body P) → payload_of pack body < 2 ^ 32
-          payload_lt Nothing = omega arith
-          payload_lt (OfFlags flag) = fits flag
-          payload_lt (OfIds mask) = mask.fits
-          payload_lt Clash = omega arith
+      module _ (fits : (x : P) → pack x < 2 ^ payload_bits) where
+        payload_lt : (body : Body P) → payload_of pack body < 2 ^ payload_bits
+        payload_lt Nothing = omega arith
+        payload_lt (OfFlags flag) = fits flag
+        payload_lt (OfIds mask) = mask.fits
+        payload_lt Clash = omega arith
+
+        pub number_below : (all : Summary P) → block_number pack all < 2 ^ number_bits
+        number_below all = below (tag_of all.body) all.known.count all.acked.count (payload_of pack all.body) (tag_lt all.body) (known_lt all) (acked_lt all) (payload_lt all.body)
+
+        pub is_number : (all : Summary P) → IsOfSome all → IsNumberOf unpack (block_number pack all) all
+        is_number all some =
+            let w = block_number pack all in
+            let ps = parts w all refl in
+            record {
+              first_bit = odd (tag_of all.body) all.known.count all.acked.count (payload_of pack all.body);
+              last_bits = number_below all;
+              known = sym ps.known;
+              acked = sym ps.acked;
+              body = body_in w all ps;
+              fits = some;
+            }
 
 -- what settled members say together fits, where there is one
 module _ {P : Type 0} (meld : P → P → P) where

@@ -5,7 +5,7 @@ use Rattle.std.proofs.lemmas.Nat.{mul-add-lt}
 use Rattle.ulfm_model.specs.declared.{block.Block.{Block}, limits.Limits.{Limits}, place.Place.{Place}, place.Place.TheVariants.{List as ListAt, Comm as CommAt, Revoked as RevokedAt, Slot as SlotAt, Arrival as ArrivalAt}}
 use Rattle.ulfm_model.specs.{Blocks.{IsBlockWithin}, Words.{MayOpen, size_of}}
 use Rattle.ulfm_words.specs.{Places.{IsWithin, cell_in, key_in}, Rows.{Filled, heads_of, lines_of}}
-use Rattle.ulfm_words.proofs.Numbering.{IsNumbering, cells, digits, number_in, number_lt, one_number}
+use Rattle.ulfm_words.proofs.Numbering.{IsNumbering, cells, digits, number_in, number_lt, one_number, size_is}
 
 cell_lt : (limits : Limits) (line c r : ℕ) → line < 2 * limits.rounds → c < limits.comms → r < limits.ranks → cell_in limits line c r < 2 * cells limits
 cell_lt limits line c r line_lt c_lt r_lt =
@@ -27,7 +27,7 @@ abbrev arrivals : Limits → ℕ → ℕ → ℕ → ℕ
 arrivals limits c k r = cell_in limits (2 * k + 1) c r
 
 -- line by line, each cell has its number
-numbered : (limits : Limits) → IsNumbering limits (slots limits) (arrivals limits)
+numbered : (limits : Limits) → IsNumbering limits (2 * cells limits) (slots limits) (arrivals limits)
 numbered limits = record {
   slots_lt = λ c k r cell. cell_lt limits (2 * k) c r (omega (arith, cell.round)) cell.comm cell.rank;
   arrivals_lt = λ c k r cell. cell_lt limits (2 * k + 1) c r (omega (arith, cell.round)) cell.comm cell.rank;
@@ -44,11 +44,13 @@ key_is limits p = elim p as (λ p. key_in limits p ≡ number_in limits (slots l
 
 -- each key is below the size of the row
 pub key_lt : (limits : Limits) (p : Place) → IsWithin limits p → key_in limits p < size_of limits
-key_lt limits p within = subst (λ n. n < size_of limits) (sym (key_is limits p)) (number_lt limits (slots limits) (arrivals limits) (numbered limits) p within)
+key_lt limits p within =
+    let lt = number_lt limits (2 * cells limits) (slots limits) (arrivals limits) (numbered limits) p within in
+    omega (arith, lt, key_is limits p, size_is limits)
 
 -- places with one key are one
 pub one_key : (limits : Limits) (p q : Place) → IsWithin limits p → IsWithin limits q → key_in limits p ≡ key_in limits q → p ≡ q
-one_key limits p q a b e = one_number limits (slots limits) (arrivals limits) (numbered limits) p q a b (sym (key_is limits p) ∙ (e ∙ key_is limits q))
+one_key limits p q a b e = one_number limits (2 * cells limits) (slots limits) (arrivals limits) (numbered limits) p q a b (sym (key_is limits p) ∙ (e ∙ key_is limits q))
 
 -- the row has the words that come first, and those of all lines
 pub row_size : (limits : Limits) → heads_of limits + lines_of limits * limits.ranks ≡ size_of limits

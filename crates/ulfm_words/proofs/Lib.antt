@@ -1,5 +1,6 @@
 pub mod SlotWords
 pub mod BlockWords
+pub mod Pairs
 pub mod Keys
 pub mod Trails
 pub mod Growing
@@ -8,7 +9,10 @@ pub mod Tied
 pub mod Telling
 pub mod Caching
 pub mod Ranks
+pub mod Besides
+pub mod SideRows
 pub mod Standing
+pub mod Tried
 pub mod Reading
 pub mod Setting
 pub mod Numbered

@@ -17,7 +17,7 @@ abbrev pub cells : Limits → ℕ
 cells limits = limits.comms * limits.rounds * limits.ranks
 
 -- the size, counted cell by cell
-size_is : (limits : Limits) → size_of limits ≡ limits.ranks + 2 * limits.comms + 2 * cells limits
+pub size_is : (limits : Limits) → size_of limits ≡ limits.ranks + 2 * limits.comms + 2 * cells limits
 size_is limits = omega arith
 
 -- what stands before two equal sums may be left out
@@ -32,28 +32,25 @@ number_in limits slots arrivals (RevokedAt c) = limits.ranks + limits.comms + c
 number_in limits slots arrivals (SlotAt c k r) = limits.ranks + 2 * limits.comms + slots c k r
 number_in limits slots arrivals (ArrivalAt c k r) = limits.ranks + 2 * limits.comms + arrivals c k r
 
--- numbers of slots and of arrivals, twice as many as there are cells; no number is that of two
-pub record IsNumbering (limits : Limits) (slots arrivals : ℕ → ℕ → ℕ → ℕ) : Type 0 where
-  pub slots_lt : (c k r : ℕ) → IsCell limits c k r → slots c k r < 2 * cells limits
-  pub arrivals_lt : (c k r : ℕ) → IsCell limits c k r → arrivals c k r < 2 * cells limits
+-- numbers of slots and of arrivals, all below so many; no number is that of two
+pub record IsNumbering (limits : Limits) (count : ℕ) (slots arrivals : ℕ → ℕ → ℕ → ℕ) : Type 0 where
+  pub slots_lt : (c k r : ℕ) → IsCell limits c k r → slots c k r < count
+  pub arrivals_lt : (c k r : ℕ) → IsCell limits c k r → arrivals c k r < count
   pub slots_same : (c k r d l q : ℕ) → IsCell limits c k r → IsCell limits d l q → slots c k r ≡ slots d l q → (c ≡ d) × (k ≡ l) × (r ≡ q)
   pub arrivals_same : (c k r d l q : ℕ) → IsCell limits c k r → IsCell limits d l q → arrivals c k r ≡ arrivals d l q → (c ≡ d) × (k ≡ l) × (r ≡ q)
   pub apart : (c k r d l q : ℕ) → IsCell limits c k r → IsCell limits d l q → slots c k r ≡ arrivals d l q → ⊥
 
-module _ (limits : Limits) (slots arrivals : ℕ → ℕ → ℕ → ℕ) (n : IsNumbering limits slots arrivals) where
-  abbrev number : Place → ℕ
+module _ (limits : Limits) (count : ℕ) (slots arrivals : ℕ → ℕ → ℕ → ℕ) (n : IsNumbering limits count slots arrivals) where
+  abbrev pub number : Place → ℕ
   number = number_in limits slots arrivals
 
   -- each number is below the size of the row
-  pub number_lt : (p : Place) → IsWithin limits p → number_in limits slots arrivals p < size_of limits
-  number_lt p within = rw (size_is limits) (go p within)
-    where
-      go : (p : Place) → IsWithin limits p → number p < limits.ranks + 2 * limits.comms + 2 * cells limits
-      go (ListAt i) lt = omega arith
-      go (CommAt j) lt = omega (arith, lt.1)
-      go (RevokedAt c) lt = omega arith
-      go (SlotAt c k r) cell = omega (arith, n.slots_lt c k r cell)
-      go (ArrivalAt c k r) cell = omega (arith, n.arrivals_lt c k r cell)
+  pub number_lt : (p : Place) → IsWithin limits p → number p < limits.ranks + 2 * limits.comms + count
+  number_lt (ListAt i) lt = omega arith
+  number_lt (CommAt j) lt = omega (arith, lt.1)
+  number_lt (RevokedAt c) lt = omega arith
+  number_lt (SlotAt c k r) cell = omega (arith, n.slots_lt c k r cell)
+  number_lt (ArrivalAt c k r) cell = omega (arith, n.arrivals_lt c k r cell)
 
   -- places with one number are one
   pub one_number : (p q : Place) → IsWithin limits p → IsWithin limits q → number_in limits slots arrivals p ≡ number_in limits slots arrivals q → p ≡ q

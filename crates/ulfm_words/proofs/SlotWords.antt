@@ -1,12 +1,13 @@
--- Each slot has a word, which is read as that slot.
+-- Each slot has a number, which is read as that slot.
 use Rattle.std.proofs.Common.{◌≡◌, ◌↔◌, ◌⊎◌, inl, inr, ℕ, ◌%◌, ◌≤◌, ◌<◌, ◌^◌, ◌==◌, Bool, true, false, cond, Option, Some, None, IsSome, IfSome, is_some, refl, ap, sym, ◌∙◌, subst, arith, lit<, mod-lt, mod-eq_of_lt}
 use Rattle.std.proofs.lemmas.Bool.Decides.{nat_tests}
 use Rattle.std.specs.Coded.{le_prop}
 use Rattle.ulfm_laws.specs.{declared.counts.Known.{Known}, declared.counts.Acked.{Acked}, declared.ctx_mask.CtxMask.{CtxMask}, Counts.{same_known, same_acked, acked_le}, Flags.{flag_unpack}, Masks.{same_mask}}
 use Rattle.ulfm_model.specs.declared.{contribution.Contribution.{Contribution}, contribution.MarkCount.{MarkCount}, contribution.Offer.{Offer}, contribution.Offer.TheVariants.{Flag, Ctx}, contribution.Slot.{Slot}, contribution.Slot.TheVariants.{Given, Mark as Marked}}
-use Rattle.ulfm_model.specs.Words.{packed, slot_word}
+use Rattle.ulfm_laws.specs.Ranges.{payload_bits}
+use Rattle.ulfm_model.specs.Words.{packed, slot_number}
 use Rattle.ulfm_model.proofs.Lists.{is_some_of}
-use Rattle.ulfm_words.specs.Slots.{tag_in, known_in, acked_in, payload_in, IsMarkWord, IsGivenWord, IsSlotWord, IsFlag, IsFlagOffer, IsExact, HaveOneWord, is_formed, is_mark_word, are_counts, mark_if, given_if, given_of, mask_of, flag_offer, tagged, slot_in}
+use Rattle.ulfm_words.specs.Slots.{tag_in, known_in, acked_in, payload_in, IsMarkWord, IsGivenWord, IsSlotNumber, IsFlag, IsFlagOffer, IsExact, is_formed, number_bits, is_mark_word, are_counts, mark_if, given_if, given_of, mask_of, flag_offer, tagged, slot_in}
 
 -- the parts of a word are those that it was made of
 
@@ -25,7 +26,7 @@ payload_back t k a p t_lt k_lt a_lt = omega arith
 pub odd : (t k a p : ℕ) → packed t k a p % 2 ≡ 1
 odd t k a p = omega arith
 
-pub below : (t k a p : ℕ) → t < 4 → k < 2048 → a < 2048 → p < 2 ^ 32 → packed t k a p < 2 ^ 57
+pub below : (t k a p : ℕ) → t < 4 → k < 2048 → a < 2048 → p < 2 ^ payload_bits → packed t k a p < 2 ^ number_bits
 below t k a p t_lt k_lt a_lt p_lt = omega arith
 
 pub parts_are : (w t k a p : ℕ) → w % 2 ≡ 1 → tag_in w ≡ t → known_in w ≡ k → acked_in w ≡ a → payload_in w ≡ p → packed t k a p ≡ w
@@ -65,10 +66,10 @@ counts_are known acked le small = grind (arith, nat_tests)
 pub mark_word_is : (w : ℕ) → 0 < known_in w → known_in w ≤ 1024 → acked_in w ≡ 2047 → payload_in w ≡ 0 → is_mark_word w ≡ true
 mark_word_is w some small acked payload = grind (arith, nat_tests)
 
-pub formed_is : (w : ℕ) → w % 2 ≡ 1 → w < 2 ^ 57 → is_formed w ≡ true
+pub formed_is : (w : ℕ) → w % 2 ≡ 1 → w < 2 ^ number_bits → is_formed w ≡ true
 formed_is w first last = grind (arith, nat_tests)
 
-formed_parts : (w : ℕ) → is_formed w ≡ true → (w % 2 ≡ 1) × (w < 2 ^ 57)
+formed_parts : (w : ℕ) → is_formed w ≡ true → (w % 2 ≡ 1) × (w < 2 ^ number_bits)
 formed_parts w is = (grind (arith, nat_tests), grind (arith, nat_tests))
 
 some_is : {X : Type 0} (x y : X) → (let o : Option X = Some x in o) ≡ Some y → x ≡ y
@@ -84,19 +85,19 @@ module _ {P : Type 0} (unpack : ℕ → Option P) where
   Reads w (Marked mark) = IsMarkWord w × (mark.known.count ≡ known_in w)
   Reads w (Given given) = (given.known.count ≡ known_in w) × (given.acked.count ≡ acked_in w) × OfferIn w given.offer
 
-  offered : (w : ℕ) (g : Contribution P) (offer : Offer P) → g.offer ≡ offer → OfferIn w offer → w < 2 ^ 57 → g.known.count ≡ known_in w → g.acked.count ≡ acked_in w → tagged unpack w (tag_in w) ≡ Some (Given g)
+  offered : (w : ℕ) (g : Contribution P) (offer : Offer P) → g.offer ≡ offer → OfferIn w offer → w < 2 ^ number_bits → g.known.count ≡ known_in w → g.acked.count ≡ acked_in w → tagged unpack w (tag_in w) ≡ Some (Given g)
   offered w g (Flag flag) is there last known acked =
       let counts = counts_are (known_in w) (acked_in w) (omega (arith, g.within, known, acked)) (omega (arith, g.known.in_range, known)) in
       let read : given_of (known_in w) (acked_in w) (flag_offer (unpack (payload_in w))) ≡ Some (Given g) = ap (λ (o : Option P). given_of (known_in w) (acked_in w) (flag_offer o)) there.1 ∙ given_is (Flag flag) g (known_in w) (acked_in w) (are_counts (known_in w) (acked_in w)) refl counts is known acked in
       ap (λ t. tagged unpack w t) there.0 ∙ read
   offered w g (Ctx mask) is there last known acked =
       let counts = counts_are (known_in w) (acked_in w) (omega (arith, g.within, known, acked)) (omega (arith, g.known.in_range, known)) in
-      let fits : payload_in w < 2 ^ 32 = omega (arith, last) in
+      let fits : payload_in w < 2 ^ payload_bits = omega (arith, last) in
       let same : mask ≡ mask_of (payload_in w) = same_mask mask (mask_of (payload_in w)) (there.1 ∙ sym (mod-eq_of_lt fits)) in
       ap (λ t. tagged unpack w t) there.0 ∙ given_is (Ctx (mask_of (payload_in w))) g (known_in w) (acked_in w) (are_counts (known_in w) (acked_in w)) refl counts (is ∙ ap Ctx same) known acked
 
   -- a word with the parts of a slot is read as it
-  pub complete : (w : ℕ) (s : Slot P) → w % 2 ≡ 1 → w < 2 ^ 57 → Reads w s → slot_in unpack w ≡ Some s
+  pub complete : (w : ℕ) (s : Slot P) → w % 2 ≡ 1 → w < 2 ^ number_bits → Reads w s → slot_in unpack w ≡ Some s
   complete w (Marked mark) first last reads =
       let m = reads.0 in
       let holds = mark_word_is w m.some m.known m.acked m.payload in
@@ -134,13 +135,13 @@ module _ {P : Type 0} (unpack : ℕ → Option P) where
   none_tagged : (w t : ℕ) → (t == 0) ≡ false → (t == 1) ≡ false → (t == 2) ≡ false → tagged unpack w t ≡ None
   none_tagged w t a b c = rw (a, b, c) refl
 
-  tag_sound : (w : ℕ) (s : Slot P) → w < 2 ^ 57 → tagged unpack w (tag_in w) ≡ Some s → Reads w s
+  tag_sound : (w : ℕ) (s : Slot P) → w < 2 ^ number_bits → tagged unpack w (tag_in w) ≡ Some s → Reads w s
   tag_sound w s last e =
       tag_cases (tag_in w) (Reads w s)
       (λ tag. mark_sound w s (is_mark_word w) refl tag (ap (λ t. tagged unpack w t) (sym tag) ∙ e))
       (λ tag. flag_sound w s (unpack (payload_in w)) refl tag (ap (λ t. tagged unpack w t) (sym tag) ∙ e))
       (λ tag.
-      let fits : payload_in w < 2 ^ 32 = omega (arith, last) in
+      let fits : payload_in w < 2 ^ payload_bits = omega (arith, last) in
       given_sound w s (Ctx (mask_of (payload_in w))) (are_counts (known_in w) (acked_in w)) refl (tag, mod-eq_of_lt fits) (ap (λ t. tagged unpack w t) (sym tag) ∙ e))
       (λ a b c. absurd (none_some (sym (none_tagged w (tag_in w) a b c) ∙ e)))
     where
@@ -148,14 +149,14 @@ module _ {P : Type 0} (unpack : ℕ → Option P) where
       none_some h = absurd cc
 
   -- a word that is read as a slot has its parts
-  pub sound : (w : ℕ) (s : Slot P) → slot_in unpack w ≡ Some s → (w % 2 ≡ 1) × (w < 2 ^ 57) × Reads w s
+  pub sound : (w : ℕ) (s : Slot P) → slot_in unpack w ≡ Some s → (w % 2 ≡ 1) × (w < 2 ^ number_bits) × Reads w s
   sound w s e = go (is_formed w) refl e
     where
-      go : (b : Bool) → is_formed w ≡ b → cond b (tagged unpack w (tag_in w)) None ≡ Some s → (w % 2 ≡ 1) × (w < 2 ^ 57) × Reads w s
+      go : (b : Bool) → is_formed w ≡ b → cond b (tagged unpack w (tag_in w)) None ≡ Some s → (w % 2 ≡ 1) × (w < 2 ^ number_bits) × Reads w s
       go true is e = let parts = formed_parts w is in (parts.0, parts.1, tag_sound w s parts.1 e)
       go false is e = absurd cc
 
-  slot_word_of : (w : ℕ) (s : Slot P) → w % 2 ≡ 1 → w < 2 ^ 57 → Reads w s → IsSlotWord unpack w
+  slot_word_of : (w : ℕ) (s : Slot P) → w % 2 ≡ 1 → w < 2 ^ number_bits → Reads w s → IsSlotNumber unpack w
   slot_word_of w (Marked mark) first last reads = record { first_bit = first; last_bits = last; parts = inl reads.0 }
   slot_word_of w (Given given) first last reads =
       record {
@@ -172,48 +173,45 @@ module _ {P : Type 0} (unpack : ℕ → Option P) where
       payload (Flag flag) there one = ap is_some there.1
       payload (Ctx mask) there one = absurd (omega (arith, one, there.0))
 
-  read_given : (w : ℕ) → w % 2 ≡ 1 → w < 2 ^ 57 → (g : IsGivenWord unpack w) → (tag_in w ≡ 1) ⊎ (tag_in w ≡ 2) → IsSome (slot_in unpack w)
+  read_given : (w : ℕ) → w % 2 ≡ 1 → w < 2 ^ number_bits → (g : IsGivenWord unpack w) → (tag_in w ≡ 1) ⊎ (tag_in w ≡ 2) → IsSome (slot_in unpack w)
   read_given w first last g (inl one) =
       let flag = is_some_of (unpack (payload_in w)) (g.payload one) in
       ap is_some (complete w (Given (record { offer = Flag flag.0; known = record { count = known_in w; in_range = g.known }; acked = record { count = acked_in w; in_range = grind (arith, nat_tests, g.acked, g.known) }; within = g.acked })) first last (refl, refl, (one, flag.1)))
   read_given w first last g (inr two) =
-      let fits : payload_in w < 2 ^ 32 = omega (arith, last) in
+      let fits : payload_in w < 2 ^ payload_bits = omega (arith, last) in
       ap is_some (complete w (Given (record { offer = Ctx (record { bits = payload_in w; fits = fits }); known = record { count = known_in w; in_range = g.known }; acked = record { count = acked_in w; in_range = grind (arith, nat_tests, g.acked, g.known) }; within = g.acked })) first last (refl, refl, (two, refl)))
 
-  read_parts : (w : ℕ) → w % 2 ≡ 1 → w < 2 ^ 57 → IsMarkWord w ⊎ IsGivenWord unpack w → IsSome (slot_in unpack w)
+  read_parts : (w : ℕ) → w % 2 ≡ 1 → w < 2 ^ number_bits → IsMarkWord w ⊎ IsGivenWord unpack w → IsSome (slot_in unpack w)
   read_parts w first last (inl m) = ap is_some (complete w (Marked (record { known = record { count = known_in w; in_range = m.known }; counted = m.some })) first last (m, refl))
   read_parts w first last (inr g) = read_given w first last g g.tag
 
   -- the words that are read are those of slots
-  pub slot_exactly : (w : ℕ) → IsSome (slot_in unpack w) ↔ IsSlotWord unpack w
+  pub slot_exactly : (w : ℕ) → IsSome (slot_in unpack w) ↔ IsSlotNumber unpack w
   slot_exactly w = (λ some. let s = is_some_of (slot_in unpack w) some in let parts = sound w s.0 s.1 in slot_word_of w s.0 parts.0 parts.1 parts.2, λ is. read_parts w is.first_bit is.last_bits is.parts)
 
   module _ (pack : P → ℕ) where
-    word_again : (w : ℕ) (offer : Offer P) (k : Known) (a : Acked) (within : a.count ≤ k.count) → (IsFlagOffer offer → IsExact pack unpack) → w % 2 ≡ 1 → w < 2 ^ 57 → k.count ≡ known_in w → a.count ≡ acked_in w → OfferIn w offer
-        → slot_word pack (Given (record { offer = offer; known = k; acked = a; within = within })) ≡ w
+    word_again : (w : ℕ) (offer : Offer P) (k : Known) (a : Acked) (within : a.count ≤ k.count) → (IsFlagOffer offer → IsExact pack unpack) → w % 2 ≡ 1 → w < 2 ^ number_bits → k.count ≡ known_in w → a.count ≡ acked_in w → OfferIn w offer
+        → slot_number pack (Given (record { offer = offer; known = k; acked = a; within = within })) ≡ w
     word_again w (Flag flag) k a within exact first last known acked there =
         parts_are w 1 k.count a.count (pack flag) first there.0 (sym known) (sym acked) (sym (exact tt (payload_in w) flag (omega (arith, last)) there.1))
     word_again w (Ctx mask) k a within exact first last known acked there =
         parts_are w 2 k.count a.count mask.bits first there.0 (sym known) (sym acked) (sym there.1)
 
-    reads_again : (w : ℕ) (s : Slot P) → (IsFlag s → IsExact pack unpack) → w % 2 ≡ 1 → w < 2 ^ 57 → Reads w s → slot_word pack s ≡ w
+    reads_again : (w : ℕ) (s : Slot P) → (IsFlag s → IsExact pack unpack) → w % 2 ≡ 1 → w < 2 ^ number_bits → Reads w s → slot_number pack s ≡ w
     reads_again w (Marked mark) exact first last reads =
         let m = reads.0 in parts_are w 0 mark.known.count 2047 0 first m.tag (sym reads.1) m.acked m.payload
     reads_again w (Given given) exact first last reads = word_again w given.offer given.known given.acked given.within exact first last reads.0 reads.1 reads.2
 
-    -- marks and masks have one word, and so do flags where each payload is the packing of what it unpacks to
-    pub one_word : (w : ℕ) → IfSome (slot_in unpack w) (λ s. (IsFlag s → IsExact pack unpack) → slot_word pack s ≡ w)
+    -- marks and masks have one number, and so do flags where each payload is the packing of what it unpacks to
+    pub one_word : (w : ℕ) → IfSome (slot_in unpack w) (λ s. (IsFlag s → IsExact pack unpack) → slot_number pack s ≡ w)
     one_word w = go (slot_in unpack w) refl
       where
-        go : (o : Option (Slot P)) → slot_in unpack w ≡ o → IfSome o (λ s. (IsFlag s → IsExact pack unpack) → slot_word pack s ≡ w)
+        go : (o : Option (Slot P)) → slot_in unpack w ≡ o → IfSome o (λ s. (IsFlag s → IsExact pack unpack) → slot_number pack s ≡ w)
         go None e = tt
         go (Some s) e = λ exact. let parts = sound w s e in reads_again w s exact parts.0 parts.1 parts.2
 
-    pub have_one_word : IsExact pack unpack → HaveOneWord pack unpack
-    have_one_word exact w s e = let parts = sound w s e in reads_again w s (λ flag. exact) parts.0 parts.1 parts.2
-
-    module _ (back : (x : P) → unpack (pack x) ≡ Some x) (fits : (x : P) → pack x < 2 ^ 32) where
-      own_offer : (offer : Offer P) (k : Known) (a : Acked) (within : a.count ≤ k.count) → (let g : Contribution P = record { offer = offer; known = k; acked = a; within = within } in slot_in unpack (slot_word pack (Given g)) ≡ Some (Given g))
+    module _ (back : (x : P) → unpack (pack x) ≡ Some x) (fits : (x : P) → pack x < 2 ^ payload_bits) where
+      own_offer : (offer : Offer P) (k : Known) (a : Acked) (within : a.count ≤ k.count) → (let g : Contribution P = record { offer = offer; known = k; acked = a; within = within } in slot_in unpack (slot_number pack (Given g)) ≡ Some (Given g))
       own_offer (Flag flag) k a within =
           let k_lt : k.count < 2048 = omega (arith, k.in_range) in
           let a_lt : a.count < 2048 = omega (arith, acked_le a.count a.in_range) in
@@ -229,8 +227,8 @@ module _ {P : Type 0} (unpack : ℕ → Option P) where
           complete n (Given (record { offer = Ctx mask; known = k; acked = a; within = within })) (odd 2 k.count a.count mask.bits) (below 2 k.count a.count mask.bits t_lt k_lt a_lt mask.fits)
           (sym (known_back 2 k.count a.count mask.bits t_lt k_lt), sym (acked_back 2 k.count a.count mask.bits t_lt k_lt a_lt), (tag_back 2 k.count a.count mask.bits t_lt, sym (payload_back 2 k.count a.count mask.bits t_lt k_lt a_lt)))
 
-      -- a slot's word is read as that slot
-      pub slot_back : (s : Slot P) → slot_in unpack (slot_word pack s) ≡ Some s
+      -- a slot's number is read as that slot
+      pub slot_back : (s : Slot P) → slot_in unpack (slot_number pack s) ≡ Some s
       slot_back (Marked mark) =
           let k = mark.known.count in
           let k_lt : k < 2048 = omega (arith, mark.known.in_range) in
@@ -243,24 +241,17 @@ module _ {P : Type 0} (unpack : ℕ → Option P) where
 
 module _ {P : Type 0} (unpack : ℕ → Option P) where
   -- what a word of this tag is read as
-  pub read_at : (w tag : ℕ) → w % 2 ≡ 1 → w < 2 ^ 57 → tag_in w ≡ tag → slot_in unpack w ≡ tagged unpack w tag
+  pub read_at : (w tag : ℕ) → w % 2 ≡ 1 → w < 2 ^ number_bits → tag_in w ≡ tag → slot_in unpack w ≡ tagged unpack w tag
   read_at w tag first last is = ap (λ b. cond b (tagged unpack w (tag_in w)) None) (formed_is w first last) ∙ ap (λ t. tagged unpack w t) is
 
-  pub read_mask : (w : ℕ) (mask : CtxMask) → w % 2 ≡ 1 → w < 2 ^ 57 → tag_in w ≡ 2 → mask.bits ≡ payload_in w → slot_in unpack w ≡ given_if (Ctx mask) (known_in w) (acked_in w) (are_counts (known_in w) (acked_in w)) refl
+  pub read_mask : (w : ℕ) (mask : CtxMask) → w % 2 ≡ 1 → w < 2 ^ number_bits → tag_in w ≡ 2 → mask.bits ≡ payload_in w → slot_in unpack w ≡ given_if (Ctx mask) (known_in w) (acked_in w) (are_counts (known_in w) (acked_in w)) refl
   read_mask w mask first last tag bits =
-      let fits : payload_in w < 2 ^ 32 = omega (arith, last) in
+      let fits : payload_in w < 2 ^ payload_bits = omega (arith, last) in
       let same : mask_of (payload_in w) ≡ mask = same_mask (mask_of (payload_in w)) mask (mod-eq_of_lt fits ∙ sym bits) in
       read_at w 2 first last tag ∙ ap (λ m. given_of (known_in w) (acked_in w) (Some (Ctx m))) same
 
-  -- so it is with whatever is read as the word is
-  pub exactly_of : (w : ℕ) (o : Option (Slot P)) → o ≡ slot_in unpack w → IsSome o ↔ IsSlotWord unpack w
-  exactly_of w o is = subst (λ (x : Option (Slot P)). IsSome x ↔ IsSlotWord unpack w) (sym is) (slot_exactly unpack w)
-
-  pub one_word_of : (pack : P → ℕ) (w : ℕ) (o : Option (Slot P)) → o ≡ slot_in unpack w → IfSome o (λ s. (IsFlag s → IsExact pack unpack) → slot_word pack s ≡ w)
-  one_word_of pack w o is = subst (λ (x : Option (Slot P)). IfSome x (λ s. (IsFlag s → IsExact pack unpack) → slot_word pack s ≡ w)) (sym is) (one_word unpack pack w)
-
--- a flag of 32 bits is its own word
+-- a flag is its own payload
 pub flags_exact : IsExact (λ x. x.bits) flag_unpack
 flags_exact payload x lt e =
-    let same : record { bits = payload % 2 ^ 32; fits = mod-lt payload (lit< tt) } ≡ x = cc e in
+    let same : record { bits = payload % 2 ^ payload_bits; fits = mod-lt payload (lit< tt) } ≡ x = cc e in
     ap (λ f. f.bits) (sym same) ∙ mod-eq_of_lt lt

@@ -30,11 +30,11 @@ module _ {P : Type 0} (meld : P → P → P) (pack : P → ℕ) (unpack : ℕ �
 
   pub loads_from : (old : Sight P) (ws : List ℕ) (ms : List Setting) (cap : ℕ) (ts ts' : List (Last × Bool)) (p : Place) (w : ℕ) → sight_of unpack limits ws ms ts ≡ old → IsTied meld pack unpack limits ws ms cap
       → IsWithin old.name.limits p → w ≡ slice_index ws (key_in limits p) → ts' ≡ ts ++ made p w true ∷ []
-      → Loads meld pack true p (view_of old.name old) (view_of old.name (sight_of unpack limits ws ms ts')) × (w ≡ word_at pack (entries unpack limits ws ms) p)
+      → Loads meld pack true p (view_of pack old.name old) (view_of pack old.name (sight_of unpack limits ws ms ts')) × (w ≡ word_at pack (entries unpack limits ws ms) p)
   loads_from old ws ms cap ts ts' p w e tied within at is =
       let h = entries unpack limits ws ms in
       let word : w ≡ word_at pack h p = at ∙ tied.same p (within_is old ws ms ts p e within) in (
-        subst (λ (o : Sight P). Loads meld pack true p (view_of o.name o) (view_of o.name (sight_of unpack limits ws ms ts'))) e (record {
+        subst (λ (o : Sight P). Loads meld pack true p (view_of pack o.name o) (view_of pack o.name (sight_of unpack limits ws ms ts'))) e (record {
           of = record { name_is = refl; may_open = tied.may_open; legal = tied.legal };
           did = did_none true h;
           cached = cached_same ts ts' p w true is;
@@ -46,10 +46,10 @@ module _ {P : Type 0} (meld : P → P → P) (pack : P → ℕ) (unpack : ℕ �
       )
 
   pub sets_lost : (old : Sight P) (ws : List ℕ) (ms : List Setting) (cap : ℕ) (ts ts' : List (Last × Bool)) (s : Step) (w : ℕ) → sight_of unpack limits ws ms ts ≡ old → IsTied meld pack unpack limits ws ms cap
-      → IsWithin old.name.limits s.place → w ≡ slice_index ws (key_in limits s.place) → w ≢ 0 → ts' ≡ ts ++ made s.place w false ∷ [] → Sets meld (coding pack unpack) true s (view_of old.name old) (Err w) (view_of old.name (sight_of unpack limits ws ms ts'))
+      → IsWithin old.name.limits s.place → w ≡ slice_index ws (key_in limits s.place) → w ≢ 0 → ts' ≡ ts ++ made s.place w false ∷ [] → Sets meld (coding pack unpack) true s (view_of pack old.name old) (Err w) (view_of pack old.name (sight_of unpack limits ws ms ts'))
   sets_lost old ws ms cap ts ts' s w e tied within at some is =
       let h = entries unpack limits ws ms in
-      subst (λ (o : Sight P). Sets meld (coding pack unpack) true s (view_of o.name o) (Err w) (view_of o.name (sight_of unpack limits ws ms ts'))) e (record {
+      subst (λ (o : Sight P). Sets meld (coding pack unpack) true s (view_of pack o.name o) (Err w) (view_of pack o.name (sight_of unpack limits ws ms ts'))) e (record {
         of = record { name_is = refl; may_open = tied.may_open; legal = tied.legal };
         outcome = record { some = omega (arith, some); stands = sym (at ∙ tied.same s.place (within_is old ws ms ts s.place e within)); did = did_none true h };
         cached = cached_same ts ts' s.place w false is;
@@ -60,11 +60,11 @@ module _ {P : Type 0} (meld : P → P → P) (pack : P → ℕ) (unpack : ℕ �
 
   pub sets_won : (old : Sight P) (ws ws' : List ℕ) (ms ms' : List Setting) (cap' : ℕ) (ts ts' : List (Last × Bool)) (s : Step) (w : ℕ) → sight_of unpack limits ws ms ts ≡ old → IsTied meld pack unpack limits ws' ms' cap'
       → IsWithin old.name.limits s.place → (entry : Entry P) → entry_of unpack s ≡ Some entry → entries unpack limits ws' ms' ≡ entries unpack limits ws ms ++ entry ∷ []
-      → slice_index ws' (key_in limits s.place) ≡ s.word → w ≡ 0 → ts' ≡ ts ++ made s.place w false ∷ [] → Sets meld (coding pack unpack) true s (view_of old.name old) (Ok tt) (view_of old.name (sight_of unpack limits ws' ms' ts'))
+      → slice_index ws' (key_in limits s.place) ≡ s.word → w ≡ 0 → ts' ≡ ts ++ made s.place w false ∷ [] → Sets meld (coding pack unpack) true s (view_of pack old.name old) (Ok tt) (view_of pack old.name (sight_of unpack limits ws' ms' ts'))
   sets_won old ws ws' ms ms' cap' ts ts' s w e tied within entry is_entry added set none is =
       let h = entries unpack limits ws ms in
       let stamped : ts' ≡ ts ++ made s.place 0 false ∷ [] = is ∙ ap (λ n. ts ++ made s.place n false ∷ []) none in
-      subst (λ (o : Sight P). Sets meld (coding pack unpack) true s (view_of o.name o) (Ok tt) (view_of o.name (sight_of unpack limits ws' ms' ts'))) e (record {
+      subst (λ (o : Sight P). Sets meld (coding pack unpack) true s (view_of pack o.name o) (Ok tt) (view_of pack o.name (sight_of unpack limits ws' ms' ts'))) e (record {
         of = record { name_is = refl; may_open = tied.may_open; legal = tied.legal };
         outcome = record {
           entry = entry;

@@ -59,18 +59,18 @@ module _ {P : Type 0} (unpack : ℕ → Option P) (limits : Limits) where
   entries-length ws (x ∷ ms) s =
       ap (λ (o : Option (Entry P)). length (cons_option o (entries unpack limits ws ms))) s.0.is_entry ∙ ap suc (entries-length ws ms s.1)
 
-  module _ (ws : List ℕ) (i w : ℕ) (m : Setting) (e : Entry P) (z : slice_index ws i ≡ 0) (lt : i < length ws) (at : key_in limits m.place ≡ i) (is : entry_of unpack (record { place = m.place; word = w; by = m.by }) ≡ Some e) where
+  module _ (ws : List ℕ) (i w : ℕ) (m : Setting) (e : Entry P) (z : slice_index ws i ≡ 0) (lt : i < length ws) (at : key_in limits m.place ≡ i) (is : entry_of unpack (record { place = m.place; word = w; half = m.half; by = m.by }) ≡ Some e) where
     own : slice_index (slice_set ws i w) (key_in limits m.place) ≡ w
     own = rw at (get_or-set_same ws i w 0 lt)
 
     own_entry : entry_at unpack limits (slice_set ws i w) m ≡ Some e
-    own_entry = ap (λ n. entry_of unpack (record { place = m.place; word = n; by = m.by })) own ∙ is
+    own_entry = ap (λ n. entry_of unpack (record { place = m.place; word = n; half = m.half; by = m.by })) own ∙ is
 
     kept : (x : Setting) → IsMade unpack limits ws x → slice_index (slice_set ws i w) (key_in limits x.place) ≡ slice_index ws (key_in limits x.place)
     kept x s = get_or-set_other ws i (key_in limits x.place) w 0 (λ k. s.set (ap (slice_index ws) k ∙ z))
 
     kept_entry : (x : Setting) (s : IsMade unpack limits ws x) → entry_at unpack limits (slice_set ws i w) x ≡ Some s.entry
-    kept_entry x s = ap (λ n. entry_of unpack (record { place = x.place; word = n; by = x.by })) (kept x s) ∙ s.is_entry
+    kept_entry x s = ap (λ n. entry_of unpack (record { place = x.place; word = n; half = x.half; by = x.by })) (kept x s) ∙ s.is_entry
 
     -- a word that was 0 is set, and its event comes last
     pub entries-set : (ms : List Setting) → AreMade ws ms → entries unpack limits (slice_set ws i w) (ms ++ m ∷ []) ≡ entries unpack limits ws ms ++ e ∷ []
@@ -99,9 +99,9 @@ module _ {P : Type 0} (meld : P → P → P) (pack : P → ℕ) (unpack : ℕ �
   -- the words and the journal stay tied where a word that was 0 is set
   pub tied_set : (ws : List ℕ) (ms ms' : List Setting) (cap cap' : ℕ) (s : Step) (i : ℕ) (e : Entry P) → IsTied meld pack unpack limits ws ms cap → IsWithin limits s.place → key_in limits s.place ≡ i → slice_index ws i ≡ 0
       → entry_of unpack s ≡ Some e → word_of pack e.event ≡ s.word → MayFollow meld limits (entries unpack limits ws ms) e.event → place_of (entries unpack limits ws ms) e.event ≡ s.place
-      → (let m : Setting = record { place = s.place; by = s.by } in ms' ≡ ms ++ m ∷ []) → cap ≤ cap' → IsTied meld pack unpack limits (slice_set ws i s.word) ms' cap'
+      → (let m : Setting = record { place = s.place; half = s.half; by = s.by } in ms' ≡ ms ++ m ∷ []) → cap ≤ cap' → IsTied meld pack unpack limits (slice_set ws i s.word) ms' cap'
   tied_set ws ms ms' cap cap' s i e tied within at z is word may there pushed more =
-      let m : Setting = record { place = s.place; by = s.by } in
+      let m : Setting = record { place = s.place; half = s.half; by = s.by } in
       let lt : i < length ws = omega (arith, key_lt limits s.place within, tied.size, at) in
       let n : s.word ≢ 0 = let some = word_some pack e.event in omega (arith, word, some) in
       let history : entries unpack limits (slice_set ws i s.word) (ms ++ m ∷ []) ≡ entries unpack limits ws ms ++ e ∷ [] = entries-set unpack limits ws i s.word m e z lt at is ms tied.made in

@@ -3,6 +3,7 @@ pub mod Slots
 pub mod Entries
 pub mod Steps
 pub mod Blocks
+pub mod Besides
 pub mod Rows
 pub mod Pass
 pub mod Tries

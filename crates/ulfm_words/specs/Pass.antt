@@ -1,12 +1,12 @@
 -- How the words and the journal of a plain pass are tied.
-use Rattle.std.specs.Prelude.{◌≡◌, ◌≢◌, ℕ, ◌+◌, ◌*◌, ◌≤◌, ◌==◌, ◌&&◌, if◌then◌else◌, Bool, not, true, false, List, [], ◌∷◌, length, count_by}
+use Rattle.std.specs.Prelude.{◌≡◌, ◌≢◌, ℕ, ◌+◌, ◌*◌, ◌≤◌, ◌==◌, ◌&&◌, if◌then◌else◌, Bool, true, false, List, [], ◌∷◌, length, count_by}
 use Rattle.std.specs.Prelude.{slice_get, slice_index, take, filter_map, Option, Some, None}
-use Rattle.std.specs.List.{AllByRecursion}
-use Rattle.ulfm_model.specs.declared.{block.Block.{Block}, block.Side.{Side}, block.Side.TheVariants.{Front, Back}, event.Entry.{Entry}}
+use Rattle.std.specs.List.{AllByRecursion, Contains}
+use Rattle.ulfm_model.specs.declared.{block.Beside.{Beside}, block.Block.{Block}, block.Wing.{Wing}, block.Side.{Side}, block.Side.TheVariants.{Front, Back}, event.Entry.{Entry}}
 use Rattle.ulfm_model.specs.declared.{limits.Limits.{Limits}, place.Place.{Place}}
-use Rattle.ulfm_model.specs.{Blocks.{IsBlockWithin, IsCached, has_block}, History.{History, IsLegal}, Words.{MayOpen, place_of, size_of, word_at, word_of}}
+use Rattle.ulfm_model.specs.{History.{History, IsLegal}, Words.{MayOpen, place_of, size_of, word_at, word_of}}
 use Rattle.ulfm_words.specs.declared.{plain.Setting.{Setting}, step.Last.{Last}, step.Site.{Site}, step.Step.{Step}}
-use Rattle.ulfm_words.specs.{Entries.{entry_of}, Places.{IsWithin, key_in}, Steps.{Name, Sight}}
+use Rattle.ulfm_words.specs.{Besides.{AreBeside, written}, Entries.{entry_of}, Rows.{SideWords, block_in, wing_in}, Places.{IsWingWithin, IsWithin, key_in}, Steps.{Name, Sight}}
 
 -- plain words are told apart by their limits alone
 abbrev pub plain_name : Limits → Name
@@ -18,38 +18,33 @@ last_of [] = None
 last_of (step ∷ []) = Some step.0
 last_of (step ∷ next ∷ steps) = last_of (next ∷ steps)
 
--- the block that a step found set, or set, if it is one's
-abbrev pub cached_at : Site → ℕ → Bool → Option Block
+-- what a step knows to be set afterwards: the block that it found set, or set, or the wing that it exchanged
+abbrev pub cached_at : Site → ℕ → Bool → Option Beside
 cached_at (Site.Place place) word load = None
-cached_at (Site.Block block) word load = if load && word == 0 then None else Some block
+cached_at (Site.Block block) word load = if load && word == 0 then None else Some (Beside.Block block)
+cached_at (Site.Wing wing) word load = if load then None else Some (Beside.Wing wing word)
 
--- the blocks that a trail knows to be set
-abbrev pub cached_by : List (Last × Bool) → List Block
+-- the blocks and the wings that a trail knows to be set
+abbrev pub cached_by : List (Last × Bool) → List Beside
 cached_by trail = filter_map (λ step. cached_at step.0.at step.0.word step.0.load) trail
 
--- whether a step was an exchange of a block's word
-abbrev pub is_cache : Site → Bool → Bool
-is_cache (Site.Place place) load = false
-is_cache (Site.Block block) load = not load
+-- where a step tried to set a word that no event sets
+abbrev pub tried_at : Site → Bool → Option Site
+tried_at (Site.Place place) load = None
+tried_at (Site.Block block) load = if load then None else Some (Site.Block block)
+tried_at (Site.Wing wing) load = if load then None else Some (Site.Wing wing)
 
--- how many steps of a trail were
-abbrev pub caches_in : List (Last × Bool) → ℕ
-caches_in trail = count_by (λ step. is_cache step.0.at step.0.load) trail
+-- where the steps of a trail did
+abbrev pub caches_in : List (Last × Bool) → List Site
+caches_in trail = filter_map (λ step. tried_at step.0.at step.0.load) trail
 
--- where a block's word stands, in a row of two for each round of each communicator
-abbrev pub side_key : Side → ℕ
-side_key Front = 0
-side_key Back = 1
+-- the words that no event sets stand in a row of their own, by what the trail knows of them
+abbrev pub AreStood : {P : Type 0} → (P → P → P) → (P → ℕ) → History P → SideWords → List (Last × Bool) → Type 0
+AreStood meld pack seen sides trail = AreBeside meld pack (written seen sides.limits (cached_by trail)) (block_in sides) (wing_in sides)
 
-abbrev pub block_key : Limits → Block → ℕ
-block_key limits b = 2 * (b.round * limits.comms + b.comm) + side_key b.side
-
--- each block's word is 0 or that of its settled members, and it isn't 0 where the trail knows it to be set
-pub record AreStood {P : Type 0} (meld : P → P → P) (pack : P → ℕ) (limits : Limits) (seen : History P) (words : List ℕ) (trail : List (Last × Bool))
-    : Type 0 where
-  pub size : length words ≡ 2 * limits.rounds * limits.comms
-  pub word : (b : Block) → IsBlockWithin limits b → IsCached meld pack limits.ranks seen b (slice_index words (block_key limits b))
-  pub told : (b : Block) → IsBlockWithin limits b → has_block (cached_by trail) b ≡ true → slice_index words (block_key limits b) ≢ 0
+-- each wing that is set was tried by a step of the trail
+abbrev pub AreTried : SideWords → List (Last × Bool) → Type 0
+AreTried sides trail = (x : Wing) → IsWingWithin sides.limits x → wing_in sides x ≢ 0 → Contains (caches_in trail) (Site.Wing x)
 
 -- a word that was not set
 abbrev pub is_zero : ℕ → Bool
@@ -58,7 +53,8 @@ is_zero word = word == 0
 module _ {P : Type 0} (unpack : ℕ → Option P) (limits : Limits) where
   -- the event of a setting, whose word stands among the words
   abbrev pub entry_at : List ℕ → Setting → Option (Entry P)
-  entry_at words setting = entry_of unpack (record { place = setting.place; word = slice_index words (key_in limits setting.place); by = setting.by })
+  entry_at words setting =
+      entry_of unpack (record { place = setting.place; word = slice_index words (key_in limits setting.place); half = setting.half; by = setting.by })
 
   -- the history of a journal
   abbrev pub entries : List ℕ → List Setting → History P

@@ -2,7 +2,8 @@
 use Rattle.std.specs.Prelude.{◌≡◌, ℕ, ◌+◌, ◌*◌, ◌<◌}
 use Rattle.ulfm_model.specs.declared.{limits.Limits.{Limits}, place.Place.{Place}}
 use Rattle.ulfm_model.specs.declared.{place.Place.TheVariants.{List as ListAt, Comm as CommAt, Revoked as RevokedAt, Slot as SlotAt, Arrival as ArrivalAt}}
-use Rattle.ulfm_model.specs.Words.{size_of}
+use Rattle.ulfm_model.specs.declared.{block.Wing.{Wing}}
+use Rattle.ulfm_model.specs.{Blocks.{IsBlockWithin}, Words.{size_of}}
 
 -- a rank's place in a round of a communicator
 pub record IsCell (limits : Limits) (c k r : ℕ) : Type 0 where
@@ -17,6 +18,11 @@ IsWithin limits (CommAt j) = (0 < j) × (j < limits.comms)
 IsWithin limits (RevokedAt c) = c < limits.comms
 IsWithin limits (SlotAt c k r) = IsCell limits c k r
 IsWithin limits (ArrivalAt c k r) = IsCell limits c k r
+
+-- a world of these limits has this wing
+abbrev pub IsWingWithin : Limits → Wing → Type 0
+IsWingWithin limits (Wing.Slot c k r) = IsCell limits c k r
+IsWingWithin limits (Wing.Block b) = IsBlockWithin limits b
 
 -- a rank's number in a line of so many lines of cells: each line has all ranks of all communicators
 abbrev pub cell_in : Limits → ℕ → ℕ → ℕ → ℕ

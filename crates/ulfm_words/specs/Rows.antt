@@ -1,7 +1,8 @@
 -- A row of words, of which those of rounds are made line by line.
 use Rattle.std.specs.Prelude.{◌≡◌, ◌≢◌, ℕ, ◌+◌, ◌*◌, ◌/◌, ◌%◌, ◌≤◌, ◌<◌, ◌==◌, Bool, not, List, ◌++◌, length, map, count_by, slice_index}
 use Rattle.std.specs.List.{range_with_len}
-use Rattle.ulfm_model.specs.declared.{limits.Limits.{Limits}, place.Place.{Place}}
+use Rattle.ulfm_model.specs.declared.{block.Block.{Block}, block.Side.{Side}, block.Side.TheVariants.{Front, Back}, block.Wing.{Wing}}
+use Rattle.ulfm_model.specs.{Words.{size_of}, declared.{limits.Limits.{Limits}, place.Place.{Place}}}
 use Rattle.ulfm_words.specs.declared.row.Seat.{Seat}
 use Rattle.ulfm_words.specs.declared.row.Seat.TheVariants.{Head, Cell}
 use Rattle.ulfm_words.specs.Places.{key_in}
@@ -58,3 +59,31 @@ HasSeat limits place (Cell line rank) =
 pub record Filled : Type 0 where
   pub limits : Limits
   pub words : List ℕ
+
+-- where a block's word stands, in a row of two for each round of each communicator
+abbrev pub side_key : Side → ℕ
+side_key Front = 0
+side_key Back = 1
+
+abbrev pub block_key : Limits → Block → ℕ
+block_key limits b = 2 * (b.round * limits.comms + b.comm) + side_key b.side
+
+-- what contracts see of the words that no event sets
+pub record SideWords : Type 0 where
+  pub limits : Limits
+  pub wings : List ℕ
+  pub words : List ℕ
+
+-- the word of a block, in a row of four for each round of each communicator
+abbrev pub block_in : SideWords → Block → ℕ
+block_in sides b = slice_index sides.words (2 * block_key sides.limits b)
+
+-- the word of a wing: of a slot in a row where each has its slot's key, of a block behind the block's word
+abbrev pub wing_in : SideWords → Wing → ℕ
+wing_in sides (Wing.Slot c k r) = slice_index sides.wings (key_in sides.limits (Place.Slot c k r))
+wing_in sides (Wing.Block b) = slice_index sides.words (2 * block_key sides.limits b + 1)
+
+-- both rows have all their words
+pub record IsSideRow (limits : Limits) (wings words : List ℕ) : Type 0 where
+  pub wings_size : length wings ≡ size_of limits
+  pub size : length words ≡ 4 * (limits.rounds * limits.comms)

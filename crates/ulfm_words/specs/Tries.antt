@@ -1,11 +1,11 @@
 -- Exchanges, each for one event.
-use Rattle.std.specs.Prelude.{◌≡◌, ℕ, ◌+◌, Bool, false, [], length, Some, None, slice_get, if◌then◌else◌, MatchBool}
+use Rattle.std.specs.Prelude.{◌≡◌, ℕ, ◌+◌, Bool, false, [], length, Option, Some, None, slice_get, if◌then◌else◌, MatchBool}
 use mathlib.Core.List.{IsPrefix}
-use Rattle.ulfm_model.specs.declared.{contribution.Slot.{Slot}, event.Caller.{Caller}, event.Entry.{Entry}, event.Event.{Event}}
+use Rattle.ulfm_model.specs.declared.{contribution.Contribution.{Contribution}, contribution.MarkCount.{MarkCount}, contribution.Slot.{Slot}, event.Caller.{Caller}, event.Entry.{Entry}, event.Event.{Event}}
 use Rattle.ulfm_model.specs.declared.{event.Event.TheVariants.{Fail, Arrive, Revoke}, limits.Limits.{Limits}, place.Place.{Place}}
 use Rattle.ulfm_model.specs.{History.{History, IsLegal, MayFollow, MaySpawn, failures, has_arrived, is_revoked, slot}, Runs.{Did}, Words.{word_at}}
 use Rattle.ulfm_model.specs.Terms.{made_at}
-use Rattle.ulfm_words.specs.declared.step.Site.{Site}
+use Rattle.ulfm_words.specs.declared.{sets.Settled.{Settled}, step.Site.{Site}}
 use Rattle.ulfm_words.specs.{Entries.{put_of}, Steps.{IsAdded, IsView, View}}
 
 -- what an exchange is for: this event, whose word it would set at this place
@@ -25,6 +25,11 @@ pub record Tries {P : Type 0} (meld : P → P → P) (pack : P → ℕ) (alone :
   pub steps : new.pass.steps ≡ old.pass.steps + 1
   pub last : new.pass.last
       ≡ Some (record { at = Site.Place try.place; word = if won then 0 else word_at pack new.pass.seen try.place; load = false })
+
+-- a place is settled, by a mark or by a contribution
+abbrev pub IsSettledBy : {P : Type 0} → Option (Slot P) → Settled → Type 0
+IsSettledBy put Settled.Marked = (mark : MarkCount) × (put ≡ Some (Slot.Mark mark))
+IsSettledBy {P} put Settled.Contributed = (given : Contribution P) × (put ≡ Some (Slot.Given given))
 
 abbrev pub entry : {P : Type 0} → Caller → Event P → Entry P
 entry by event = record { by = by; event = event }

@@ -1,21 +1,22 @@
 // Loads, and what they read as.
-ghost use Rattle.std.specs.Prelude.{◌≡◌, ◌<◌, None, Some, is_some, slice_get, IfSome, MatchOption};
+ghost use Rattle.std.specs.Prelude.{◌≡◌, ◌<◌, true, None, Some, is_some, slice_get, IfSome};
 ghost use Rattle.ulfm_model.specs.History.{failures, has_arrived, is_revoked, slot};
-ghost use Rattle.ulfm_model.specs.Blocks.{IsBlockWithin};
+ghost use Rattle.ulfm_model.specs.Blocks.{has_block, IsBlockWithin};
 ghost use Rattle.ulfm_model.specs.Laws.{summary_of};
 ghost use Rattle.ulfm_model.specs.declared.contribution.Slot.{Slot};
 ghost use Rattle.ulfm_model.specs.Terms.{made_at};
 ghost use Rattle.ulfm_model.specs.declared.place.Place.TheVariants.{List as ListAt, Comm as CommAt, Revoked as RevokedAt, Slot as SlotAt, Arrival as ArrivalAt};
-ghost use Rattle.ulfm_words.specs.Blocks.{Peeks, BlockSaysIn};
+ghost use Rattle.ulfm_model.specs.declared.block.Wing.TheVariants.{Block as WingOfBlock, Slot as WingOfSlot};
+ghost use Rattle.ulfm_words.specs.Blocks.{BlockSaysIn, FindsSlot, IsBlockIn, IsFirstOf, LoadsWing, Peeks};
 ghost use Rattle.ulfm_words.specs.Places.{IsCell, IsWithin};
-ghost use Rattle.ulfm_words.specs.Steps.{view_of, IsView, Loads, limits_in, seen_in};
+ghost use Rattle.ulfm_words.specs.Steps.{view_of, cached_in, IsView, Loads, limits_in, seen_in};
 
 use crate::summaries::said_in;
 use crate::words::Words;
 use std::alloc::Allocator;
 use ulfm_laws::meld::Packed;
 use ulfm_laws::summary::Summary;
-use ulfm_model::block::Block;
+use ulfm_model::block::{Block, Wing};
 use ulfm_model::place::Place;
 
 /// One load of an entry of the list of failures: the rank that is declared there, if one is.
@@ -25,11 +26,11 @@ pub fn load_failure<P: Packed, A: Allocator, W: Words<P, A>>(
     pass: &mut W::Pass,
     index: u16,
 ) -> Option<u16>
-    requires of { IsView P.meld (view_of (W.name words.now) (W.sight pass.old)) }
-    requires within { index < (limits_in (view_of (W.name words.now) (W.sight pass.old))).ranks }
-    ensures loads { Loads P.meld P.pack W.alone (ListAt index) (view_of (W.name words.now) (W.sight pass.old)) (view_of (W.name words.now) (W.sight pass.new)) }
-    ensures rank { result ≡ slice_get (failures (seen_in (view_of (W.name words.now) (W.sight pass.new)))) index }
-    ensures below { IfSome result (λ r. r < (limits_in (view_of (W.name words.now) (W.sight pass.old))).ranks) }
+    requires of { IsView P.meld (view_of P.pack (W.name words.now) (W.sight pass.old)) }
+    requires within { index < (limits_in (view_of P.pack (W.name words.now) (W.sight pass.old))).ranks }
+    ensures loads { Loads P.meld P.pack W.alone (ListAt index) (view_of P.pack (W.name words.now) (W.sight pass.old)) (view_of P.pack (W.name words.now) (W.sight pass.new)) }
+    ensures rank { result ≡ slice_get (failures (seen_in (view_of P.pack (W.name words.now) (W.sight pass.new)))) index }
+    ensures below { IfSome result (λ r. r < (limits_in (view_of P.pack (W.name words.now) (W.sight pass.old))).ranks) }
 {
     let word = words.load(pass, Place::List { index });
     if word == 0 {
@@ -38,27 +39,61 @@ pub fn load_failure<P: Packed, A: Allocator, W: Words<P, A>>(
     Some((word - 1) as u16)
 }
 
-/// One load of a member's place in an agreement round: what its slot says of the round, if the member is settled.
+/// What one load of a member's place in an agreement round finds.
+#[derive(Clone, Copy)]
+pub enum Found<P: Packed> {
+    /// Nothing: the member isn't settled.
+    Nothing,
+    /// A mark, which says this.
+    Marked(Summary<P>),
+    /// The first word of a contribution. What it says is known once its wing is loaded, too.
+    First(u64),
+}
+
+/// One load of a member's place in an agreement round.
 #[inline(always)]
-pub fn load_summary<P: Packed, A: Allocator, W: Words<P, A>>(
+pub fn load_slot<P: Packed, A: Allocator, W: Words<P, A>>(
     words: &W,
     pass: &mut W::Pass,
     comm: u16,
     round: u16,
     rank: u16,
-) -> Option<Summary<P>>
-    requires of { IsView P.meld (view_of (W.name words.now) (W.sight pass.old)) }
-    requires within { IsCell (limits_in (view_of (W.name words.now) (W.sight pass.old))) comm round rank }
-    ensures loads { Loads P.meld P.pack W.alone (SlotAt comm round rank) (view_of (W.name words.now) (W.sight pass.old))
-        (view_of (W.name words.now) (W.sight pass.new)) }
-    ensures summary { MatchOption result (slot (seen_in (view_of (W.name words.now) (W.sight pass.new))) comm round rank ≡ None) (λ all. (s : Slot P)
-        × (slot (seen_in (view_of (W.name words.now) (W.sight pass.new))) comm round rank ≡ Some s) × (all ≡ summary_of s)) }
+) -> Found<P>
+    requires of { IsView P.meld (view_of P.pack (W.name words.now) (W.sight pass.old)) }
+    requires within { IsCell (limits_in (view_of P.pack (W.name words.now) (W.sight pass.old))) comm round rank }
+    ensures loads { Loads P.meld P.pack W.alone (SlotAt comm round rank) (view_of P.pack (W.name words.now) (W.sight pass.old))
+        (view_of P.pack (W.name words.now) (W.sight pass.new)) }
+    ensures found { FindsSlot P.pack (slot (seen_in (view_of P.pack (W.name words.now) (W.sight pass.new))) comm round rank) result }
 {
     let word = words.load(pass, Place::Slot { comm, round, rank });
     if word == 0 {
-        return None;
+        return Found::Nothing;
     }
-    Some(said_in(word))
+    if word / 2 % 4 == 0 {
+        return Found::Marked(said_in(word, 1));
+    }
+    Found::First(word)
+}
+
+/// One load of the wing of a contribution whose first word was loaded: what the contribution says.
+#[inline(always)]
+pub fn load_rest<P: Packed, A: Allocator, W: Words<P, A>>(
+    words: &W,
+    pass: &mut W::Pass,
+    comm: u16,
+    round: u16,
+    rank: u16,
+    first: u64,
+) -> Summary<P>
+    requires of { IsView P.meld (view_of P.pack (W.name words.now) (W.sight pass.old)) }
+    requires within { IsCell (limits_in (view_of P.pack (W.name words.now) (W.sight pass.old))) comm round rank }
+    requires first { IsFirstOf P.pack (slot (seen_in (view_of P.pack (W.name words.now) (W.sight pass.old))) comm round rank) first }
+    ensures loads { (w : _) × LoadsWing P.meld P.pack W.alone (WingOfSlot comm round rank) w (view_of P.pack (W.name words.now) (W.sight pass.old))
+        (view_of P.pack (W.name words.now) (W.sight pass.new)) }
+    ensures summary { (s : Slot P) × (slot (seen_in (view_of P.pack (W.name words.now) (W.sight pass.new))) comm round rank ≡ Some s) × (result ≡ summary_of s) }
+{
+    let wing = words.load_wing(pass, Wing::Slot { comm, round, rank });
+    said_in(first, wing)
 }
 
 /// One load of an entry of the list of communicators: the parent and the round that it was made of, if it was made.
@@ -68,10 +103,10 @@ pub fn load_comm<P: Packed, A: Allocator, W: Words<P, A>>(
     pass: &mut W::Pass,
     comm: u16,
 ) -> Option<(u16, u16)>
-    requires of { IsView P.meld (view_of (W.name words.now) (W.sight pass.old)) }
-    requires within { IsWithin (limits_in (view_of (W.name words.now) (W.sight pass.old))) (CommAt comm) }
-    ensures loads { Loads P.meld P.pack W.alone (CommAt comm) (view_of (W.name words.now) (W.sight pass.old)) (view_of (W.name words.now) (W.sight pass.new)) }
-    ensures made { result ≡ made_at (seen_in (view_of (W.name words.now) (W.sight pass.new))) comm }
+    requires of { IsView P.meld (view_of P.pack (W.name words.now) (W.sight pass.old)) }
+    requires within { IsWithin (limits_in (view_of P.pack (W.name words.now) (W.sight pass.old))) (CommAt comm) }
+    ensures loads { Loads P.meld P.pack W.alone (CommAt comm) (view_of P.pack (W.name words.now) (W.sight pass.old)) (view_of P.pack (W.name words.now) (W.sight pass.new)) }
+    ensures made { result ≡ made_at (seen_in (view_of P.pack (W.name words.now) (W.sight pass.new))) comm }
 {
     let word = words.load(pass, Place::Comm { comm });
     if word == 0 {
@@ -86,11 +121,11 @@ pub fn load_revocation<P: Packed, A: Allocator, W: Words<P, A>>(
     pass: &mut W::Pass,
     comm: u16,
 ) -> bool
-    requires of { IsView P.meld (view_of (W.name words.now) (W.sight pass.old)) }
-    requires within { comm < (limits_in (view_of (W.name words.now) (W.sight pass.old))).comms }
-    ensures loads { Loads P.meld P.pack W.alone (RevokedAt comm) (view_of (W.name words.now) (W.sight pass.old))
-        (view_of (W.name words.now) (W.sight pass.new)) }
-    ensures revoked { result ≡ is_revoked (seen_in (view_of (W.name words.now) (W.sight pass.new))) comm }
+    requires of { IsView P.meld (view_of P.pack (W.name words.now) (W.sight pass.old)) }
+    requires within { comm < (limits_in (view_of P.pack (W.name words.now) (W.sight pass.old))).comms }
+    ensures loads { Loads P.meld P.pack W.alone (RevokedAt comm) (view_of P.pack (W.name words.now) (W.sight pass.old))
+        (view_of P.pack (W.name words.now) (W.sight pass.new)) }
+    ensures revoked { result ≡ is_revoked (seen_in (view_of P.pack (W.name words.now) (W.sight pass.new))) comm }
 {
     words.load(pass, Place::Revoked { comm }) != 0
 }
@@ -103,31 +138,51 @@ pub fn load_arrival<P: Packed, A: Allocator, W: Words<P, A>>(
     round: u16,
     rank: u16,
 ) -> bool
-    requires of { IsView P.meld (view_of (W.name words.now) (W.sight pass.old)) }
-    requires within { IsCell (limits_in (view_of (W.name words.now) (W.sight pass.old))) comm round rank }
-    ensures loads { Loads P.meld P.pack W.alone (ArrivalAt comm round rank) (view_of (W.name words.now) (W.sight pass.old))
-        (view_of (W.name words.now) (W.sight pass.new)) }
-    ensures arrived { result ≡ has_arrived (seen_in (view_of (W.name words.now) (W.sight pass.new))) comm round rank }
+    requires of { IsView P.meld (view_of P.pack (W.name words.now) (W.sight pass.old)) }
+    requires within { IsCell (limits_in (view_of P.pack (W.name words.now) (W.sight pass.old))) comm round rank }
+    ensures loads { Loads P.meld P.pack W.alone (ArrivalAt comm round rank) (view_of P.pack (W.name words.now) (W.sight pass.old))
+        (view_of P.pack (W.name words.now) (W.sight pass.new)) }
+    ensures arrived { result ≡ has_arrived (seen_in (view_of P.pack (W.name words.now) (W.sight pass.new))) comm round rank }
 {
     words.load(pass, Place::Arrival { comm, round, rank }) != 0
 }
 
-/// One load of a block: what its members say together, if its word is set.
+/// One load of a block: its first word, if it is set.
 #[inline(always)]
-pub fn load_said<P: Packed, A: Allocator, W: Words<P, A>>(
+pub fn load_block<P: Packed, A: Allocator, W: Words<P, A>>(
     words: &W,
     pass: &mut W::Pass,
     block: Block,
-) -> Option<Summary<P>>
-    requires of { IsView P.meld (view_of (W.name words.now) (W.sight pass.old)) }
-    requires within { IsBlockWithin (limits_in (view_of (W.name words.now) (W.sight pass.old))) block }
-    ensures peeks { Peeks P.meld W.alone block (is_some result) (view_of (W.name words.now) (W.sight pass.old))
-        (view_of (W.name words.now) (W.sight pass.new)) }
-    ensures said { IfSome result (BlockSaysIn P.meld (view_of (W.name words.now) (W.sight pass.new)) block) }
+) -> Option<u64>
+    requires of { IsView P.meld (view_of P.pack (W.name words.now) (W.sight pass.old)) }
+    requires within { IsBlockWithin (limits_in (view_of P.pack (W.name words.now) (W.sight pass.old))) block }
+    ensures peeks { Peeks P.meld W.alone block (is_some result) (view_of P.pack (W.name words.now) (W.sight pass.old))
+        (view_of P.pack (W.name words.now) (W.sight pass.new)) }
+    ensures first { IfSome result (IsBlockIn P.meld P.pack (view_of P.pack (W.name words.now) (W.sight pass.new)) block) }
 {
     let word = words.load_block(pass, block);
     if word == 0 {
         return None;
     }
-    Some(said_in(word))
+    Some(word)
+}
+
+/// One load of the wing of a block whose first word was loaded: what its members say together.
+#[inline(always)]
+pub fn load_block_rest<P: Packed, A: Allocator, W: Words<P, A>>(
+    words: &W,
+    pass: &mut W::Pass,
+    block: Block,
+    first: u64,
+) -> Summary<P>
+    requires of { IsView P.meld (view_of P.pack (W.name words.now) (W.sight pass.old)) }
+    requires within { IsBlockWithin (limits_in (view_of P.pack (W.name words.now) (W.sight pass.old))) block }
+    requires first { IsBlockIn P.meld P.pack (view_of P.pack (W.name words.now) (W.sight pass.old)) block first }
+    requires set { has_block (cached_in (view_of P.pack (W.name words.now) (W.sight pass.old))) block ≡ true }
+    ensures loads { (w : _) × LoadsWing P.meld P.pack W.alone (WingOfBlock block) w (view_of P.pack (W.name words.now) (W.sight pass.old))
+        (view_of P.pack (W.name words.now) (W.sight pass.new)) }
+    ensures said { BlockSaysIn P.meld (view_of P.pack (W.name words.now) (W.sight pass.new)) block result }
+{
+    let wing = words.load_wing(pass, Wing::Block(block));
+    said_in(first, wing)
 }

@@ -2,19 +2,20 @@
 ghost use Rattle.std.specs.Prelude.{◌≡◌, ◌≤◌, ◌%◌, ◌^◌, ◌++◌, ◌∷◌, [], true, false, IfOk, MatchOption, MatchResult, length};
 ghost use Rattle.ulfm_model.specs.Blocks.{IsBlockWithin};
 ghost use Rattle.ulfm_model.specs.Words.{IsUnfit, MayOpen, word_at};
-ghost use Rattle.ulfm_words.specs.Blocks.{Caches, LoadsBlock, IsBlockIn};
+ghost use Rattle.ulfm_words.specs.Blocks.{Caches, LoadsBlock, LoadsWing, SetsWing, IsBlockIn, IsSpread, IsSpreadBlock, MaySetWing};
 ghost use Rattle.ulfm_words.specs.Pass.{IsNth, plain_name};
-ghost use Rattle.ulfm_words.specs.Places.{IsWithin};
-ghost use Rattle.ulfm_words.specs.Steps.{coding, view_of, limits_in, seen_in, IsView, IsNew, Loads, MaySetIn, Sets};
+ghost use Rattle.ulfm_words.specs.Places.{IsWingWithin, IsWithin};
+ghost use Rattle.ulfm_words.specs.Steps.{coding, view_of, limits_in, seen_in, IsView, IsNew, IsWingedIn, Loads, MaySetIn, Sets};
 
 use crate::row::Row;
+use crate::side_row::SideRow;
 use crate::step::{Last, Site, Step};
 use crate::step_log::StepLog;
 use crate::words::{OpenWords, Words};
 use std::alloc::{AllocError, Allocator, Global};
 use std::marker::{Model, PhantomData};
 use ulfm_laws::meld::Packed;
-use ulfm_model::block::Block;
+use ulfm_model::block::{Block, Wing};
 use ulfm_model::event::Caller;
 use ulfm_model::limits::{Limits, OpenFault};
 use ulfm_model::place::Place;
@@ -89,6 +90,16 @@ impl<P: Packed, A: Allocator + Copy + Drop> Words<P, A> for PlainWords<P> {
     }
 
     #[inline(always)]
+    fn load_wing(&self, pass: &mut PlainPass<P, A>, wing: Wing) -> u64 {
+        pass.load_wing(wing)
+    }
+
+    #[inline(always)]
+    fn set_wing(&self, pass: &mut PlainPass<P, A>, wing: Wing, word: u64) -> Result<(), u64> {
+        pass.set_wing(wing, word)
+    }
+
+    #[inline(always)]
     fn steps_made(&self, pass: &PlainPass<P, A>) -> u64 {
         pass.steps_made()
     }
@@ -123,6 +134,8 @@ impl<P: Packed, A: Allocator + Copy + Drop> OpenWords<P, A> for PlainWords<P> {
 pub(crate) struct Setting {
     /// The place of the word.
     pub place: Place,
+    /// The upper half of a contribution's payload, or 0.
+    pub half: u32,
     /// In whose name: a rank's or the outside's.
     pub by: Caller,
 }
@@ -173,8 +186,8 @@ pub struct PlainPass<P: Packed, A: Allocator = Global> {
     row: Row<A>,
     // In the order of setting. It has room for each word that is still 0.
     journal: Vec<Setting, A>,
-    // The words of blocks: two for each round of each communicator, the front block's first.
-    blocks: Vec<u64, A>,
+    // The words that no event sets: those of blocks, and wings.
+    sides: SideRow<A>,
     // The steps so far. It takes no memory, and only contracts read it.
     trail: Trail,
     flags: PhantomData<P>,
@@ -182,32 +195,32 @@ pub struct PlainPass<P: Packed, A: Allocator = Global> {
 
 impl<P: Packed, A: Allocator> Model for PlainPass<P, A> {
     ghost use Rattle.ulfm_words.specs.Steps.{Sight};
-    ghost use Rattle.std.specs.Prelude.{vec_capacity};
-    ghost use Rattle.ulfm_words.specs.Pass.{AreStood, IsTied, entries, sight_of};
+    ghost use Rattle.std.specs.Prelude.{◌≡◌, vec_capacity};
+    ghost use Rattle.ulfm_words.specs.Pass.{AreStood, AreTried, IsTied, entries, sight_of};
 
     ghost Value = { Sight P };
 
     ghost view = { λ a. sight_of P.unpack a.row.limits a.row.words a.journal.items a.trail.log.items };
 
     ghost invariant = { λ a. IsTied P.meld P.pack P.unpack a.row.limits a.row.words a.journal.items (vec_capacity a.journal)
-        × AreStood P.meld P.pack a.row.limits (entries P.unpack a.row.limits a.row.words a.journal.items) a.blocks.items a.trail.log.items };
+        × (a.sides.limits ≡ a.row.limits)
+        × AreStood P.meld P.pack (entries P.unpack a.row.limits a.row.words a.journal.items) a.sides a.trail.log.items
+        × AreTried a.sides a.trail.log.items };
 }
 
 impl<P: Packed, A: Allocator + Copy> PlainPass<P, A> {
     /// Words that are all 0. All memory that later steps need is taken here.
     pub fn new(alloc: A, limits: Limits) -> Result<PlainPass<P, A>, AllocError>
         requires { MayOpen limits }
-        ensures { IfOk result (λ p. IsNew P.meld (view_of (plain_name limits) p)) }
+        ensures { IfOk result (λ p. IsNew P.meld (view_of P.pack (plain_name limits) p)) }
     {
         let row = Row::new(alloc, limits)?;
         let journal = Vec::with_capacity(alloc, limits.size() as usize)?;
-        let count = 2 * limits.rounds as usize * limits.comms as usize;
-        let mut blocks = Vec::with_capacity(alloc, count)?;
-        blocks.resize(count, 0)?;
+        let sides = SideRow::new(alloc, limits)?;
         Ok(PlainPass {
             row,
             journal,
-            blocks,
+            sides,
             trail: Trail::new(),
             flags: PhantomData,
         })
@@ -238,6 +251,7 @@ impl<P: Packed, A: Allocator + Copy> PlainPass<P, A> {
         Some(Step {
             place: setting.place,
             word,
+            half: setting.half,
             by: setting.by,
         })
     }
@@ -252,7 +266,7 @@ impl<P: Packed, A: Allocator + Copy> PlainPass<P, A> {
 
     /// What was seen is legal. It does nothing.
     pub fn known_legal(&self)
-        ensures { IsView P.meld (view_of self.now.name self.now) }
+        ensures { IsView P.meld (view_of P.pack self.now.name self.now) }
     {
         let _ = &self.row;
     }
@@ -260,9 +274,9 @@ impl<P: Packed, A: Allocator + Copy> PlainPass<P, A> {
     /// The word at a place.
     #[inline(always)]
     pub fn load(&mut self, place: Place) -> u64
-        requires { IsWithin (limits_in (view_of self.old.name self.old)) place }
-        ensures loads { Loads P.meld P.pack true place (view_of self.old.name self.old) (view_of self.old.name self.new) }
-        ensures word { result ≡ word_at P.pack (seen_in (view_of self.old.name self.new)) place }
+        requires { IsWithin (limits_in (view_of P.pack self.old.name self.old)) place }
+        ensures loads { Loads P.meld P.pack true place (view_of P.pack self.old.name self.old) (view_of P.pack self.old.name self.new) }
+        ensures word { result ≡ word_at P.pack (seen_in (view_of P.pack self.old.name self.new)) place }
     {
         let word = self.row.get(place);
         let load = true;
@@ -274,9 +288,10 @@ impl<P: Packed, A: Allocator + Copy> PlainPass<P, A> {
     /// Sets a word that is 0, or gives the word that stands. It takes no memory.
     #[inline(always)]
     pub fn set_once(&mut self, step: Step) -> Result<(), u64>
-        requires within { IsWithin (limits_in (view_of self.old.name self.old)) step.place }
-        requires may { MaySetIn P.meld (coding P.pack P.unpack) (view_of self.old.name self.old) step }
-        ensures { Sets P.meld (coding P.pack P.unpack) true step (view_of self.old.name self.old) result (view_of self.old.name self.new) }
+        requires within { IsWithin (limits_in (view_of P.pack self.old.name self.old)) step.place }
+        requires may { MaySetIn P.meld (coding P.pack P.unpack) (view_of P.pack self.old.name self.old) step }
+        requires winged { IsWingedIn (coding P.pack P.unpack) (view_of P.pack self.old.name self.old) step }
+        ensures { Sets P.meld (coding P.pack P.unpack) true step (view_of P.pack self.old.name self.old) result (view_of P.pack self.old.name self.new) }
     {
         let place = step.place;
         let word = self.row.set_once(place, step.word);
@@ -286,18 +301,23 @@ impl<P: Packed, A: Allocator + Copy> PlainPass<P, A> {
         if word != 0 {
             return Err(word);
         }
-        let _ = self.journal.push(Setting { place, by: step.by });
+        let half = step.half;
+        let _ = self.journal.push(Setting {
+            place,
+            half,
+            by: step.by,
+        });
         Ok(())
     }
 
     /// The word of a block.
     #[inline(always)]
     pub fn load_block(&mut self, block: Block) -> u64
-        requires of { IsView P.meld (view_of self.old.name self.old) }
-        requires within { IsBlockWithin (limits_in (view_of self.old.name self.old)) block }
-        ensures { LoadsBlock P.meld P.pack true block result (view_of self.old.name self.old) (view_of self.old.name self.new) }
+        requires of { IsView P.meld (view_of P.pack self.old.name self.old) }
+        requires within { IsBlockWithin (limits_in (view_of P.pack self.old.name self.old)) block }
+        ensures { LoadsBlock P.meld P.pack true block result (view_of P.pack self.old.name self.old) (view_of P.pack self.old.name self.new) }
     {
-        let stood = self.blocks[self.row.block_index(block)];
+        let stood = self.sides.block(block);
         let at = Site::Block(block);
         let load = true;
         self.trail = self.trail.and(
@@ -314,13 +334,13 @@ impl<P: Packed, A: Allocator + Copy> PlainPass<P, A> {
     /// Sets a block's word that is 0, or gives the word that stands. It takes no memory.
     #[inline(always)]
     pub fn cache(&mut self, block: Block, word: u64) -> Result<(), u64>
-        requires of { IsView P.meld (view_of self.old.name self.old) }
-        requires within { IsBlockWithin (limits_in (view_of self.old.name self.old)) block }
-        requires may { IsBlockIn P.meld P.pack (view_of self.old.name self.old) block word }
-        ensures { Caches P.meld true block word (view_of self.old.name self.old) result (view_of self.old.name self.new) }
+        requires of { IsView P.meld (view_of P.pack self.old.name self.old) }
+        requires within { IsBlockWithin (limits_in (view_of P.pack self.old.name self.old)) block }
+        requires may { IsBlockIn P.meld P.pack (view_of P.pack self.old.name self.old) block word }
+        requires winged { IsSpreadBlock (view_of P.pack self.old.name self.old) block }
+        ensures { Caches P.meld true block word (view_of P.pack self.old.name self.old) result (view_of P.pack self.old.name self.new) }
     {
-        let index = self.row.block_index(block);
-        let stood = self.blocks[index];
+        let stood = self.sides.block(block);
         let at = Site::Block(block);
         let load = false;
         let last = Last {
@@ -332,7 +352,46 @@ impl<P: Packed, A: Allocator + Copy> PlainPass<P, A> {
         if stood != 0 {
             return Err(stood);
         }
-        self.blocks[index] = word;
+        self.sides.set_block(block, word);
+        Ok(())
+    }
+
+    /// The word of a wing.
+    #[inline(always)]
+    pub fn load_wing(&mut self, wing: Wing) -> u64
+        requires of { IsView P.meld (view_of P.pack self.old.name self.old) }
+        requires within { IsWingWithin (limits_in (view_of P.pack self.old.name self.old)) wing }
+        requires stands { IsSpread (view_of P.pack self.old.name self.old) wing }
+        ensures { LoadsWing P.meld P.pack true wing result (view_of P.pack self.old.name self.old) (view_of P.pack self.old.name self.new) }
+    {
+        let word = self.sides.wing(wing);
+        let at = Site::Wing(wing);
+        let load = true;
+        self.trail = self.trail.and(&Last { at, word, load }, &load);
+        word
+    }
+
+    /// Sets a wing that is 0, or gives the word that stands. It takes no memory.
+    #[inline(always)]
+    pub fn set_wing(&mut self, wing: Wing, word: u64) -> Result<(), u64>
+        requires of { IsView P.meld (view_of P.pack self.old.name self.old) }
+        requires within { IsWingWithin (limits_in (view_of P.pack self.old.name self.old)) wing }
+        requires may { MaySetWing P.meld P.pack (view_of P.pack self.old.name self.old) wing word }
+        ensures { SetsWing P.meld true wing word (view_of P.pack self.old.name self.old) result (view_of P.pack self.old.name self.new) }
+    {
+        let before = self.sides.wing(wing);
+        let stands = if before == 0 { word } else { before };
+        let load = false;
+        let last = Last {
+            at: Site::Wing(wing),
+            word: stands,
+            load,
+        };
+        self.trail = self.trail.and(&last, &load);
+        if before != 0 {
+            return Err(before);
+        }
+        self.sides.set_wing(wing, word);
         Ok(())
     }
 }

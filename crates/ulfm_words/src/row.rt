@@ -1,14 +1,11 @@
 //! A row of words, each 0 until it is set. Those of rounds are made line by line, so that no step walks past a line's ranks.
 ghost use Rattle.std.specs.Prelude.{◌≡◌, ◌≢◌, ◌<◌, ◌≤◌, ◌*◌, IfOk, length, replicate, slice_index, slice_set, vec_capacity};
-ghost use Rattle.ulfm_model.specs.Blocks.{IsBlockWithin};
 ghost use Rattle.ulfm_model.specs.Words.{MayOpen, size_of};
-ghost use Rattle.ulfm_words.specs.Pass.{block_key};
 ghost use Rattle.ulfm_words.specs.Places.{IsWithin, key_in};
 ghost use Rattle.ulfm_words.specs.Rows.{AreLines, HasSeat, cells_of};
 
 use std::alloc::{AllocError, Allocator};
 use std::marker::Model;
-use ulfm_model::block::{Block, Side};
 use ulfm_model::limits::Limits;
 use ulfm_model::place::Place;
 
@@ -177,19 +174,6 @@ impl<A: Allocator + Copy> Row<A> {
         match seat_of(place, self.limits) {
             Seat::Head { index } => self.heads[index],
             Seat::Cell { line, rank } => self.words[self.starts[line] as usize + rank],
-        }
-    }
-
-    /// Where a block's word stands among those of all blocks.
-    #[inline(always)]
-    pub(crate) fn block_index(&self, block: Block) -> usize
-        requires { IsBlockWithin self.now.limits block }
-        ensures { result ≡ block_key self.now.limits block }
-    {
-        let line = block.round as usize * self.limits.comms as usize + block.comm as usize;
-        match block.side {
-            Side::Front => 2 * line,
-            Side::Back => 2 * line + 1,
         }
     }
 

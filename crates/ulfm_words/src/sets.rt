@@ -7,12 +7,12 @@ ghost use Rattle.ulfm_model.specs.declared.place.Place.TheVariants.{List as List
 ghost use Rattle.ulfm_model.specs.declared.contribution.Slot.{Slot};
 ghost use Rattle.ulfm_words.specs.Entries.{put_of};
 ghost use Rattle.ulfm_words.specs.Places.{IsCell, IsWithin};
-ghost use Rattle.ulfm_words.specs.Slots.{slot_in};
-ghost use Rattle.ulfm_words.specs.Steps.{view_of, IsView, limits_in, seen_in};
-ghost use Rattle.ulfm_words.specs.Tries.{attempt, Tries, entry, MayDeclareIn, MayPutIn, MayMakeIn, MayArriveIn, MayEndIn};
+ghost use Rattle.ulfm_model.specs.Words.{slot_word as word_of_slot};
+ghost use Rattle.ulfm_words.specs.Steps.{view_of, cached_in, IsView, IsWinged, limits_in, seen_in};
+ghost use Rattle.ulfm_words.specs.Tries.{attempt, IsSettledBy, Tries, entry, MayDeclareIn, MayPutIn, MayMakeIn, MayArriveIn, MayEndIn};
 
 use crate::step::Step;
-use crate::summaries::{read_slot, slot_word};
+use crate::summaries::{slot_half, slot_word};
 use crate::words::Words;
 use std::alloc::Allocator;
 use ulfm_laws::meld::Packed;
@@ -28,17 +28,18 @@ pub fn set_failure<P: Packed, A: Allocator, W: Words<P, A>>(
     index: u16,
     rank: u16,
 ) -> Result<(), u16>
-    requires of { IsView P.meld (view_of (W.name words.now) (W.sight pass.old)) }
-    requires within { index < (limits_in (view_of (W.name words.now) (W.sight pass.old))).ranks }
-    requires may { MayDeclareIn P.meld (view_of (W.name words.now) (W.sight pass.old)) index rank }
-    ensures tries { Tries P.meld P.pack W.alone (attempt (ListAt index) (entry by (Fail rank))) (is_ok result) (view_of (W.name words.now) (W.sight pass.old))
-        (view_of (W.name words.now) (W.sight pass.new)) }
-    ensures stands { MatchResult result (λ _. slice_get (failures (seen_in (view_of (W.name words.now) (W.sight pass.new)))) index ≡ Some rank)
-        (λ r. slice_get (failures (seen_in (view_of (W.name words.now) (W.sight pass.new)))) index ≡ Some r) }
+    requires of { IsView P.meld (view_of P.pack (W.name words.now) (W.sight pass.old)) }
+    requires within { index < (limits_in (view_of P.pack (W.name words.now) (W.sight pass.old))).ranks }
+    requires may { MayDeclareIn P.meld (view_of P.pack (W.name words.now) (W.sight pass.old)) index rank }
+    ensures tries { Tries P.meld P.pack W.alone (attempt (ListAt index) (entry by (Fail rank))) (is_ok result) (view_of P.pack (W.name words.now) (W.sight pass.old))
+        (view_of P.pack (W.name words.now) (W.sight pass.new)) }
+    ensures stands { MatchResult result (λ _. slice_get (failures (seen_in (view_of P.pack (W.name words.now) (W.sight pass.new)))) index ≡ Some rank)
+        (λ r. slice_get (failures (seen_in (view_of P.pack (W.name words.now) (W.sight pass.new)))) index ≡ Some r) }
 {
     let step = Step {
         place: Place::List { index },
         word: u64::from(rank) + 1,
+        half: 0,
         by,
     };
     match words.set_once(pass, step) {
@@ -58,24 +59,35 @@ fn try_slot<P: Packed, A: Allocator, W: Words<P, A>>(
     rank: u16,
     put: Slot<P>,
 ) -> Result<(), u64>
-    requires of { IsView P.meld (view_of (W.name words.now) (W.sight pass.old)) }
-    requires within { IsCell (limits_in (view_of (W.name words.now) (W.sight pass.old))) comm round rank }
-    requires may { MayPutIn P.meld (view_of (W.name words.now) (W.sight pass.old)) comm round rank put }
+    requires of { IsView P.meld (view_of P.pack (W.name words.now) (W.sight pass.old)) }
+    requires within { IsCell (limits_in (view_of P.pack (W.name words.now) (W.sight pass.old))) comm round rank }
+    requires may { MayPutIn P.meld (view_of P.pack (W.name words.now) (W.sight pass.old)) comm round rank put }
+    requires winged { IsWinged P.pack (cached_in (view_of P.pack (W.name words.now) (W.sight pass.old))) (put_of comm round rank put) }
     ensures tries { Tries P.meld P.pack W.alone (attempt (SlotAt comm round rank) (entry by (put_of comm round rank put))) (is_ok result)
-        (view_of (W.name words.now) (W.sight pass.old)) (view_of (W.name words.now) (W.sight pass.new)) }
-    ensures stands { MatchResult result (λ _. slot (seen_in (view_of (W.name words.now) (W.sight pass.new))) comm round rank ≡ Some put)
-        (λ word. (s : Slot P) × (slot_in P.unpack word ≡ Some s)
-        × (slot (seen_in (view_of (W.name words.now) (W.sight pass.new))) comm round rank ≡ Some s)) }
+        (view_of P.pack (W.name words.now) (W.sight pass.old)) (view_of P.pack (W.name words.now) (W.sight pass.new)) }
+    ensures stands { MatchResult result (λ _. slot (seen_in (view_of P.pack (W.name words.now) (W.sight pass.new))) comm round rank ≡ Some put)
+        (λ word. (s : Slot P) × (word ≡ word_of_slot P.pack s)
+        × (slot (seen_in (view_of P.pack (W.name words.now) (W.sight pass.new))) comm round rank ≡ Some s)) }
 {
     let step = Step {
         place: Place::Slot { comm, round, rank },
         word: slot_word(&put),
+        half: slot_half(&put),
         by,
     };
     match words.set_once(pass, step) {
         Ok(()) => Ok(()),
         Err(word) => Err(word),
     }
+}
+
+/// What settles a member's place that an exchange found settled.
+#[derive(Clone, Copy, Debug, PartialEq, Eq)]
+pub enum Settled {
+    /// A mark.
+    Marked,
+    /// A contribution. Its payload's upper half stands in its wing, which the exchange doesn't tell.
+    Contributed,
 }
 
 /// One exchange of a member's place in an agreement round: it is settled so, or what settles it is given.
@@ -87,18 +99,20 @@ pub fn set_slot<P: Packed, A: Allocator, W: Words<P, A>>(
     round: u16,
     rank: u16,
     put: Slot<P>,
-) -> Result<(), Slot<P>>
-    requires of { IsView P.meld (view_of (W.name words.now) (W.sight pass.old)) }
-    requires within { IsCell (limits_in (view_of (W.name words.now) (W.sight pass.old))) comm round rank }
-    requires may { MayPutIn P.meld (view_of (W.name words.now) (W.sight pass.old)) comm round rank put }
+) -> Result<(), Settled>
+    requires of { IsView P.meld (view_of P.pack (W.name words.now) (W.sight pass.old)) }
+    requires within { IsCell (limits_in (view_of P.pack (W.name words.now) (W.sight pass.old))) comm round rank }
+    requires may { MayPutIn P.meld (view_of P.pack (W.name words.now) (W.sight pass.old)) comm round rank put }
+    requires winged { IsWinged P.pack (cached_in (view_of P.pack (W.name words.now) (W.sight pass.old))) (put_of comm round rank put) }
     ensures tries { Tries P.meld P.pack W.alone (attempt (SlotAt comm round rank) (entry by (put_of comm round rank put))) (is_ok result)
-        (view_of (W.name words.now) (W.sight pass.old)) (view_of (W.name words.now) (W.sight pass.new)) }
-    ensures stands { MatchResult result (λ _. slot (seen_in (view_of (W.name words.now) (W.sight pass.new))) comm round rank ≡ Some put)
-        (λ s. slot (seen_in (view_of (W.name words.now) (W.sight pass.new))) comm round rank ≡ Some s) }
+        (view_of P.pack (W.name words.now) (W.sight pass.old)) (view_of P.pack (W.name words.now) (W.sight pass.new)) }
+    ensures stands { MatchResult result (λ _. slot (seen_in (view_of P.pack (W.name words.now) (W.sight pass.new))) comm round rank ≡ Some put)
+        (IsSettledBy (slot (seen_in (view_of P.pack (W.name words.now) (W.sight pass.new))) comm round rank)) }
 {
     match try_slot(words, pass, by, comm, round, rank, put) {
         Ok(()) => Ok(()),
-        Err(word) => Err(read_slot(word).unwrap()),
+        Err(word) if word / 2 % 4 == 0 => Err(Settled::Marked),
+        Err(_) => Err(Settled::Contributed),
     }
 }
 
@@ -113,13 +127,14 @@ pub fn put_slot<P: Packed, A: Allocator, W: Words<P, A>>(
     rank: u16,
     put: Slot<P>,
 ) -> bool
-    requires of { IsView P.meld (view_of (W.name words.now) (W.sight pass.old)) }
-    requires within { IsCell (limits_in (view_of (W.name words.now) (W.sight pass.old))) comm round rank }
-    requires may { MayPutIn P.meld (view_of (W.name words.now) (W.sight pass.old)) comm round rank put }
+    requires of { IsView P.meld (view_of P.pack (W.name words.now) (W.sight pass.old)) }
+    requires within { IsCell (limits_in (view_of P.pack (W.name words.now) (W.sight pass.old))) comm round rank }
+    requires may { MayPutIn P.meld (view_of P.pack (W.name words.now) (W.sight pass.old)) comm round rank put }
+    requires winged { IsWinged P.pack (cached_in (view_of P.pack (W.name words.now) (W.sight pass.old))) (put_of comm round rank put) }
     ensures tries { Tries P.meld P.pack W.alone (attempt (SlotAt comm round rank) (entry by (put_of comm round rank put))) result
-        (view_of (W.name words.now) (W.sight pass.old)) (view_of (W.name words.now) (W.sight pass.new)) }
-    ensures stands { MatchBool result (slot (seen_in (view_of (W.name words.now) (W.sight pass.new))) comm round rank ≡ Some put) ((s : Slot P)
-        × (slot (seen_in (view_of (W.name words.now) (W.sight pass.new))) comm round rank ≡ Some s)) }
+        (view_of P.pack (W.name words.now) (W.sight pass.old)) (view_of P.pack (W.name words.now) (W.sight pass.new)) }
+    ensures stands { MatchBool result (slot (seen_in (view_of P.pack (W.name words.now) (W.sight pass.new))) comm round rank ≡ Some put) ((s : Slot P)
+        × (slot (seen_in (view_of P.pack (W.name words.now) (W.sight pass.new))) comm round rank ≡ Some s)) }
 {
     match try_slot(words, pass, by, comm, round, rank, put) {
         Ok(()) => true,
@@ -136,18 +151,19 @@ pub fn set_comm<P: Packed, A: Allocator, W: Words<P, A>>(
     parent: u16,
     round: u16,
 ) -> Result<(), (u16, u16)>
-    requires of { IsView P.meld (view_of (W.name words.now) (W.sight pass.old)) }
-    requires within { IsWithin (limits_in (view_of (W.name words.now) (W.sight pass.old))) (CommAt comm) }
-    requires round { round < (limits_in (view_of (W.name words.now) (W.sight pass.old))).rounds }
-    requires may { MayMakeIn P.meld (view_of (W.name words.now) (W.sight pass.old)) comm parent round }
+    requires of { IsView P.meld (view_of P.pack (W.name words.now) (W.sight pass.old)) }
+    requires within { IsWithin (limits_in (view_of P.pack (W.name words.now) (W.sight pass.old))) (CommAt comm) }
+    requires round { round < (limits_in (view_of P.pack (W.name words.now) (W.sight pass.old))).rounds }
+    requires may { MayMakeIn P.meld (view_of P.pack (W.name words.now) (W.sight pass.old)) comm parent round }
     ensures tries { Tries P.meld P.pack W.alone (attempt (CommAt comm) (entry by (Spawn comm parent round))) (is_ok result)
-        (view_of (W.name words.now) (W.sight pass.old)) (view_of (W.name words.now) (W.sight pass.new)) }
-    ensures stands { MatchResult result (λ _. made_at (seen_in (view_of (W.name words.now) (W.sight pass.new))) comm ≡ Some (parent, round))
-        (λ m. made_at (seen_in (view_of (W.name words.now) (W.sight pass.new))) comm ≡ Some m) }
+        (view_of P.pack (W.name words.now) (W.sight pass.old)) (view_of P.pack (W.name words.now) (W.sight pass.new)) }
+    ensures stands { MatchResult result (λ _. made_at (seen_in (view_of P.pack (W.name words.now) (W.sight pass.new))) comm ≡ Some (parent, round))
+        (λ m. made_at (seen_in (view_of P.pack (W.name words.now) (W.sight pass.new))) comm ≡ Some m) }
 {
     let step = Step {
         place: Place::Comm { comm },
         word: 1 + u64::from(parent) * 4096 + u64::from(round),
+        half: 0,
         by,
     };
     match words.set_once(pass, step) {
@@ -165,16 +181,17 @@ pub fn set_arrival<P: Packed, A: Allocator, W: Words<P, A>>(
     round: u16,
     rank: u16,
 ) -> bool
-    requires of { IsView P.meld (view_of (W.name words.now) (W.sight pass.old)) }
-    requires within { IsCell (limits_in (view_of (W.name words.now) (W.sight pass.old))) comm round rank }
-    requires may { MayArriveIn P.meld (view_of (W.name words.now) (W.sight pass.old)) comm round rank }
+    requires of { IsView P.meld (view_of P.pack (W.name words.now) (W.sight pass.old)) }
+    requires within { IsCell (limits_in (view_of P.pack (W.name words.now) (W.sight pass.old))) comm round rank }
+    requires may { MayArriveIn P.meld (view_of P.pack (W.name words.now) (W.sight pass.old)) comm round rank }
     ensures tries { Tries P.meld P.pack W.alone (attempt (ArrivalAt comm round rank) (entry by (Arrive comm round rank))) result
-        (view_of (W.name words.now) (W.sight pass.old)) (view_of (W.name words.now) (W.sight pass.new)) }
-    ensures stands { IsTrue (has_arrived (seen_in (view_of (W.name words.now) (W.sight pass.new))) comm round rank) }
+        (view_of P.pack (W.name words.now) (W.sight pass.old)) (view_of P.pack (W.name words.now) (W.sight pass.new)) }
+    ensures stands { IsTrue (has_arrived (seen_in (view_of P.pack (W.name words.now) (W.sight pass.new))) comm round rank) }
 {
     let arrival = Step {
         place: Place::Arrival { comm, round, rank },
         word: 1,
+        half: 0,
         by,
     };
     words.set_once(pass, arrival).is_ok()
@@ -187,16 +204,17 @@ pub fn set_revocation<P: Packed, A: Allocator, W: Words<P, A>>(
     by: Caller,
     comm: u16,
 ) -> bool
-    requires of { IsView P.meld (view_of (W.name words.now) (W.sight pass.old)) }
-    requires within { comm < (limits_in (view_of (W.name words.now) (W.sight pass.old))).comms }
-    requires may { MayEndIn P.meld (view_of (W.name words.now) (W.sight pass.old)) comm }
-    ensures tries { Tries P.meld P.pack W.alone (attempt (RevokedAt comm) (entry by (Revoke comm))) result (view_of (W.name words.now) (W.sight pass.old))
-        (view_of (W.name words.now) (W.sight pass.new)) }
-    ensures stands { IsTrue (is_revoked (seen_in (view_of (W.name words.now) (W.sight pass.new))) comm) }
+    requires of { IsView P.meld (view_of P.pack (W.name words.now) (W.sight pass.old)) }
+    requires within { comm < (limits_in (view_of P.pack (W.name words.now) (W.sight pass.old))).comms }
+    requires may { MayEndIn P.meld (view_of P.pack (W.name words.now) (W.sight pass.old)) comm }
+    ensures tries { Tries P.meld P.pack W.alone (attempt (RevokedAt comm) (entry by (Revoke comm))) result (view_of P.pack (W.name words.now) (W.sight pass.old))
+        (view_of P.pack (W.name words.now) (W.sight pass.new)) }
+    ensures stands { IsTrue (is_revoked (seen_in (view_of P.pack (W.name words.now) (W.sight pass.new))) comm) }
 {
     let revocation = Step {
         place: Place::Revoked { comm },
         word: 1,
+        half: 0,
         by,
     };
     words.set_once(pass, revocation).is_ok()

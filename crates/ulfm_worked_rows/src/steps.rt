@@ -11,7 +11,7 @@ pub const CONTRIBUTION_IN_FLIGHT: Row = Row {
 };
 
 /// The traces of scripts of single steps, and the faults that end them.
-pub const STEP_ROWS: [Row; 17] = [
+pub const STEP_ROWS: [Row; 19] = [
     CONTRIBUTION_IN_FLIGHT,
     Row {
         name: "decision_of_nobody",
@@ -31,6 +31,13 @@ pub const STEP_ROWS: [Row; 17] = [
         name: "mark_comes_first",
         script: "ulfm-steps 1 3 2 4\ncall agree 2 0 00000005\nbefore 2 settle\nfail 2\ncall agree 0 0 0000000f\nfinish 0\ncall poll 0 0\nfinish 0\nfinish 2\ncall agree 1 0 00000007\nfinish 1\ncall poll 1 0\nfinish 1\n",
         output: "ulfm-trace 1 3 2 4\ncall agree 2 0 00000005\nlook 2 0\ncall fail 2\nevent - fail 2\nreply - 1 declared\ncall agree 0 0 0000000f\nlook 0 1\nevent 0 settle 0 0 0 flag 0000000f known 1 acked 0\nreply 0 2 started\ncall poll 0 0\nlook 0 1\nevent 0 mark 0 0 2 known 1\nreply 0 3 pending\nreply 2 3 refused 1 self-failed\ncall agree 1 0 00000007\nlook 1 1\nevent 1 settle 0 0 1 flag 00000007 known 1 acked 0\nreply 1 4 started\ncall poll 1 0\nlook 1 1\nreply 1 4 agreed 00000007 failed 1 raised\n",
+        errors: "",
+        status: 0,
+    },
+    Row {
+        name: "own_spelling",
+        script: "ulfm-steps 1 1 1 2\ncall agree 0 0 000000000000000f\nfinish 0\ncall poll 0 0\nfinish 0\n",
+        output: "ulfm-trace 1 1 1 2\ncall agree 0 0 000000000000000f\nlook 0 0\nevent 0 settle 0 0 0 flag 0000000f known 0 acked 0\nreply 0 1 started\ncall poll 0 0\nlook 0 0\nreply 0 1 agreed 0000000f failed 0 clean\n",
         errors: "",
         status: 0,
     },
@@ -124,5 +131,12 @@ pub const STEP_ROWS: [Row; 17] = [
         output: "ulfm-trace 1 2 1 2\ncall agree 0 0 00000001\n",
         errors: "ulfm: line 3: open\n",
         status: 1,
+    },
+    Row {
+        name: "stops_before_a_wing",
+        script: "ulfm-steps 1 2 1 2\ncall agree 1 0 ffffffff0000000f\nbefore 1 wing\nfail 1\nfinish 1\ncall agree 0 0 0000000300000007\nfinish 0\ncall poll 0 0\nbefore 0 wing\nfinish 0\n",
+        output: "ulfm-trace 1 2 1 2\ncall agree 1 0 ffffffff0000000f\nlook 1 0\ncall fail 1\nevent - fail 1\nreply - 1 declared\nevent 1 settle 0 0 1 flag ffffffff0000000f known 0 acked 0\nreply 1 2 started\ncall agree 0 0 0000000300000007\nlook 0 1\nevent 0 settle 0 0 0 flag 0000000300000007 known 1 acked 0\nreply 0 3 started\ncall poll 0 0\nlook 0 1\nreply 0 3 agreed 0000000300000007 failed 1 raised\n",
+        errors: "",
+        status: 0,
     },
 ];

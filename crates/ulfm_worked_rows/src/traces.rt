@@ -20,7 +20,7 @@ pub const TRACE_JUDGED_B: Row = Row {
 };
 
 /// Traces and their verdicts.
-pub const TRACE_ROWS: [Row; 4] = [
+pub const TRACE_ROWS: [Row; 6] = [
     Row {
         name: "another_implementation",
         script: "ulfm-trace 1 3 1 2\ncall fail 2\nevent - fail 2\nreply - 1 declared\ncall agree 0 0 0000000f\nlook 0 1\nevent 0 settle 0 0 0 flag 0000000f known 1 acked 0\nreply 0 2 started\ncall agree 1 0 00000007\nlook 1 1\nevent 1 settle 0 0 1 flag 00000007 known 1 acked 0\nreply 1 3 started\nevent - mark 0 0 2 known 1\ncall poll 0 0\nlook 0 1\nreply 0 4 agreed 00000007 failed 1 raised\ncall poll 1 0\nlook 1 1\nreply 1 4 agreed 00000007 failed 1 raised\n",
@@ -34,6 +34,20 @@ pub const TRACE_ROWS: [Row; 4] = [
         name: "trace_judged_c",
         script: "",
         output: "illegal line 1 text\n",
+        errors: "",
+        status: 1,
+    },
+    Row {
+        name: "thirty_two_ids",
+        script: "ulfm-trace 1 1 2 2\ncall shrink 0 0\nlook 0 0\nevent 0 settle 0 0 0 ctx fffffffe known 0 acked 0\nreply 0 1 started\n",
+        output: "illegal line 5 reply\n",
+        errors: "",
+        status: 1,
+    },
+    Row {
+        name: "padded_event",
+        script: "ulfm-trace 1 1 1 2\ncall agree 0 0 000000000000000f\nlook 0 0\nevent 0 settle 0 0 0 flag 000000000000000f known 0 acked 0\n",
+        output: "illegal line 4 text\n",
         errors: "",
         status: 1,
     },

@@ -80,7 +80,7 @@ stills_replied by (x ∷ us) u at = go (same_caller (caller_of x) by) at (λ the
 -- one line takes one of what is to come, or it is an event, or a call that begins
 line_few : (now : TraceState) (group : List ℕ) (line : TraceLine) → MayCome flag_meld now group line
     → 1 + stills (after now line).calls + length now.history ≤ stills now.calls + length (after now line).history + 3 * calls_of line
-line_few now group (Line.Called asked) may =
+line_few now group (Line.Called asked padded) may =
     let u : Under FlagAnd = record { asked = asked; begun = length now.history; look = None; own = [] } in
     let more = stills_append now.calls (u ∷ []) in omega (arith, more)
 line_few now group (Line.Looked r count) may =

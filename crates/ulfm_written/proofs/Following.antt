@@ -23,7 +23,7 @@ calls_append (x ∷ xs) ys = let more = calls_append xs ys in omega (arith, more
 
 -- a line in a caller's name begins no call
 no_call : (by : Caller) (line : TraceLine) → is_of by line ≡ true → CalledFits line × (calls_of line ≡ 0)
-no_call by (Line.Called asked) is = absurd (cc is)
+no_call by (Line.Called asked padded) is = absurd (cc is)
 no_call by (Line.Looked r count) is = (tt, refl)
 no_call by (Line.Happened other event) is = (tt, refl)
 no_call by (Line.Replied other point reply) is = (tt, refl)
@@ -38,7 +38,7 @@ none_begins by (told ∷ rest) all =
 
 -- nor does a reply
 no_reply : (line : TraceLine) → is_reply line ≡ true → CalledFits line × (calls_of line ≡ 0)
-no_reply (Line.Called asked) is = absurd (cc is)
+no_reply (Line.Called asked padded) is = absurd (cc is)
 no_reply (Line.Looked r count) is = absurd (cc is)
 no_reply (Line.Happened by event) is = absurd (cc is)
 no_reply (Line.Replied by point reply) is = (tt, refl)
@@ -68,7 +68,7 @@ none_at_most : (piece : List (Told FlagAnd)) → AllFit piece × (calls_in piece
 none_at_most piece none = let zero = none.1 in (none.0, omega (arith, zero))
 
 pub piece_begins : (now : TraceState) (step : ScriptStep) (piece : List (Told FlagAnd)) → IsSpelledStep step → IsPiece now step piece → OneAtMost piece
-piece_begins now (Called asked) piece spelled is =
+piece_begins now (Called asked padded) piece spelled is =
     let rest = at_once asked is.0 is.2 in
     let zero = rest.1 in
     subst OneAtMost (sym is.1) (((spelled.1.0, spelled.1.1), rest.0), omega (arith, zero))
@@ -78,7 +78,7 @@ piece_begins now (Finished r) piece spelled is = none_at_most piece (none_begins
 piece_begins now (Failed r) piece spelled is =
     let rest = fail_begins r is.0 is.1 in
     let zero = rest.1 in
-    subst OneAtMost (sym is.2) (((codes "fail " ++ decimal r, (spelled.1.0, refl)), rest.0), omega (arith, zero))
+    subst OneAtMost (sym is.2) (((codes "fail " ++ decimal r, record { spells = (spelled.1.0, refl); padded_is = refl }), rest.0), omega (arith, zero))
 
 -- a trace that follows a script
 pub follows_begins : (now : TraceState) (lines : List ScriptStep) (trace : List (Told FlagAnd)) → AllByRecursion IsSpelledStep lines → Follows now lines trace → AllFit trace × (calls_in trace ≤ length lines)

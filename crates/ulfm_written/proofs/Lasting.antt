@@ -110,7 +110,7 @@ not_is true is = absurd (cc is)
 not_is false is = refl
 
 -- a call that begins
-kept_called : (now : TraceState) (asked : Call FlagAnd) → IsSpelled asked → Keeps now → Keeps (after now (Line.Called asked))
+kept_called : (now : TraceState) (asked : Call FlagAnd) → IsSpelled asked → Keeps now → Keeps (after now (Line.Called asked false))
 kept_called now asked spelled kept =
     let whole : take (length now.history) now.history ≡ now.history = ap (take (length now.history)) (sym (append-nil now.history)) ∙ take-append_seam now.history [] in
     let u : Under FlagAnd = record { asked = asked; begun = length now.history; look = None; own = [] } in
@@ -213,7 +213,7 @@ kept_answered now (Caller.Rank r) point reply u kept is answer = record {
 
 -- a line that may come keeps it
 pub kept_after : (now : TraceState) (group : List ℕ) (line : TraceLine) → MayCome flag_meld now group line → CalledFits line → IsAnswered now line → Keeps now → Keeps (after now line)
-kept_after now group (Line.Called asked) may fits answered kept = kept_called now asked fits kept
+kept_after now group (Line.Called asked padded) may fits answered kept = kept_called now asked (fits.0, fits.1.spells) kept
 kept_after now group (Line.Looked r count) may fits answered kept = kept_looked now r count kept
 kept_after now group (Line.Happened by None) may fits answered kept = absurd may
 kept_after now group (Line.Happened by (Some event)) may fits answered kept = kept_happened now group by event may kept

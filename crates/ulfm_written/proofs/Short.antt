@@ -11,8 +11,8 @@ use Rattle.ulfm_model.specs.declared.reply.Reply.TheVariants as reply
 use Rattle.ulfm_model.specs.{Words.{MayOpen}}
 use Rattle.ulfm_model.proofs.Lists.{each_append}
 use Rattle.ulfm_script.specs.declared.header_kind.HeaderKind.TheVariants.{Trace}
-use Rattle.ulfm_script.specs.{Buffers.{HasNoNewline}, Calls.{ScriptCall}, Digits.{flag_text, hex_digit, hex_digits}, Headers.{header_text}, Printed.{failed_text, ranks_text, refused_text, reply_text, shrunk_text}, Spelling.{IsSpelled, call_text, on_comm_text}}
-use Rattle.ulfm_script.proofs.{Hexadecimal.{length-flag_text}, Numerals.{AreDigits, own}}
+use Rattle.ulfm_script.specs.{Buffers.{HasNoNewline}, Calls.{ScriptCall}, Digits.{flag_text, hex_digit, hex_digits, padded_text, printed_digits, spelled_flag, whole_digits}, Headers.{header_text}, Printed.{failed_text, ranks_text, refused_text, reply_text, shrunk_text}, Spelling.{IsSpelledAs, spelled_text, on_comm_text}}
+use Rattle.ulfm_script.proofs.{Hexadecimal.{spelled_few}, Numerals.{AreDigits, own}}
 use Rattle.ulfm_trace_model.specs.declared.line.Line.TheVariants.{Called, Looked, Happened, Replied}
 use Rattle.ulfm_lines.specs.{LineTexts.{TraceEvent, TraceLine, caller_text, event_text, given_text, line_text, mask_flag, offer_text, place_text}, Telling.{AreRanks, CallerFits, EventFits, LineFits, PlaceFits, ReplyFits}}
 
@@ -70,12 +70,16 @@ hexes_free : (count n : ℕ) → HasNoNewline (hex_digits count n)
 hexes_free zero n = tt
 hexes_free (suc count) n = each_append (λ x. x ≢ 10) (hex_digits count (n / 16)) (hex_digit (n % 16) ∷ []) (hexes_free count (n / 16)) (hex_free (n % 16), tt)
 
-flag_is_free : (flag : FlagAnd) → HasNoNewline (flag_text flag)
-unfolding flag_text
-flag_is_free flag = hexes_free 8 flag.bits
+flag_is_free : (padded : Bool) (flag : FlagAnd) → HasNoNewline (spelled_flag padded flag)
+unfolding flag_text padded_text
+flag_is_free false flag = hexes_free (printed_digits flag) flag.bits
+flag_is_free true flag = hexes_free whole_digits flag.bits
 
-flag_short : (flag : FlagAnd) → Short 8 (flag_text flag)
-flag_short flag = record { few = omega (arith, length-flag_text flag); free = flag_is_free flag }
+spelled_short : (padded : Bool) (flag : FlagAnd) → Short 16 (spelled_flag padded flag)
+spelled_short padded flag = record { few = (spelled_few padded flag).1; free = flag_is_free padded flag }
+
+flag_short : (flag : FlagAnd) → Short 16 (flag_text flag)
+flag_short flag = spelled_short false flag
 
 -- ranks, each behind a space
 ranks_short : (group : List ℕ) → AreRanks group → Short (5 * length group) (ranks_text group)
@@ -91,27 +95,27 @@ place_short : (a b c : ℕ) → a < 10000 → b < 10000 → c < 10000 → Short 
 place_short a b c x y z = joins (num a x) (spaced (joins (num b y) (spaced (num c z))))
 
 -- a call
-on_short : (rank comm : ℕ) (behind : List ℕ) → rank < 1024 → comm < 256 → Short 9 behind → Short 18 (on_comm_text rank comm behind)
+on_short : (rank comm : ℕ) (behind : List ℕ) → rank < 1024 → comm < 256 → Short 17 behind → Short 26 (on_comm_text rank comm behind)
 on_short rank comm behind x y b = joins (num rank (omega (arith, x))) (spaced (joins (num comm (omega (arith, y))) b))
 
-call_short : (asked : ScriptCall) → IsSpelled asked → Short 40 (call_text asked)
-call_short (call.Fail rank) is = wider (joins (lit (codes "fail ") refl) (num rank (let lt = is.1.0 in omega (arith, lt)))) (omega arith)
-call_short (call.GetFailed rank comm) is = wider (joins (lit (codes "get ") refl) (on_short rank comm [] is.1.rank_fits is.1.comm_fits (wider none (omega arith)))) (omega arith)
-call_short (call.Ack rank comm count) is = wider (joins (lit (codes "ack ") refl) (on_short rank comm (32 ∷ decimal count) is.1.1.rank_fits is.1.1.comm_fits (wider (spaced (num count is.1.0)) (omega arith)))) (omega arith)
-call_short (call.Agree rank comm flag) is = wider (joins (lit (codes "agree ") refl) (on_short rank comm (32 ∷ flag_text flag) is.1.rank_fits is.1.comm_fits (spaced (flag_short flag)))) (omega arith)
-call_short (call.Shrink rank comm) is = wider (joins (lit (codes "shrink ") refl) (on_short rank comm [] is.1.rank_fits is.1.comm_fits (wider none (omega arith)))) (omega arith)
-call_short (call.Barrier rank comm) is = wider (joins (lit (codes "barrier ") refl) (on_short rank comm [] is.1.rank_fits is.1.comm_fits (wider none (omega arith)))) (omega arith)
-call_short (call.Poll rank comm) is = wider (joins (lit (codes "poll ") refl) (on_short rank comm [] is.1.rank_fits is.1.comm_fits (wider none (omega arith)))) (omega arith)
-call_short (call.Revoke rank comm) is = wider (joins (lit (codes "revoke ") refl) (on_short rank comm [] is.1.rank_fits is.1.comm_fits (wider none (omega arith)))) (omega arith)
-call_short (call.IsRevoked rank comm) is = wider (joins (lit (codes "isrevoked ") refl) (on_short rank comm [] is.1.rank_fits is.1.comm_fits (wider none (omega arith)))) (omega arith)
-call_short (call.Free rank comm) is = wider (joins (lit (codes "free ") refl) (on_short rank comm [] is.1.rank_fits is.1.comm_fits (wider none (omega arith)))) (omega arith)
+call_short : (padded : Bool) (asked : ScriptCall) → IsSpelledAs padded asked → Short 40 (spelled_text padded asked)
+call_short padded (call.Fail rank) is = wider (joins (lit (codes "fail ") refl) (num rank (let lt = is.1.spells.0 in omega (arith, lt)))) (omega arith)
+call_short padded (call.GetFailed rank comm) is = wider (joins (lit (codes "get ") refl) (on_short rank comm [] is.1.spells.rank_fits is.1.spells.comm_fits (wider none (omega arith)))) (omega arith)
+call_short padded (call.Ack rank comm count) is = wider (joins (lit (codes "ack ") refl) (on_short rank comm (32 ∷ decimal count) is.1.spells.1.rank_fits is.1.spells.1.comm_fits (wider (spaced (num count is.1.spells.0)) (omega arith)))) (omega arith)
+call_short padded (call.Agree rank comm flag) is = wider (joins (lit (codes "agree ") refl) (on_short rank comm (32 ∷ spelled_flag padded flag) is.1.spells.2.rank_fits is.1.spells.2.comm_fits (spaced (spelled_short padded flag)))) (omega arith)
+call_short padded (call.Shrink rank comm) is = wider (joins (lit (codes "shrink ") refl) (on_short rank comm [] is.1.spells.rank_fits is.1.spells.comm_fits (wider none (omega arith)))) (omega arith)
+call_short padded (call.Barrier rank comm) is = wider (joins (lit (codes "barrier ") refl) (on_short rank comm [] is.1.spells.rank_fits is.1.spells.comm_fits (wider none (omega arith)))) (omega arith)
+call_short padded (call.Poll rank comm) is = wider (joins (lit (codes "poll ") refl) (on_short rank comm [] is.1.spells.rank_fits is.1.spells.comm_fits (wider none (omega arith)))) (omega arith)
+call_short padded (call.Revoke rank comm) is = wider (joins (lit (codes "revoke ") refl) (on_short rank comm [] is.1.spells.rank_fits is.1.spells.comm_fits (wider none (omega arith)))) (omega arith)
+call_short padded (call.IsRevoked rank comm) is = wider (joins (lit (codes "isrevoked ") refl) (on_short rank comm [] is.1.spells.rank_fits is.1.spells.comm_fits (wider none (omega arith)))) (omega arith)
+call_short padded (call.Free rank comm) is = wider (joins (lit (codes "free ") refl) (on_short rank comm [] is.1.spells.rank_fits is.1.spells.comm_fits (wider none (omega arith)))) (omega arith)
 
 -- an event
-offer_short : (offer : Offer FlagAnd) → Short 13 (offer_text offer)
+offer_short : (offer : Offer FlagAnd) → Short 21 (offer_text offer)
 offer_short (Flag flag) = joins (lit (codes "flag ") refl) (flag_short flag)
 offer_short (Ctx mask) = wider (joins (lit (codes "ctx ") refl) (flag_short (mask_flag mask))) (omega arith)
 
-given_short : (offer : Offer FlagAnd) (known acked : ℕ) → known < 10000 → acked < 10000 → Short 40 (given_text offer known acked)
+given_short : (offer : Offer FlagAnd) (known acked : ℕ) → known < 10000 → acked < 10000 → Short 48 (given_text offer known acked)
 given_short offer known acked x y =
     wider (joins (offer_short offer) (joins (lit (codes " known ") refl) (joins (num known x) (joins (lit (codes " acked ") refl) (num acked y))))) (omega arith)
 
@@ -155,7 +159,7 @@ refused_short refusal.OutOfMemory = refusal_short 14 (codes "out-of-memory") (om
 refused_short refusal.Twice = refusal_short 15 (codes "twice") (omega arith) (wider (lit (codes "twice") refl) (omega arith))
 
 -- a reply, which lists at most 1,024 ranks
-raised_short : (value : FlagAnd) (count : ℕ) (raised : Bool) → count < 10000 → Short 40 (reply_text [] (reply.Agreed value count raised))
+raised_short : (value : FlagAnd) (count : ℕ) (raised : Bool) → count < 10000 → Short 48 (reply_text [] (reply.Agreed value count raised))
 raised_short value count true lt = wider (joins (lit (codes "agreed ") refl) (joins (flag_short value) (joins (lit (codes " failed ") refl) (joins (num count lt) (lit (codes " raised") refl))))) (omega arith)
 raised_short value count false lt = wider (joins (lit (codes "agreed ") refl) (joins (flag_short value) (joins (lit (codes " failed ") refl) (joins (num count lt) (lit (codes " clean") refl))))) (omega arith)
 
@@ -191,7 +195,7 @@ reply_short group (reply.Refused one) fits few = wider (refused_short one) (omeg
 
 -- a line that fits, and lists at most 1,024 ranks
 pub line_short : (group : List ℕ) (line : TraceLine) → LineFits group line → length group ≤ 1024 → Short 8192 (line_text group line)
-line_short group (Called asked) fits few = wider (joins (lit (codes "call ") refl) (call_short asked fits.0)) (omega arith)
+line_short group (Called asked padded) fits few = wider (joins (lit (codes "call ") refl) (call_short padded asked fits.0)) (omega arith)
 line_short group (Looked r count) fits few =
     let x = fits.0 in wider (joins (lit (codes "look ") refl) (joins (num r (omega (arith, x))) (spaced (num count fits.1)))) (omega arith)
 line_short group (Happened by None) fits few = absurd fits

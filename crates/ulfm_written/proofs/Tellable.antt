@@ -48,7 +48,7 @@ spelled_caller : (asked : ScriptCall) → IsSpelled asked → CallerFits (traits
 spelled_caller (call.Fail rank) is = tt
 spelled_caller (call.GetFailed rank comm) is = is.1.rank_fits
 spelled_caller (call.Ack rank comm count) is = is.1.1.rank_fits
-spelled_caller (call.Agree rank comm flag) is = is.1.rank_fits
+spelled_caller (call.Agree rank comm flag) is = is.1.2.rank_fits
 spelled_caller (call.Shrink rank comm) is = is.1.rank_fits
 spelled_caller (call.Barrier rank comm) is = is.1.rank_fits
 spelled_caller (call.Poll rank comm) is = is.1.rank_fits
@@ -288,7 +288,7 @@ module _ (now : TraceState) (wide : MayOpen now.limits) (kept : Keeps now) where
 
   -- a line that may come can be told
   pub line_tells : (group : List ℕ) (line : TraceLine) → MayCome flag_meld now group line → CalledFits line → IsAnswered now line → IsTellable group line
-  line_tells group (Line.Called asked) may fits answered = record { fits = (fits, refl); few = omega arith }
+  line_tells group (Line.Called asked padded) may fits answered = record { fits = (fits, refl); few = omega arith }
   line_tells group (Line.Looked r count) may fits answered =
       let few = failures_few now.limits wide now.history kept.legal in
       let is = may.1 in

@@ -31,7 +31,7 @@ AllTellable trace = AllByRecursion (λ (told : Told FlagAnd). IsTellable told.gr
 -- each reply is an answer
 answer_of : (limits : Limits) (before rest : TraceLines) (group : List ℕ) (line : TraceLine) → IsLegalTrace flag_meld limits (before ++ record { line = line; group = group } ∷ rest)
     → IsAnswered (said_by (nothing limits) before) line
-answer_of limits before rest group (Line.Called asked) legal = tt
+answer_of limits before rest group (Line.Called asked padded) legal = tt
 answer_of limits before rest group (Line.Looked r count) legal = tt
 answer_of limits before rest group (Line.Happened by event) legal = tt
 answer_of limits before rest group (Line.Replied by point None) legal = tt
@@ -60,7 +60,7 @@ abbrev listing : Told FlagAnd → Told FlagAnd
 listing told = record { line = told.line; group = told_group told.group told.line }
 
 text_same : (group : List ℕ) (line : TraceLine) → line_text (told_group group line) line ≡ line_text group line
-text_same group (Line.Called asked) = refl
+text_same group (Line.Called asked padded) = refl
 text_same group (Line.Looked r count) = refl
 text_same group (Line.Happened by event) = refl
 text_same group (Line.Replied by point told) = refl
@@ -91,7 +91,7 @@ texts_length (told ∷ rest) = let more = texts_length rest in omega (arith, mor
 
 -- a line may come whatever ranks stand beside it, where it lists none
 may_list : (now : TraceState) (group : List ℕ) (line : TraceLine) → MayCome flag_meld now group line → MayCome flag_meld now (told_group group line) line
-may_list now group (Line.Called asked) may = may
+may_list now group (Line.Called asked padded) may = may
 may_list now group (Line.Looked r count) may = may
 may_list now group (Line.Happened by None) may = may
 may_list now group (Line.Happened by (Some event)) may = may

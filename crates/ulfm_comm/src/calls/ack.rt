@@ -35,12 +35,12 @@ impl<P: Packed, A: Allocator + Copy> Rank<P, A> {
         comm: u16,
         count: u16,
     ) -> Result<u16, Refusal>
-        requires of { IsView P.meld (view_of world.now (W.sight pass.old)) }
-        requires fits { FitsView P.meld (local self.old.own (view_of world.now (W.sight pass.old))) }
-        ensures calls { Calls P.meld W.alone (Asked self.old.own.number comm count) (local self.old.own (view_of world.now (W.sight pass.old)))
-            (reply_of Answered result) (local self.new.own (view_of world.now (W.sight pass.new))) }
-        ensures steps { TakesSteps {P = P} (Asked self.old.own.number comm count) (local self.old.own (view_of world.now (W.sight pass.old)))
-            self.new.last (local self.new.own (view_of world.now (W.sight pass.new))) }
+        requires of { IsView P.meld (view_of P.pack world.now (W.sight pass.old)) }
+        requires fits { FitsView P.meld (local self.old.own (view_of P.pack world.now (W.sight pass.old))) }
+        ensures calls { Calls P.meld W.alone (Asked self.old.own.number comm count) (local self.old.own (view_of P.pack world.now (W.sight pass.old)))
+            (reply_of Answered result) (local self.new.own (view_of P.pack world.now (W.sight pass.new))) }
+        ensures steps { TakesSteps {P = P} (Asked self.old.own.number comm count) (local self.old.own (view_of P.pack world.now (W.sight pass.old)))
+            self.new.last (local self.new.own (view_of P.pack world.now (W.sight pass.new))) }
     {
         let rank = self.number();
         acked(self.call(world, pass, Call::Ack { rank, comm, count }))

@@ -18,7 +18,7 @@ use ulfm_words::Words;
 impl<P: Packed, A: Allocator + Copy> Rank<P, A> {
     /// Starts an agree on a flag, in the rank's next agreement round of the communicator. The rank contributes the flag, how many
     /// failures it knows, and how many of them it has acknowledged. From then on the request is open, until a poll ends it. It makes
-    /// the steps of a look (see `Rank`) and one more (ULFM: Communicator Functions, `MPI_COMM_IAGREE`).
+    /// the steps of a look (see `Rank`) and two more (ULFM: Communicator Functions, `MPI_COMM_IAGREE`).
     ///
     /// `SelfFailed` where the rank is declared failed, `NoSuchComm` where it doesn't hold the communicator, `Busy` where a request
     /// is open on it, `RoundsUsedUp` where no round is left but the last, which is kept for a shrink. After these
@@ -39,12 +39,12 @@ impl<P: Packed, A: Allocator + Copy> Rank<P, A> {
         comm: u16,
         value: P,
     ) -> Result<(), Refusal>
-        requires of { IsView P.meld (view_of world.now (W.sight pass.old)) }
-        requires fits { FitsView P.meld (local self.old.own (view_of world.now (W.sight pass.old))) }
-        ensures calls { Calls P.meld W.alone (Asked self.old.own.number comm value) (local self.old.own (view_of world.now (W.sight pass.old)))
-            (reply_of (λ _. Started) result) (local self.new.own (view_of world.now (W.sight pass.new))) }
-        ensures steps { TakesSteps {P = P} (Asked self.old.own.number comm value) (local self.old.own (view_of world.now (W.sight pass.old)))
-            self.new.last (local self.new.own (view_of world.now (W.sight pass.new))) }
+        requires of { IsView P.meld (view_of P.pack world.now (W.sight pass.old)) }
+        requires fits { FitsView P.meld (local self.old.own (view_of P.pack world.now (W.sight pass.old))) }
+        ensures calls { Calls P.meld W.alone (Asked self.old.own.number comm value) (local self.old.own (view_of P.pack world.now (W.sight pass.old)))
+            (reply_of (λ _. Started) result) (local self.new.own (view_of P.pack world.now (W.sight pass.new))) }
+        ensures steps { TakesSteps {P = P} (Asked self.old.own.number comm value) (local self.old.own (view_of P.pack world.now (W.sight pass.old)))
+            self.new.last (local self.new.own (view_of P.pack world.now (W.sight pass.new))) }
     {
         let rank = self.number();
         let asked = Call::Agree { rank, comm, value };

@@ -26,9 +26,9 @@ where
     /// assert!(rt; world.fail(&mut pass, 2) == Err(Refusal::NoSuchRank));
     /// ```
     pub fn fail(&self, pass: &mut W::Pass, rank: u16) -> Result<bool, Refusal>
-        requires of { IsView P.meld (view_of self.now (W.sight pass.old)) }
-        ensures { Fails P.meld W.alone rank (view_of self.now (W.sight pass.old)) (reply_of declared result)
-            (view_of self.now (W.sight pass.new)) }
+        requires of { IsView P.meld (view_of P.pack self.now (W.sight pass.old)) }
+        ensures { Fails P.meld W.alone rank (view_of P.pack self.now (W.sight pass.old)) (reply_of declared result)
+            (view_of P.pack self.now (W.sight pass.new)) }
     {
         if rank >= self.words.limits().ranks {
             return Err(Refusal::NoSuchRank);

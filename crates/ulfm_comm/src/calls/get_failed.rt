@@ -39,15 +39,15 @@ impl<P: Packed, A: Allocator + Copy> Rank<P, A> {
         comm: u16,
         found: &mut Vec<u16, B>,
     ) -> Result<(), Refusal>
-        requires of { IsView P.meld (view_of world.now (W.sight pass.old)) }
-        requires fits { FitsView P.meld (local self.old.own (view_of world.now (W.sight pass.old))) }
-        ensures gets { Gets P.meld W.alone (Asked self.old.own.number comm) (local self.old.own (view_of world.now (W.sight pass.old)))
-            (length found.new.items) result (local self.new.own (view_of world.now (W.sight pass.new))) }
-        ensures group { IfOk result (λ _. found.new.items ≡ failed_in (view_of world.now (W.sight pass.new)) comm) }
+        requires of { IsView P.meld (view_of P.pack world.now (W.sight pass.old)) }
+        requires fits { FitsView P.meld (local self.old.own (view_of P.pack world.now (W.sight pass.old))) }
+        ensures gets { Gets P.meld W.alone (Asked self.old.own.number comm) (local self.old.own (view_of P.pack world.now (W.sight pass.old)))
+            (length found.new.items) result (local self.new.own (view_of P.pack world.now (W.sight pass.new))) }
+        ensures group { IfOk result (λ _. found.new.items ≡ failed_in (view_of P.pack world.now (W.sight pass.new)) comm) }
         ensures kept { OnErr result (found.new.items ≡ found.old.items) }
-        ensures memory { result ≡ Err NoMemory → vec_capacity found.old < length (failed_in (view_of world.now (W.sight pass.new)) comm) }
-        ensures steps { TakesSteps {P = P} (Asked self.old.own.number comm) (local self.old.own (view_of world.now (W.sight pass.old)))
-            self.new.last (local self.new.own (view_of world.now (W.sight pass.new))) }
+        ensures memory { result ≡ Err NoMemory → vec_capacity found.old < length (failed_in (view_of P.pack world.now (W.sight pass.new)) comm) }
+        ensures steps { TakesSteps {P = P} (Asked self.old.own.number comm) (local self.old.own (view_of P.pack world.now (W.sight pass.old)))
+            self.new.last (local self.new.own (view_of P.pack world.now (W.sight pass.new))) }
     {
         let rank = self.number();
         counted(self.call(world, pass, Call::GetFailed { rank, comm }))?;

@@ -33,12 +33,12 @@ impl<P: Packed, A: Allocator + Copy> Rank<P, A> {
         pass: &mut W::Pass,
         comm: u16,
     ) -> Result<bool, Refusal>
-        requires of { IsView P.meld (view_of world.now (W.sight pass.old)) }
-        requires fits { FitsView P.meld (local self.old.own (view_of world.now (W.sight pass.old))) }
-        ensures calls { Calls P.meld W.alone (Asked self.old.own.number comm) (local self.old.own (view_of world.now (W.sight pass.old)))
-            (reply_of Standing result) (local self.new.own (view_of world.now (W.sight pass.new))) }
-        ensures steps { TakesSteps {P = P} (Asked self.old.own.number comm) (local self.old.own (view_of world.now (W.sight pass.old)))
-            self.new.last (local self.new.own (view_of world.now (W.sight pass.new))) }
+        requires of { IsView P.meld (view_of P.pack world.now (W.sight pass.old)) }
+        requires fits { FitsView P.meld (local self.old.own (view_of P.pack world.now (W.sight pass.old))) }
+        ensures calls { Calls P.meld W.alone (Asked self.old.own.number comm) (local self.old.own (view_of P.pack world.now (W.sight pass.old)))
+            (reply_of Standing result) (local self.new.own (view_of P.pack world.now (W.sight pass.new))) }
+        ensures steps { TakesSteps {P = P} (Asked self.old.own.number comm) (local self.old.own (view_of P.pack world.now (W.sight pass.old)))
+            self.new.last (local self.new.own (view_of P.pack world.now (W.sight pass.new))) }
     {
         let rank = self.number();
         standing(self.call(world, pass, Call::IsRevoked { rank, comm }))

@@ -1,6 +1,6 @@
 // Who is still missing in the round of an open request, so that whoever waits can tell for whom. No call of MPI's.
-ghost use Rattle.std.specs.Prelude.{◌≡◌, ◌+◌, ◌<◌, ◌≤◌, [], false, Err, IfOk, OnErr, length, vec_capacity};
-ghost use Rattle.ulfm_model.specs.Records.{held_at};
+ghost use Rattle.std.specs.Prelude.{◌≡◌, ◌+◌, ◌<◌, ◌≤◌, [], false, Err, IfOk, OnErr, is_some, length, vec_capacity};
+ghost use Rattle.ulfm_model.specs.{History.{slot}, Records.{held_at}};
 ghost use Rattle.ulfm_model.specs.declared.refusal.Refusal.TheVariants.{OutOfMemory as NoMemory};
 ghost use Rattle.ulfm_words.specs.Places.{IsCell};
 ghost use Rattle.ulfm_words.specs.Steps.{view_of, IsView, Goes, limits_in, seen_in, steps_in};
@@ -14,7 +14,29 @@ use std::alloc::Allocator;
 use ulfm_laws::meld::Packed;
 use ulfm_model::call::Request;
 use ulfm_model::refusal::Refusal;
-use ulfm_words::{Words, load_arrival, load_summary};
+use ulfm_words::{Found, Words, load_arrival, load_slot};
+
+// Whether a member is settled in an agreement round, by one load of its place.
+#[inline(always)]
+fn load_settled<P: Packed, A: Allocator, W: Words<P, A>>(
+    words: &W,
+    pass: &mut W::Pass,
+    comm: u16,
+    round: u16,
+    rank: u16,
+) -> bool
+    requires of { IsView P.meld (view_of P.pack (W.name words.now) (W.sight pass.old)) }
+    requires within { IsCell (limits_in (view_of P.pack (W.name words.now) (W.sight pass.old))) comm round rank }
+    ensures goes { Goes P.meld W.alone false 1 (view_of P.pack (W.name words.now) (W.sight pass.old)) (view_of P.pack (W.name words.now) (W.sight pass.new)) }
+    ensures steps { steps_in (view_of P.pack (W.name words.now) (W.sight pass.new)) ≡ steps_in (view_of P.pack (W.name words.now) (W.sight pass.old)) + 1 }
+    ensures settled { result ≡ is_some (slot (seen_in (view_of P.pack (W.name words.now) (W.sight pass.new))) comm round rank) }
+{
+    match load_slot(words, pass, comm, round, rank) {
+        Found::Nothing => false,
+        Found::Marked(_) => true,
+        Found::First(_) => true,
+    }
+}
 
 // Whether a member has come into the round of a request, by one load of its place.
 #[inline(always)]
@@ -25,15 +47,15 @@ fn load_come<P: Packed, A: Allocator, W: Words<P, A>>(
     request: Request,
     rank: u16,
 ) -> bool
-    requires of { IsView P.meld (view_of (W.name words.now) (W.sight pass.old)) }
-    requires within { IsCell (limits_in (view_of (W.name words.now) (W.sight pass.old))) comm (round_in request) rank }
-    ensures goes { Goes P.meld W.alone false 1 (view_of (W.name words.now) (W.sight pass.old)) (view_of (W.name words.now) (W.sight pass.new)) }
-    ensures steps { steps_in (view_of (W.name words.now) (W.sight pass.new)) ≡ steps_in (view_of (W.name words.now) (W.sight pass.old)) + 1 }
-    ensures come { result ≡ has_come (seen_in (view_of (W.name words.now) (W.sight pass.new))) comm request rank }
+    requires of { IsView P.meld (view_of P.pack (W.name words.now) (W.sight pass.old)) }
+    requires within { IsCell (limits_in (view_of P.pack (W.name words.now) (W.sight pass.old))) comm (round_in request) rank }
+    ensures goes { Goes P.meld W.alone false 1 (view_of P.pack (W.name words.now) (W.sight pass.old)) (view_of P.pack (W.name words.now) (W.sight pass.new)) }
+    ensures steps { steps_in (view_of P.pack (W.name words.now) (W.sight pass.new)) ≡ steps_in (view_of P.pack (W.name words.now) (W.sight pass.old)) + 1 }
+    ensures come { result ≡ has_come (seen_in (view_of P.pack (W.name words.now) (W.sight pass.new))) comm request rank }
 {
     match request {
-        Request::Agree { round } => load_summary(words, pass, comm, round, rank).is_some(),
-        Request::Shrink { round } => load_summary(words, pass, comm, round, rank).is_some(),
+        Request::Agree { round } => load_settled(words, pass, comm, round, rank),
+        Request::Shrink { round } => load_settled(words, pass, comm, round, rank),
         Request::Barrier { round } => load_arrival(words, pass, comm, round, rank),
     }
 }
@@ -47,16 +69,16 @@ fn put_missing<P: Packed, A: Allocator, W: Words<P, A>, B: Allocator>(
     group: &[u16],
     found: &mut Vec<u16, B>,
 )
-    requires of { IsView P.meld (view_of (W.name words.now) (W.sight pass.old)) }
-    requires round { IsRoundIn (view_of (W.name words.now) (W.sight pass.old)) comm (round_in request) group.now }
+    requires of { IsView P.meld (view_of P.pack (W.name words.now) (W.sight pass.old)) }
+    requires round { IsRoundIn (view_of P.pack (W.name words.now) (W.sight pass.old)) comm (round_in request) group.now }
     requires empty { found.old.items ≡ [] }
     requires room { length group.now ≤ vec_capacity found.old }
-    ensures goes { Goes P.meld W.alone false (length group.now) (view_of (W.name words.now) (W.sight pass.old))
-        (view_of (W.name words.now) (W.sight pass.new)) }
-    ensures steps { steps_in (view_of (W.name words.now) (W.sight pass.new))
-        ≡ steps_in (view_of (W.name words.now) (W.sight pass.old)) + length group.now }
-    ensures are { AreMissing comm request group.now (seen_in (view_of (W.name words.now) (W.sight pass.old)))
-        (seen_in (view_of (W.name words.now) (W.sight pass.new))) found.new.items }
+    ensures goes { Goes P.meld W.alone false (length group.now) (view_of P.pack (W.name words.now) (W.sight pass.old))
+        (view_of P.pack (W.name words.now) (W.sight pass.new)) }
+    ensures steps { steps_in (view_of P.pack (W.name words.now) (W.sight pass.new))
+        ≡ steps_in (view_of P.pack (W.name words.now) (W.sight pass.old)) + length group.now }
+    ensures are { AreMissing comm request group.now (seen_in (view_of P.pack (W.name words.now) (W.sight pass.old)))
+        (seen_in (view_of P.pack (W.name words.now) (W.sight pass.new))) found.new.items }
 {
     for rank in group {
         if !load_come(words, pass, comm, request, *rank) {
@@ -93,15 +115,15 @@ impl<P: Packed, A: Allocator> Rank<P, A> {
         comm: u16,
         found: &mut Vec<u16, B>,
     ) -> Result<(), Refusal>
-        requires of { IsView P.meld (view_of world.now (W.sight pass.old)) }
-        requires fits { FitsView P.meld (local self.now.own (view_of world.now (W.sight pass.old))) }
+        requires of { IsView P.meld (view_of P.pack world.now (W.sight pass.old)) }
+        requires fits { FitsView P.meld (local self.now.own (view_of P.pack world.now (W.sight pass.old))) }
         ensures ends { EndsHeld (held_at self.now.own comm) result }
-        ensures tells { IfOk result (λ _. TellsMissing P.meld W.alone self.now.own comm (view_of world.now (W.sight pass.old))
-            (view_of world.now (W.sight pass.new)) found.new.items) }
+        ensures tells { IfOk result (λ _. TellsMissing P.meld W.alone self.now.own comm (view_of P.pack world.now (W.sight pass.old))
+            (view_of P.pack world.now (W.sight pass.new)) found.new.items) }
         ensures kept { OnErr result ((found.new.items ≡ found.old.items) × (W.sight pass.new ≡ W.sight pass.old)) }
         ensures memory { result ≡ Err NoMemory → vec_capacity found.old < size_held (held_at self.now.own comm) }
-        ensures of { IsView P.meld (view_of world.now (W.sight pass.new)) }
-        ensures fits { FitsView P.meld (local self.now.own (view_of world.now (W.sight pass.new))) }
+        ensures of { IsView P.meld (view_of P.pack world.now (W.sight pass.new)) }
+        ensures fits { FitsView P.meld (local self.now.own (view_of P.pack world.now (W.sight pass.new))) }
     {
         let Some(x) = self.own.held(comm) else {
             return Err(Refusal::NoSuchComm);

@@ -42,7 +42,7 @@ impl<P: Packed, A: Allocator + Copy> Rank<P, A> {
     /// isn't, and a member that is known to have failed is missing. Both end the request.
     ///
     /// With N ranks, of which the rank has seen v declared, n members and M communicators, the poll of an agree makes
-    /// N - v + 3n + 2 steps at most, that of a shrink N - v + 3n + 2M + 1, and that of a barrier N - v + n + 1, whatever the others do.
+    /// N - v + 5n + 4 steps at most, that of a shrink N - v + 5n + 2M + 3, and that of a barrier N - v + n + 1, whatever the others do.
     ///
     /// ```
     /// let value = FlagAnd { bits: 0b0110 };
@@ -62,14 +62,14 @@ impl<P: Packed, A: Allocator + Copy> Rank<P, A> {
         pass: &mut W::Pass,
         comm: u16,
     ) -> Result<Polled<P>, Refusal>
-        requires of { IsView P.meld (view_of world.now (W.sight pass.old)) }
-        requires fits { FitsView P.meld (local self.old.own (view_of world.now (W.sight pass.old))) }
-        ensures calls { Polls P.meld W.alone (Asked self.old.own.number comm) (local self.old.own (view_of world.now (W.sight pass.old))) result
-            (local self.new.own (view_of world.now (W.sight pass.new))) }
-        ensures pending { IfOk result (EndsIn P.meld W.alone comm (local self.old.own (view_of world.now (W.sight pass.old)))
-            (local self.new.own (view_of world.now (W.sight pass.new)))) }
-        ensures steps { TakesSteps {P = P} (Asked self.old.own.number comm) (local self.old.own (view_of world.now (W.sight pass.old)))
-            self.new.last (local self.new.own (view_of world.now (W.sight pass.new))) }
+        requires of { IsView P.meld (view_of P.pack world.now (W.sight pass.old)) }
+        requires fits { FitsView P.meld (local self.old.own (view_of P.pack world.now (W.sight pass.old))) }
+        ensures calls { Polls P.meld W.alone (Asked self.old.own.number comm) (local self.old.own (view_of P.pack world.now (W.sight pass.old))) result
+            (local self.new.own (view_of P.pack world.now (W.sight pass.new))) }
+        ensures pending { IfOk result (EndsIn P.meld W.alone comm (local self.old.own (view_of P.pack world.now (W.sight pass.old)))
+            (local self.new.own (view_of P.pack world.now (W.sight pass.new)))) }
+        ensures steps { TakesSteps {P = P} (Asked self.old.own.number comm) (local self.old.own (view_of P.pack world.now (W.sight pass.old)))
+            self.new.last (local self.new.own (view_of P.pack world.now (W.sight pass.new))) }
     {
         let rank = self.number();
         polled(self.call(world, pass, Call::Poll { rank, comm }))

@@ -20,7 +20,7 @@ use ulfm_words::Words;
 impl<P: Packed, A: Allocator + Copy> Rank<P, A> {
     /// Starts a shrink of a communicator, in the rank's next agreement round of it. The rank contributes the context ids that none of
     /// its communicators has, how many failures it knows, all of which are to be left out, and how many of them it has acknowledged.
-    /// From then on the request is open, until a poll ends it. It makes the steps of a look (see `Rank`) and one more (ULFM:
+    /// From then on the request is open, until a poll ends it. It makes the steps of a look (see `Rank`) and two more (ULFM:
     /// Communicator Functions, `MPI_COMM_ISHRINK`).
     ///
     /// `SelfFailed` where the rank is declared failed, `NoSuchComm` where it doesn't hold the communicator, `Busy` where a request
@@ -46,14 +46,14 @@ impl<P: Packed, A: Allocator + Copy> Rank<P, A> {
         pass: &mut W::Pass,
         comm: u16,
     ) -> Result<(), Refusal>
-        requires of { IsView P.meld (view_of world.now (W.sight pass.old)) }
-        requires fits { FitsView P.meld (local self.old.own (view_of world.now (W.sight pass.old))) }
-        ensures calls { Calls P.meld W.alone (Asked self.old.own.number comm) (local self.old.own (view_of world.now (W.sight pass.old)))
-            (reply_of (λ _. Started) result) (local self.new.own (view_of world.now (W.sight pass.new))) }
-        ensures excludes { IfOk result (λ _. LeavesOut P.meld comm (local self.old.own (view_of world.now (W.sight pass.old)))
-            (local self.new.own (view_of world.now (W.sight pass.new)))) }
-        ensures steps { TakesSteps {P = P} (Asked self.old.own.number comm) (local self.old.own (view_of world.now (W.sight pass.old)))
-            self.new.last (local self.new.own (view_of world.now (W.sight pass.new))) }
+        requires of { IsView P.meld (view_of P.pack world.now (W.sight pass.old)) }
+        requires fits { FitsView P.meld (local self.old.own (view_of P.pack world.now (W.sight pass.old))) }
+        ensures calls { Calls P.meld W.alone (Asked self.old.own.number comm) (local self.old.own (view_of P.pack world.now (W.sight pass.old)))
+            (reply_of (λ _. Started) result) (local self.new.own (view_of P.pack world.now (W.sight pass.new))) }
+        ensures excludes { IfOk result (λ _. LeavesOut P.meld comm (local self.old.own (view_of P.pack world.now (W.sight pass.old)))
+            (local self.new.own (view_of P.pack world.now (W.sight pass.new)))) }
+        ensures steps { TakesSteps {P = P} (Asked self.old.own.number comm) (local self.old.own (view_of P.pack world.now (W.sight pass.old)))
+            self.new.last (local self.new.own (view_of P.pack world.now (W.sight pass.new))) }
     {
         let rank = self.number();
         started(self.call(world, pass, Call::Shrink { rank, comm }))

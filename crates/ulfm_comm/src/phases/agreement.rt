@@ -3,7 +3,7 @@ ghost use Rattle.std.specs.Prelude.{ℕ, Bool, List, ◌≡◌, ◌+◌, ◌<◌
 ghost use Rattle.ulfm_model.specs.{Answers.{closed}, Records.{Record}, Terms.{comm_of}};
 ghost use Rattle.ulfm_comm.specs.{Phase.{IsPast, NextBelow, NextIs, StillStands, is_looking, left}, Step.{TakesTurn}};
 ghost use Rattle.ulfm_comm.specs.Agreement.{HasPeeked, HasReadAll, agreed_reply};
-ghost use Rattle.ulfm_model.specs.declared.block.Block.{Block};
+ghost use Rattle.ulfm_model.specs.declared.block.Beside.{Beside};
 ghost use Rattle.ulfm_comm.specs.StepsLeft.{FewerLeft, after_peek, after_round, steps_left};
 ghost use Rattle.ulfm_comm.specs.{AlsoLeft.{also_after_round, also_in}, Known.{KnowsIn}};
 ghost use Rattle.ulfm_comm.specs.declared.phases.phase.Next.TheVariants.{Goes as NextGoes};
@@ -38,13 +38,13 @@ impl<P: Packed, A: Allocator> LocalState<P, A> {
         shrinks: bool,
         whole: bool,
     ) -> Next<P>
-        requires of { IsView P.meld (view_of (W.name words.now) (W.sight pass.old)) }
+        requires of { IsView P.meld (view_of P.pack (W.name words.now) (W.sight pass.old)) }
         requires stands { (group : List ℕ)
             × StillStands P.meld (under_way asked.now (AtMarking marks blocks shrinks) group)
-            (local self.now (view_of (W.name words.now) (W.sight pass.old))) }
+            (local self.now (view_of P.pack (W.name words.now) (W.sight pass.old))) }
         ensures { (group : List ℕ) → TakesTurn P.meld W.alone whole (under_way asked.now (AtMarking marks blocks shrinks) group)
-            (local self.now (view_of (W.name words.now) (W.sight pass.old))) (coming result group)
-            (local self.now (view_of (W.name words.now) (W.sight pass.new))) }
+            (local self.now (view_of P.pack (W.name words.now) (W.sight pass.old))) (coming result group)
+            (local self.now (view_of P.pack (W.name words.now) (W.sight pass.new))) }
     {
         let x = self.held_comm(comm_of(asked));
         let seen = self.failures();
@@ -74,20 +74,20 @@ impl<P: Packed, A: Allocator> LocalState<P, A> {
         peek: Peek<P>,
         shrinks: bool,
     ) -> Phase<P>
-        requires of { IsView P.meld (view_of (W.name words.now) (W.sight pass.now)) }
+        requires of { IsView P.meld (view_of P.pack (W.name words.now) (W.sight pass.now)) }
         requires peeked { (old : Record) × (before : Sight P)
-            × HasPeeked P.meld false asked.now shrinks peek (local old (view_of (W.name words.now) before))
-            (local self.now (view_of (W.name words.now) (W.sight pass.now))) }
+            × HasPeeked P.meld false asked.now shrinks peek (local old (view_of P.pack (W.name words.now) before))
+            (local self.now (view_of P.pack (W.name words.now) (W.sight pass.now))) }
         ensures further { left result < 7 }
         ensures past { is_looking result ≡ false }
         ensures nearer { steps_left (W.name words.now).limits self.now asked.now result
             ≤ after_peek (W.name words.now).limits self.now asked.now shrinks }
-        ensures knows { (cached : List Block) → KnowsIn self.now asked.now cached (AtPeeking peek shrinks) → KnowsIn self.now asked.now cached result }
+        ensures knows { (cached : List Beside) → KnowsIn self.now asked.now cached (AtPeeking peek shrinks) → KnowsIn self.now asked.now cached result }
         ensures turns { (group : List ℕ) (alone : Bool) (old : Record) (before : Sight P)
-            → HasPeeked P.meld alone asked.now shrinks peek (local old (view_of (W.name words.now) before))
-            (local self.now (view_of (W.name words.now) (W.sight pass.now)))
-            → NextIs P.meld alone asked.now (local old (view_of (W.name words.now) before)) (NextGoes result) group
-            (local self.now (view_of (W.name words.now) (W.sight pass.now))) }
+            → HasPeeked P.meld alone asked.now shrinks peek (local old (view_of P.pack (W.name words.now) before))
+            (local self.now (view_of P.pack (W.name words.now) (W.sight pass.now)))
+            → NextIs P.meld alone asked.now (local old (view_of P.pack (W.name words.now) before)) (NextGoes result) group
+            (local self.now (view_of P.pack (W.name words.now) (W.sight pass.now))) }
     {
         let comm = comm_of(asked);
         let x = self.held_comm(comm);
@@ -122,12 +122,12 @@ impl<P: Packed, A: Allocator + Copy> LocalState<P, A> {
         whole: bool,
         group: &mut Vec<u16, A>,
     ) -> Next<P>
-        requires of { IsView P.meld (view_of (W.name words.now) (W.sight pass.old)) }
+        requires of { IsView P.meld (view_of P.pack (W.name words.now) (W.sight pass.old)) }
         requires stands { StillStands P.meld (under_way asked.now (AtPeeking peek shrinks) group.old.items)
-            (local self.old (view_of (W.name words.now) (W.sight pass.old))) }
+            (local self.old (view_of P.pack (W.name words.now) (W.sight pass.old))) }
         ensures { TakesTurn P.meld W.alone whole (under_way asked.now (AtPeeking peek shrinks) group.old.items)
-            (local self.old (view_of (W.name words.now) (W.sight pass.old))) (coming result group.new.items)
-            (local self.new (view_of (W.name words.now) (W.sight pass.new))) }
+            (local self.old (view_of P.pack (W.name words.now) (W.sight pass.old))) (coming result group.new.items)
+            (local self.new (view_of P.pack (W.name words.now) (W.sight pass.new))) }
     {
         let x = self.held_comm(comm_of(asked));
         let mut peek = peek;
@@ -154,12 +154,12 @@ impl<P: Packed, A: Allocator + Copy> LocalState<P, A> {
         whole: bool,
         group: &mut Vec<u16, A>,
     ) -> Next<P>
-        requires of { IsView P.meld (view_of (W.name words.now) (W.sight pass.old)) }
+        requires of { IsView P.meld (view_of P.pack (W.name words.now) (W.sight pass.old)) }
         requires stands { StillStands P.meld (under_way asked.now (AtReading reading shrinks) group.old.items)
-            (local self.old (view_of (W.name words.now) (W.sight pass.old))) }
+            (local self.old (view_of P.pack (W.name words.now) (W.sight pass.old))) }
         ensures { TakesTurn P.meld W.alone whole (under_way asked.now (AtReading reading shrinks) group.old.items)
-            (local self.old (view_of (W.name words.now) (W.sight pass.old))) (coming result group.new.items)
-            (local self.new (view_of (W.name words.now) (W.sight pass.new))) }
+            (local self.old (view_of P.pack (W.name words.now) (W.sight pass.old))) (coming result group.new.items)
+            (local self.new (view_of P.pack (W.name words.now) (W.sight pass.new))) }
     {
         let x = self.held_comm(comm_of(asked));
         let mut reading = reading;
@@ -183,10 +183,10 @@ impl<P: Packed, A: Allocator + Copy> LocalState<P, A> {
         shrinks: bool,
         group: &mut Vec<u16, A>,
     ) -> Next<P>
-        requires of { IsView P.meld (view_of (W.name words.now) (W.sight pass.now)) }
+        requires of { IsView P.meld (view_of P.pack (W.name words.now) (W.sight pass.now)) }
         requires read { (old : Record) × (before : Sight P)
-            × HasReadAll P.meld false asked.now (polled_round shrinks round) all (local old (view_of (W.name words.now) before))
-            (local self.old (view_of (W.name words.now) (W.sight pass.now))) }
+            × HasReadAll P.meld false asked.now (polled_round shrinks round) all (local old (view_of P.pack (W.name words.now) before))
+            (local self.old (view_of P.pack (W.name words.now) (W.sight pass.now))) }
         ensures further { NextBelow 5 result }
         ensures sees { self.new.seen ≡ self.old.seen }
         ensures past { IsPast result }
@@ -194,10 +194,10 @@ impl<P: Packed, A: Allocator + Copy> LocalState<P, A> {
             result }
         ensures also { also_in (W.name words.now).limits self.new asked.now result ≤ also_after_round (W.name words.now).limits shrinks }
         ensures turns { (alone : Bool) (old : Record) (before : Sight P)
-            → HasReadAll P.meld alone asked.now (polled_round shrinks round) all (local old (view_of (W.name words.now) before))
-            (local self.old (view_of (W.name words.now) (W.sight pass.now)))
-            → NextIs P.meld alone asked.now (local old (view_of (W.name words.now) before)) result group.new.items
-            (local self.new (view_of (W.name words.now) (W.sight pass.now))) }
+            → HasReadAll P.meld alone asked.now (polled_round shrinks round) all (local old (view_of P.pack (W.name words.now) before))
+            (local self.old (view_of P.pack (W.name words.now) (W.sight pass.now)))
+            → NextIs P.meld alone asked.now (local old (view_of P.pack (W.name words.now) before)) result group.new.items
+            (local self.new (view_of P.pack (W.name words.now) (W.sight pass.now))) }
     {
         if shrinks {
             return self.shrunk(words, pass, asked, round, all, group);

@@ -29,15 +29,15 @@ impl<P: Packed, A: Allocator> LocalState<P, A> {
         arrivals: Arrivals,
         whole: bool,
     ) -> Next<P>
-        requires of { IsView P.meld (view_of (W.name words.now) (W.sight pass.old)) }
+        requires of { IsView P.meld (view_of P.pack (W.name words.now) (W.sight pass.old)) }
         requires stands { (group : List ℕ) × StillStands P.meld (under_way asked.now (AtWaiting arrivals) group)
-            (local self.now (view_of (W.name words.now) (W.sight pass.old))) }
+            (local self.now (view_of P.pack (W.name words.now) (W.sight pass.old))) }
         ensures turn { (group : List ℕ) → TakesTurn P.meld W.alone whole (under_way asked.now (AtWaiting arrivals) group)
-            (local self.now (view_of (W.name words.now) (W.sight pass.old))) (coming result group)
-            (local self.now (view_of (W.name words.now) (W.sight pass.new))) }
+            (local self.now (view_of P.pack (W.name words.now) (W.sight pass.old))) (coming result group)
+            (local self.now (view_of P.pack (W.name words.now) (W.sight pass.new))) }
         ensures checks { (group : List ℕ) → FoundNow
             (FindsMissing P.meld W.alone (midway (under_way asked.now (AtWaiting arrivals) group)
-            (local self.now (view_of (W.name words.now) (W.sight pass.old)))) (local self.now (view_of (W.name words.now) (W.sight pass.new))))
+            (local self.now (view_of P.pack (W.name words.now) (W.sight pass.old)))) (local self.now (view_of P.pack (W.name words.now) (W.sight pass.new))))
             (AtWaiting arrivals) result }
     {
         let x = self.held_comm(comm_of(asked));
@@ -57,13 +57,13 @@ impl<P: Packed, A: Allocator> LocalState<P, A> {
         asked: &Call<P>,
         missing: Missing,
     ) -> Reply<P>
-        requires of { IsView P.meld (view_of (W.name words.now) (W.sight pass.old)) }
+        requires of { IsView P.meld (view_of P.pack (W.name words.now) (W.sight pass.old)) }
         requires stands { (group : List ℕ) × StillStands P.meld (under_way asked.now (AtChecking missing) group)
-            (local self.old (view_of (W.name words.now) (W.sight pass.old))) }
-        ensures turn { EndsTurn P.meld W.alone asked.now (AtChecking missing) (local self.old (view_of (W.name words.now) (W.sight pass.old))) result
-            (local self.new (view_of (W.name words.now) (W.sight pass.new))) }
+            (local self.old (view_of P.pack (W.name words.now) (W.sight pass.old))) }
+        ensures turn { EndsTurn P.meld W.alone asked.now (AtChecking missing) (local self.old (view_of P.pack (W.name words.now) (W.sight pass.old))) result
+            (local self.new (view_of P.pack (W.name words.now) (W.sight pass.new))) }
         ensures early { (group : List ℕ) → AnswersMissing P.meld W.alone (midway (under_way asked.now (AtChecking missing) group)
-            (local self.old (view_of (W.name words.now) (W.sight pass.old)))) self.new
+            (local self.old (view_of P.pack (W.name words.now) (W.sight pass.old)))) self.new
             missing result }
     {
         let comm = comm_of(asked);

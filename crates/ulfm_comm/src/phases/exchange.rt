@@ -1,29 +1,31 @@
-// The one step that starts and revocations make after their look.
-ghost use Rattle.std.specs.Prelude.{ℕ, List, ◌≡◌, false, Some, ◌≤◌, ◌<◌, filter, length};
+// The steps that starts and revocations make after their look.
+ghost use Rattle.std.specs.Prelude.{ℕ, Bool, List, ◌≡◌, false, Some, ◌≤◌, ◌<◌, filter, length};
+ghost use Rattle.std.specs.List.Sorted.{IsStrictlyIncreasing};
 ghost use mathlib.Core.List.{IsPrefix};
 ghost use Rattle.ulfm_model.specs.{Terms.{comm_of}, History.{has}, Records.{Fits, held_at}};
 ghost use Rattle.ulfm_record.specs.Kept.{HasNext};
-ghost use Rattle.ulfm_comm.specs.{Phase.{StillStands}, Exchange.{Settles, start_leaves, start_result}, Step.{EndsTurn}};
-ghost use Rattle.ulfm_comm.specs.declared.phases.phase.Phase.TheVariants.{Settling as AtSettling, Arriving as AtArriving, Revoking as AtRevoking};
+ghost use Rattle.ulfm_comm.specs.{Phase.{StillStands}, Exchange.{IsOffered, Settles, start_leaves, start_result}, Step.{EndsTurn, TakesTurn, coming}};
+ghost use Rattle.ulfm_comm.specs.declared.phases.phase.Phase.TheVariants.{Settling as AtSettling, Spreading as AtSpreading, Arriving as AtArriving, Revoking as AtRevoking};
 ghost use Rattle.ulfm_comm.specs.Local.{local};
 ghost use Rattle.ulfm_comm.specs.Phase.{under_way};
 ghost use Rattle.ulfm_words.specs.Steps.{view_of, IsView};
 ghost use Rattle.ulfm_model.specs.declared.place.Place.TheVariants.{Slot as SlotAt};
-ghost use Rattle.ulfm_steps.specs.Turns.{IsOneStep};
+ghost use Rattle.ulfm_steps.specs.{Settles.{IsSpreadIn}, Turns.{IsOneStep}};
 
+use crate::phases::phase::{Next, Phase};
 use crate::rank::LocalState;
 use std::alloc::Allocator;
 use ulfm_laws::counts::{Acked, Known};
 use ulfm_laws::meld::Packed;
 use ulfm_model::call::{Call, Request, comm_of};
-use ulfm_model::contribution::{Contribution, Offer, Slot};
+use ulfm_model::contribution::{Contribution, Offer};
 use ulfm_model::event::Caller;
 use ulfm_model::refusal::Refusal;
 use ulfm_model::reply::Reply;
 use ulfm_record::HeldComm;
 use ulfm_steps::Settle;
 use ulfm_steps::group::count_in;
-use ulfm_words::{Words, set_arrival, set_revocation};
+use ulfm_words::{Settled, Words, set_arrival, set_revocation};
 
 // An offer with these counts of failures.
 fn contribution<P: Packed>(offer: Offer<P>, known: usize, acked: u16) -> Contribution<P>
@@ -42,7 +44,32 @@ fn contribution<P: Packed>(offer: Offer<P>, known: usize, acked: u16) -> Contrib
 }
 
 impl<P: Packed, A: Allocator> LocalState<P, A> {
-    // The exchange of an agree or of a shrink: the rank contributes to its next agreement round.
+    // The first exchange of an agree or of a shrink: the rank sets the wing of its contribution. Where the wing stands already, the rank's
+    // number was used twice.
+    #[inline(always)]
+    pub(crate) fn go_spreading<W: Words<P, A>>(
+        &self,
+        words: &W,
+        pass: &mut W::Pass,
+        asked: &Call<P>,
+        request: Request,
+        offer: Offer<P>,
+    ) -> Next<P>
+        requires of { IsView P.meld (view_of P.pack (W.name words.now) (W.sight pass.old)) }
+        requires stands { (group : List ℕ)
+            × StillStands P.meld (under_way asked.now (AtSpreading request offer) group) (local self.now (view_of P.pack (W.name words.now) (W.sight pass.old))) }
+        ensures { (group : List ℕ) (whole : Bool) → TakesTurn P.meld W.alone whole (under_way asked.now (AtSpreading request offer) group)
+            (local self.now (view_of P.pack (W.name words.now) (W.sight pass.old))) (coming result group)
+            (local self.now (view_of P.pack (W.name words.now) (W.sight pass.new))) }
+    {
+        let x = self.held_comm(comm_of(asked));
+        if !self.spreading(x, offer).spread(words, pass) {
+            return Next::Ends(Reply::Refused(Refusal::Twice));
+        }
+        Next::Goes(Phase::Settling { request, offer })
+    }
+
+    // The second: the rank contributes to its next agreement round.
     #[inline(always)]
     pub(crate) fn go_settling<W: Words<P, A>>(
         &mut self,
@@ -52,11 +79,11 @@ impl<P: Packed, A: Allocator> LocalState<P, A> {
         request: Request,
         offer: Offer<P>,
     ) -> Reply<P>
-        requires of { IsView P.meld (view_of (W.name words.now) (W.sight pass.old)) }
+        requires of { IsView P.meld (view_of P.pack (W.name words.now) (W.sight pass.old)) }
         requires stands { (group : List ℕ)
-            × StillStands P.meld (under_way asked.now (AtSettling request offer) group) (local self.old (view_of (W.name words.now) (W.sight pass.old))) }
-        ensures { EndsTurn P.meld W.alone asked.now (AtSettling request offer) (local self.old (view_of (W.name words.now) (W.sight pass.old))) result
-            (local self.new (view_of (W.name words.now) (W.sight pass.new))) }
+            × StillStands P.meld (under_way asked.now (AtSettling request offer) group) (local self.old (view_of P.pack (W.name words.now) (W.sight pass.old))) }
+        ensures { EndsTurn P.meld W.alone asked.now (AtSettling request offer) (local self.old (view_of P.pack (W.name words.now) (W.sight pass.old))) result
+            (local self.new (view_of P.pack (W.name words.now) (W.sight pass.new))) }
     {
         let x = self.held_comm(comm_of(asked));
         let settled = self.contribute(words, pass, x, offer);
@@ -75,11 +102,11 @@ impl<P: Packed, A: Allocator> LocalState<P, A> {
         asked: &Call<P>,
         round: u16,
     ) -> Reply<P>
-        requires of { IsView P.meld (view_of (W.name words.now) (W.sight pass.old)) }
+        requires of { IsView P.meld (view_of P.pack (W.name words.now) (W.sight pass.old)) }
         requires stands { (group : List ℕ) × StillStands P.meld (under_way asked.now (AtArriving round) group)
-            (local self.old (view_of (W.name words.now) (W.sight pass.old))) }
-        ensures { EndsTurn P.meld W.alone asked.now (AtArriving round) (local self.old (view_of (W.name words.now) (W.sight pass.old))) result
-            (local self.new (view_of (W.name words.now) (W.sight pass.new))) }
+            (local self.old (view_of P.pack (W.name words.now) (W.sight pass.old))) }
+        ensures { EndsTurn P.meld W.alone asked.now (AtArriving round) (local self.old (view_of P.pack (W.name words.now) (W.sight pass.old))) result
+            (local self.new (view_of P.pack (W.name words.now) (W.sight pass.new))) }
     {
         let comm = comm_of(asked);
         let number = self.number();
@@ -99,11 +126,11 @@ impl<P: Packed, A: Allocator> LocalState<P, A> {
         pass: &mut W::Pass,
         asked: &Call<P>,
     ) -> Reply<P>
-        requires of { IsView P.meld (view_of (W.name words.now) (W.sight pass.old)) }
+        requires of { IsView P.meld (view_of P.pack (W.name words.now) (W.sight pass.old)) }
         requires stands { (group : List ℕ) × StillStands P.meld (under_way asked.now AtRevoking group)
-            (local self.now (view_of (W.name words.now) (W.sight pass.old))) }
-        ensures { EndsTurn P.meld W.alone asked.now AtRevoking (local self.now (view_of (W.name words.now) (W.sight pass.old))) result
-            (local self.now (view_of (W.name words.now) (W.sight pass.new))) }
+            (local self.now (view_of P.pack (W.name words.now) (W.sight pass.old))) }
+        ensures { EndsTurn P.meld W.alone asked.now AtRevoking (local self.now (view_of P.pack (W.name words.now) (W.sight pass.old))) result
+            (local self.now (view_of P.pack (W.name words.now) (W.sight pass.new))) }
     {
         let by = Caller::Rank(self.number());
         if set_revocation(words, pass, by, comm_of(asked)) {
@@ -113,35 +140,63 @@ impl<P: Packed, A: Allocator> LocalState<P, A> {
         }
     }
 
-    // Contributes to the rank's next agreement round of a communicator that it holds: an offer, the failures that its look
-    // found and those of them that it has acknowledged. It is one step: an exchange, which gives what stood there before.
+    // A contribution to the rank's next agreement round of a communicator that it holds: an offer, the failures that its look found and
+    // those of them that it has acknowledged.
+    fn offered(&self, x: &HeldComm<A>, offer: Offer<P>) -> Settle<P>
+        requires rises { IsStrictlyIncreasing x.now.group }
+        requires few { length (filter (has x.now.group) self.now.seen) ≤ 1024 }
+        requires acked { x.now.acked ≤ length (filter (has x.now.group) self.now.seen) }
+        ensures comm { result.comm ≡ x.now.comm }
+        ensures round { result.round ≡ x.now.next_agreement }
+        ensures rank { result.rank ≡ self.now.number }
+        ensures given { IsOffered self.now x.now offer result.given }
+    {
+        let known = count_in(&x.group, self.failures());
+        Settle {
+            comm: x.comm,
+            round: x.next_agreement,
+            rank: self.number(),
+            given: contribution(offer, known, x.acked),
+        }
+    }
+
+    // What the wing of such a contribution is told by: the place and the offer. The failures that it knows aren't counted twice.
+    fn spreading(&self, x: &HeldComm<A>, offer: Offer<P>) -> Settle<P>
+        ensures comm { result.comm ≡ x.now.comm }
+        ensures round { result.round ≡ x.now.next_agreement }
+        ensures rank { result.rank ≡ self.now.number }
+        ensures offer { result.given.offer ≡ offer }
+        ensures none { result.given.known.count ≡ 0 }
+    {
+        Settle {
+            comm: x.comm,
+            round: x.next_agreement,
+            rank: self.number(),
+            given: contribution(offer, 0, 0),
+        }
+    }
+
+    // Contributes, once the wing is set. It is one step: an exchange, which tells what stood there before.
     fn contribute<W: Words<P, A>>(
         &self,
         words: &W,
         pass: &mut W::Pass,
         x: &HeldComm<A>,
         offer: Offer<P>,
-    ) -> Result<(), Slot<P>>
-        requires of { IsView P.meld (view_of (W.name words.now) (W.sight pass.old)) }
+    ) -> Result<(), Settled>
+        requires of { IsView P.meld (view_of P.pack (W.name words.now) (W.sight pass.old)) }
         requires fits { Fits P.meld (W.name words.now).limits (W.sight pass.old).seen self.now }
         requires held { held_at self.now x.now.comm ≡ Some x.now }
         requires acked { x.now.acked ≤ length (filter (has x.now.group) self.now.seen) }
         requires room { x.now.next_agreement < (W.name words.now).limits.rounds }
-        ensures of { IsView P.meld (view_of (W.name words.now) (W.sight pass.new)) }
+        requires spread { IsSpreadIn (view_of P.pack (W.name words.now) (W.sight pass.old)) x.now.comm x.now.next_agreement self.now.number offer }
+        ensures of { IsView P.meld (view_of P.pack (W.name words.now) (W.sight pass.new)) }
         ensures cached { IsPrefix (W.sight pass.old).cached (W.sight pass.new).cached }
         ensures caches { (W.sight pass.new).caches ≡ (W.sight pass.old).caches }
         ensures one { IsOneStep (SlotAt x.now.comm x.now.next_agreement self.now.number) false (W.sight pass.old) (W.sight pass.new) }
         ensures settles { Settles W.alone (W.sight pass.old).seen (W.sight pass.new).seen self.now x.now offer result }
     {
-        let known = count_in(&x.group, self.failures());
-        let given = contribution(offer, known, x.acked);
-        let settle = Settle {
-            comm: x.comm,
-            round: x.next_agreement,
-            rank: self.number(),
-            given,
-        };
-        settle.finish(words, pass)
+        self.offered(x, offer).step(words, pass)
     }
 
     // Ends a start: the request is open where the rank has contributed. A mark means that the rank was declared.
@@ -149,7 +204,7 @@ impl<P: Packed, A: Allocator> LocalState<P, A> {
         &mut self,
         comm: u16,
         request: Request,
-        settled: Result<(), Slot<P>>,
+        settled: Result<(), Settled>,
     ) -> Result<(), Refusal>
         requires next { HasNext request }
         ensures result { result ≡ start_result settled }
@@ -160,11 +215,11 @@ impl<P: Packed, A: Allocator> LocalState<P, A> {
                 self.open(comm, request);
                 Ok(())
             }
-            Err(Slot::Mark(_)) => {
+            Err(Settled::Marked) => {
                 self.refuse();
                 Err(Refusal::SelfFailed)
             }
-            Err(Slot::Given(_)) => Err(Refusal::Twice),
+            Err(Settled::Contributed) => Err(Refusal::Twice),
         }
     }
 }

@@ -1,6 +1,6 @@
 // The look of a call, and what comes after it.
 ghost use Rattle.std.specs.Prelude.{ℕ, List, ◌≡◌, ◌<◌, max, min, true, None, Some, MatchOption};
-ghost use Rattle.ulfm_model.specs.declared.{block.Block.{Block}, call.Call.TheVariants.{Poll as PollAsked}, call.Request.TheVariants.{Barrier as OfBarrier}};
+ghost use Rattle.ulfm_model.specs.declared.{block.Beside.{Beside}, call.Call.TheVariants.{Poll as PollAsked}, call.Request.TheVariants.{Barrier as OfBarrier}};
 ghost use Rattle.ulfm_comm.specs.{Polls.{IsAgreement}, Phase.{IsFurther, IsPast, StillStands, left}, Look.{Passes}};
 ghost use Rattle.ulfm_comm.specs.{StepsLeft.{FewerLeft, steps_left, with_look}, Step.{FollowsLook, HasJustLooked, TakesTurn}};
 ghost use Rattle.ulfm_comm.specs.{AlsoLeft.{AlsoFollows}, Known.{KnowsNext}, Requests.{agreement}};
@@ -66,12 +66,12 @@ impl<P: Packed, A: Allocator> LocalState<P, A> {
         asked: &Call<P>,
         whole: bool,
     ) -> Next<P>
-        requires of { IsView P.meld (view_of (W.name words.now) (W.sight pass.old)) }
+        requires of { IsView P.meld (view_of P.pack (W.name words.now) (W.sight pass.old)) }
         requires stands { (group : List ℕ) × StillStands P.meld (under_way asked.now AtBegun group)
-            (local self.old (view_of (W.name words.now) (W.sight pass.old))) }
+            (local self.old (view_of P.pack (W.name words.now) (W.sight pass.old))) }
         ensures turn { (group : List ℕ) → TakesTurn P.meld W.alone whole (under_way asked.now AtBegun group)
-            (local self.old (view_of (W.name words.now) (W.sight pass.old))) (coming result group)
-            (local self.new (view_of (W.name words.now) (W.sight pass.new))) }
+            (local self.old (view_of P.pack (W.name words.now) (W.sight pass.old))) (coming result group)
+            (local self.new (view_of P.pack (W.name words.now) (W.sight pass.new))) }
         ensures past { whole ≡ true → IsPast result }
     {
         self.resume();
@@ -87,12 +87,12 @@ impl<P: Packed, A: Allocator> LocalState<P, A> {
         asked: &Call<P>,
         whole: bool,
     ) -> Next<P>
-        requires of { IsView P.meld (view_of (W.name words.now) (W.sight pass.old)) }
+        requires of { IsView P.meld (view_of P.pack (W.name words.now) (W.sight pass.old)) }
         requires stands { (group : List ℕ) × StillStands P.meld (under_way asked.now AtLooking group)
-            (local self.old (view_of (W.name words.now) (W.sight pass.old))) }
+            (local self.old (view_of P.pack (W.name words.now) (W.sight pass.old))) }
         ensures turn { (group : List ℕ) → TakesTurn P.meld W.alone whole (under_way asked.now AtLooking group)
-            (local self.old (view_of (W.name words.now) (W.sight pass.old))) (coming result group)
-            (local self.new (view_of (W.name words.now) (W.sight pass.new))) }
+            (local self.old (view_of P.pack (W.name words.now) (W.sight pass.old))) (coming result group)
+            (local self.new (view_of P.pack (W.name words.now) (W.sight pass.new))) }
         ensures past { whole ≡ true → IsPast result }
     {
         if !self.look_on(words, pass, whole) {
@@ -107,13 +107,13 @@ impl<P: Packed, A: Allocator> LocalState<P, A> {
 
     // What comes after the look of a rank that it didn't find declared.
     fn looked<W: Words<P, A>>(&mut self, words: &W, pass: &W::Pass, asked: &Call<P>) -> Next<P>
-        requires of { IsView P.meld (view_of (W.name words.now) (W.sight pass.now)) }
-        requires just { HasJustLooked P.meld asked.now (local self.old (view_of (W.name words.now) (W.sight pass.now))) }
+        requires of { IsView P.meld (view_of P.pack (W.name words.now) (W.sight pass.now)) }
+        requires just { HasJustLooked P.meld asked.now (local self.old (view_of P.pack (W.name words.now) (W.sight pass.now))) }
         ensures further { IsFurther AtLooking result }
         ensures nearer { FewerLeft (with_look (W.name words.now).limits self.old asked.now) (W.name words.now).limits self.new asked.now result }
         ensures also { AlsoFollows (W.name words.now).limits asked.now self.old result self.new }
-        ensures knows { (cached : List Block) → KnowsNext self.old asked.now cached result }
-        ensures turns { FollowsLook P.meld asked.now (local self.old (view_of (W.name words.now) (W.sight pass.now))) result self.new }
+        ensures knows { (cached : List Beside) → KnowsNext self.old asked.now cached result }
+        ensures turns { FollowsLook P.meld asked.now (local self.old (view_of P.pack (W.name words.now) (W.sight pass.now))) result self.new }
     {
         let Some(x) = self.held(comm_of(asked)) else {
             return Next::Ends(Reply::Refused(Refusal::NoSuchComm));
@@ -127,13 +127,13 @@ impl<P: Packed, A: Allocator> LocalState<P, A> {
     // What comes next where the record doesn't refuse the call.
     fn passed<W: Words<P, A>>(&mut self, words: &W, pass: &W::Pass, asked: &Call<P>) -> Next<P>
         requires passes { Passes self.old asked.now }
-        requires of { IsView P.meld (view_of (W.name words.now) (W.sight pass.now)) }
-        requires just { HasJustLooked P.meld asked.now (local self.old (view_of (W.name words.now) (W.sight pass.now))) }
+        requires of { IsView P.meld (view_of P.pack (W.name words.now) (W.sight pass.now)) }
+        requires just { HasJustLooked P.meld asked.now (local self.old (view_of P.pack (W.name words.now) (W.sight pass.now))) }
         ensures further { IsFurther AtLooking result }
         ensures nearer { FewerLeft (with_look (W.name words.now).limits self.old asked.now) (W.name words.now).limits self.new asked.now result }
         ensures also { AlsoFollows (W.name words.now).limits asked.now self.old result self.new }
-        ensures knows { (cached : List Block) → KnowsNext self.old asked.now cached result }
-        ensures turns { FollowsLook P.meld asked.now (local self.old (view_of (W.name words.now) (W.sight pass.now))) result self.new }
+        ensures knows { (cached : List Beside) → KnowsNext self.old asked.now cached result }
+        ensures turns { FollowsLook P.meld asked.now (local self.old (view_of P.pack (W.name words.now) (W.sight pass.now))) result self.new }
     {
         let x = self.held_comm(comm_of(asked));
         match *asked {
@@ -147,13 +147,13 @@ impl<P: Packed, A: Allocator> LocalState<P, A> {
                 self.acknowledge(comm, count);
                 Next::Ends(Reply::Acked { count })
             }
-            Call::Agree { value, .. } => Next::Goes(Phase::Settling {
+            Call::Agree { value, .. } => Next::Goes(Phase::Spreading {
                 request: Request::Agree {
                     round: x.next_agreement,
                 },
                 offer: Offer::Flag(value),
             }),
-            Call::Shrink { .. } => Next::Goes(Phase::Settling {
+            Call::Shrink { .. } => Next::Goes(Phase::Spreading {
                 request: Request::Shrink {
                     round: x.next_agreement,
                 },
@@ -176,15 +176,15 @@ impl<P: Packed, A: Allocator> LocalState<P, A> {
 
     // How the poll of an open request goes on after its look: a barrier reads who has arrived; an agreement loads its round's blocks.
     fn ready<W: Words<P, A>>(&self, words: &W, pass: &W::Pass, asked: &Call<P>) -> Phase<P>
-        requires of { IsView P.meld (view_of (W.name words.now) (W.sight pass.now)) }
-        requires just { HasJustLooked P.meld asked.now (local self.now (view_of (W.name words.now) (W.sight pass.now))) }
+        requires of { IsView P.meld (view_of P.pack (W.name words.now) (W.sight pass.now)) }
+        requires just { HasJustLooked P.meld asked.now (local self.now (view_of P.pack (W.name words.now) (W.sight pass.now))) }
         requires passes { Passes self.now asked.now }
         requires polls { (rank : ℕ) × (comm : ℕ) × (asked.now ≡ PollAsked rank comm) }
         ensures further { left result < 8 }
         ensures nearer { steps_left (W.name words.now).limits self.now asked.now result < with_look (W.name words.now).limits self.now asked.now }
         ensures also { AlsoFollows (W.name words.now).limits asked.now self.now (NextGoes result) self.now }
-        ensures knows { (cached : List Block) → KnowsNext self.now asked.now cached (NextGoes result) }
-        ensures turns { FollowsLook P.meld asked.now (local self.now (view_of (W.name words.now) (W.sight pass.now))) (NextGoes result) self.now }
+        ensures knows { (cached : List Beside) → KnowsNext self.now asked.now cached (NextGoes result) }
+        ensures turns { FollowsLook P.meld asked.now (local self.now (view_of P.pack (W.name words.now) (W.sight pass.now))) (NextGoes result) self.now }
     {
         let comm = comm_of(asked);
         let x = self.held_comm(comm);

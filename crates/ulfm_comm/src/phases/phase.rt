@@ -33,7 +33,12 @@ pub(crate) enum Phase<P: Packed> {
     Begun,
     // It is read on.
     Looking,
-    // The rank contributes to its next agreement round.
+    // The rank sets the wing of its contribution to its next agreement round.
+    Spreading {
+        request: Request,
+        offer: Offer<P>,
+    },
+    // It contributes: the wing is set.
     Settling {
         // What the rank starts, with its round.
         request: Request,
@@ -83,7 +88,7 @@ pub(crate) enum Phase<P: Packed> {
     Spawning {
         // How far the list was read.
         append: Append,
-        // The context id of the new communicator, 0 to 31.
+        // The context id of the new communicator, 0 to 63.
         context: u8,
         // How many of the failures that were seen reach as far as that group.
         reach: usize,
@@ -115,14 +120,23 @@ impl<P: Packed> Phase<P> {
         match self {
             Phase::Over => None,
             Phase::Begun | Phase::Looking | Phase::ReadingOn { .. } => Some(StepName::List),
+            Phase::Spreading { .. } => Some(StepName::Wing),
             Phase::Settling { .. } => Some(StepName::Settle),
             Phase::Arriving { .. } => Some(StepName::Arrive),
             Phase::Revoking => Some(StepName::Revoke),
             Phase::Asking | Phase::Checking { .. } => Some(StepName::Revocation),
+            Phase::Peeking { peek, .. } if peek.first.is_some() => Some(StepName::Wing),
             Phase::Peeking { .. } => Some(StepName::Block),
             Phase::Marking { .. } => Some(StepName::Mark),
-            Phase::Reading { reading, .. } if reading.read < reading.width => Some(StepName::Slot),
-            Phase::Reading { .. } => Some(StepName::Cache),
+            Phase::Reading { reading, .. } if reading.read < reading.width => {
+                Some(if reading.first.is_some() {
+                    StepName::Wing
+                } else {
+                    StepName::Slot
+                })
+            }
+            Phase::Reading { reading, .. } if reading.winged => Some(StepName::Cache),
+            Phase::Reading { .. } => Some(StepName::Wing),
             Phase::Spawning { append, .. } if append.empty => Some(StepName::Spawn),
             Phase::Spawning { .. } => Some(StepName::Comm),
             Phase::Waiting { .. } => Some(StepName::Arrival),

@@ -58,20 +58,20 @@ impl<P: Packed, A: Allocator + Copy> LocalState<P, A> {
         all: Summary<P>,
         group: &mut Vec<u16, A>,
     ) -> Next<P>
-        requires of { IsView P.meld (view_of (W.name words.now) (W.sight pass.now)) }
+        requires of { IsView P.meld (view_of P.pack (W.name words.now) (W.sight pass.now)) }
         requires read { (old : Record) × (before : Sight P)
-            × HasReadAll P.meld false asked.now (polled_round true round) all (local old (view_of (W.name words.now) before))
-            (local self.old (view_of (W.name words.now) (W.sight pass.now))) }
+            × HasReadAll P.meld false asked.now (polled_round true round) all (local old (view_of P.pack (W.name words.now) before))
+            (local self.old (view_of P.pack (W.name words.now) (W.sight pass.now))) }
         ensures further { NextBelow 5 result }
         ensures sees { self.new.seen ≡ self.old.seen }
         ensures past { IsPast result }
         ensures nearer { FewerLeft (after_round (W.name words.now).limits self.old true + 1) (W.name words.now).limits self.new asked.now result }
         ensures also { also_in (W.name words.now).limits self.new asked.now result ≤ also_after_round (W.name words.now).limits true }
         ensures turns { (alone : Bool) (old : Record) (before : Sight P)
-            → HasReadAll P.meld alone asked.now (polled_round true round) all (local old (view_of (W.name words.now) before))
-            (local self.old (view_of (W.name words.now) (W.sight pass.now)))
-            → NextIs P.meld alone asked.now (local old (view_of (W.name words.now) before)) result group.new.items
-            (local self.new (view_of (W.name words.now) (W.sight pass.now))) }
+            → HasReadAll P.meld alone asked.now (polled_round true round) all (local old (view_of P.pack (W.name words.now) before))
+            (local self.old (view_of P.pack (W.name words.now) (W.sight pass.now)))
+            → NextIs P.meld alone asked.now (local old (view_of P.pack (W.name words.now) before)) result group.new.items
+            (local self.new (view_of P.pack (W.name words.now) (W.sight pass.now))) }
     {
         let comm = comm_of(asked);
         let Body::Ctx(mask) = all.body else {
@@ -104,12 +104,12 @@ impl<P: Packed, A: Allocator + Copy> LocalState<P, A> {
         whole: bool,
         group: &mut Vec<u16, A>,
     ) -> Next<P>
-        requires of { IsView P.meld (view_of (W.name words.now) (W.sight pass.old)) }
+        requires of { IsView P.meld (view_of P.pack (W.name words.now) (W.sight pass.old)) }
         requires stands { StillStands P.meld (under_way asked.now (AtReadingOn on made) group.old.items)
-            (local self.old (view_of (W.name words.now) (W.sight pass.old))) }
+            (local self.old (view_of P.pack (W.name words.now) (W.sight pass.old))) }
         ensures { TakesTurn P.meld W.alone whole (under_way asked.now (AtReadingOn on made) group.old.items)
-            (local self.old (view_of (W.name words.now) (W.sight pass.old))) (coming result group.new.items)
-            (local self.new (view_of (W.name words.now) (W.sight pass.new))) }
+            (local self.old (view_of P.pack (W.name words.now) (W.sight pass.old))) (coming result group.new.items)
+            (local self.new (view_of P.pack (W.name words.now) (W.sight pass.new))) }
     {
         let mut on = on;
         self.read_on(words, pass, comm_of(asked), &mut on, made.count, whole);
@@ -129,10 +129,10 @@ impl<P: Packed, A: Allocator + Copy> LocalState<P, A> {
         made: Made,
         group: &mut Vec<u16, A>,
     ) -> Next<P>
-        requires of { IsView P.meld (view_of (W.name words.now) (W.sight pass.now)) }
+        requires of { IsView P.meld (view_of P.pack (W.name words.now) (W.sight pass.now)) }
         requires reached { (old : Record) × (before : Sight P)
-            × HasReached P.meld false asked.now made reach (local old (view_of (W.name words.now) before))
-            (local self.old (view_of (W.name words.now) (W.sight pass.now))) }
+            × HasReached P.meld false asked.now made reach (local old (view_of P.pack (W.name words.now) before))
+            (local self.old (view_of P.pack (W.name words.now) (W.sight pass.now))) }
         ensures further { NextBelow 4 result }
         ensures sees { self.new.seen ≡ self.old.seen }
         ensures past { IsPast result }
@@ -140,10 +140,10 @@ impl<P: Packed, A: Allocator + Copy> LocalState<P, A> {
         ensures memory { HadMemory asked.now reach self.old result group.new.items }
         ensures nearer { FewerLeft (2 * ((W.name words.now).limits.comms - 1) + 1) (W.name words.now).limits self.new asked.now result }
         ensures turns { (alone : Bool) (old : Record) (before : Sight P)
-            → HasReached P.meld alone asked.now made reach (local old (view_of (W.name words.now) before))
-            (local self.old (view_of (W.name words.now) (W.sight pass.now)))
-            → NextIs P.meld alone asked.now (local old (view_of (W.name words.now) before)) result group.new.items
-            (local self.new (view_of (W.name words.now) (W.sight pass.now))) }
+            → HasReached P.meld alone asked.now made reach (local old (view_of P.pack (W.name words.now) before))
+            (local self.old (view_of P.pack (W.name words.now) (W.sight pass.now)))
+            → NextIs P.meld alone asked.now (local old (view_of P.pack (W.name words.now) before)) result group.new.items
+            (local self.new (view_of P.pack (W.name words.now) (W.sight pass.now))) }
     {
         let number = self.number();
         if has_rank(&self.failures()[..reach], number) {
@@ -181,12 +181,12 @@ impl<P: Packed, A: Allocator + Copy> LocalState<P, A> {
         whole: bool,
         group: &mut Vec<u16, A>,
     ) -> Next<P>
-        requires of { IsView P.meld (view_of (W.name words.now) (W.sight pass.old)) }
+        requires of { IsView P.meld (view_of P.pack (W.name words.now) (W.sight pass.old)) }
         requires stands { StillStands P.meld (under_way asked.now (AtSpawning append context reach) group.old.items)
-            (local self.old (view_of (W.name words.now) (W.sight pass.old))) }
+            (local self.old (view_of P.pack (W.name words.now) (W.sight pass.old))) }
         ensures { TakesTurn P.meld W.alone whole (under_way asked.now (AtSpawning append context reach) group.old.items)
-            (local self.old (view_of (W.name words.now) (W.sight pass.old))) (coming result group.new.items)
-            (local self.new (view_of (W.name words.now) (W.sight pass.new))) }
+            (local self.old (view_of P.pack (W.name words.now) (W.sight pass.old))) (coming result group.new.items)
+            (local self.new (view_of P.pack (W.name words.now) (W.sight pass.new))) }
     {
         let comm = comm_of(asked);
         let mut append = append;

@@ -5,7 +5,7 @@ ghost use Rattle.ulfm_model.specs.{Answers.{traits_of}, Records.{Fits}};
 ghost use Rattle.ulfm_comm.specs.{Begins.{loads_again}, Bound.{also_bound, step_bound}, AlsoLeft.{also_left}, Counts.{MakesSteps, StepCounts, TakesSteps}};
 ghost use Rattle.ulfm_comm.specs.{StepsLeft.{Spends, steps_left}, Step.{GoesOn, RunsOn, Stepped}, Calls.{EndsReply}, Polls.{PendsIn}};
 ghost use Rattle.ulfm_comm.specs.Phase.{under_way, is_looking, next_of, MayStep, Stands, StandsOrEnds, StillStands};
-ghost use Rattle.ulfm_words.specs.Steps.{view_of, IsView, Name, Sight};
+ghost use Rattle.ulfm_words.specs.Steps.{view_at, view_of, IsView, Over, Sight};
 ghost use Rattle.ulfm_comm.specs.declared.phases.phase.Phase.TheVariants.{Begun as AtBegun, Over as AtOver};
 ghost use Rattle.ulfm_comm.specs.Local.{local, FitsView};
 ghost use Rattle.ulfm_comm.specs.Step.{coming};
@@ -37,8 +37,8 @@ impl<P: Packed, A: Allocator + Copy> LocalState<P, A> {
         requires { (traits_of asked).by ≡ OfRank self.now.number }
         ensures asked { result.asked ≡ asked }
         ensures first { result.phase ≡ (if self.now.refused then AtOver else AtBegun) }
-        ensures stands { (alone : Bool) (name : Name) (before : Sight P) → IsView P.meld (view_of name before) → Fits P.meld name.limits before.seen self.now
-            → Stands P.meld alone (local self.now (view_of name before)) result (local self.now (view_of name before)) }
+        ensures stands { (alone : Bool) (name : Over P) (before : Sight P) → IsView P.meld (view_at name before) → Fits P.meld name.limits before.seen self.now
+            → Stands P.meld alone (local self.now (view_at name before)) result (local self.now (view_at name before)) }
         ensures bounded { steps_left self.now.limits self.now asked result.phase ≤ step_bound self.now.limits self.now asked + loads_again self.now }
         ensures also { also_left self.now.limits self.now asked result.phase ≤ also_bound self.now.limits self.now asked 0 + loads_again self.now }
     {
@@ -60,16 +60,19 @@ impl<P: Packed, A: Allocator + Copy> LocalState<P, A> {
         group: &mut Vec<u16, A>,
         whole: bool,
     ) -> Next<P>
-        requires of { IsView P.meld (view_of (W.name words.now) (W.sight pass.old)) }
-        requires stands { StillStands P.meld (under_way asked.now phase group.old.items) (local self.old (view_of (W.name words.now) (W.sight pass.old))) }
+        requires of { IsView P.meld (view_of P.pack (W.name words.now) (W.sight pass.old)) }
+        requires stands { StillStands P.meld (under_way asked.now phase group.old.items) (local self.old (view_of P.pack (W.name words.now) (W.sight pass.old))) }
         ensures { GoesOn P.meld W.alone whole (under_way asked.now phase group.old.items)
-            (local self.old (view_of (W.name words.now) (W.sight pass.old))) (coming result group.new.items)
-            (local self.new (view_of (W.name words.now) (W.sight pass.new))) }
+            (local self.old (view_of P.pack (W.name words.now) (W.sight pass.old))) (coming result group.new.items)
+            (local self.new (view_of P.pack (W.name words.now) (W.sight pass.new))) }
     {
         match phase {
             Phase::Over => Next::Ends(Reply::Refused(Refusal::SelfFailed)),
             Phase::Begun => self.go_begun(words, pass, asked, whole),
             Phase::Looking => self.go_looking(words, pass, asked, whole),
+            Phase::Spreading { request, offer } => {
+                self.go_spreading(words, pass, asked, request, offer)
+            }
             Phase::Settling { request, offer } => {
                 Next::Ends(self.go_settling(words, pass, asked, request, offer))
             }
@@ -112,14 +115,14 @@ impl<P: Packed, A: Allocator + Copy> LocalState<P, A> {
         pass: &mut W::Pass,
         doing: &mut Way<P, A>,
     ) -> Option<Reply<P>>
-        requires of { IsView P.meld (view_of (W.name words.now) (W.sight pass.old)) }
-        requires stood { MayStep P.meld doing.old (local self.old (view_of (W.name words.now) (W.sight pass.old))) }
+        requires of { IsView P.meld (view_of P.pack (W.name words.now) (W.sight pass.old)) }
+        requires stood { MayStep P.meld doing.old (local self.old (view_of P.pack (W.name words.now) (W.sight pass.old))) }
         ensures asked { doing.new.asked ≡ doing.old.asked }
         ensures ended { OnSome result (doing.new.phase ≡ AtOver) }
-        ensures stepped { Stepped P.meld W.alone doing.old (local self.old (view_of (W.name words.now) (W.sight pass.old)))
-            (next_of result doing.new.phase) (local self.new (view_of (W.name words.now) (W.sight pass.new))) }
-        ensures stands { StandsOrEnds P.meld W.alone doing.old (local self.old (view_of (W.name words.now) (W.sight pass.old))) result doing.new
-            (local self.new (view_of (W.name words.now) (W.sight pass.new))) }
+        ensures stepped { Stepped P.meld W.alone doing.old (local self.old (view_of P.pack (W.name words.now) (W.sight pass.old)))
+            (next_of result doing.new.phase) (local self.new (view_of P.pack (W.name words.now) (W.sight pass.new))) }
+        ensures stands { StandsOrEnds P.meld W.alone doing.old (local self.old (view_of P.pack (W.name words.now) (W.sight pass.old))) result doing.new
+            (local self.new (view_of P.pack (W.name words.now) (W.sight pass.new))) }
         ensures spends { Spends (steps_left (W.name words.now).limits self.old doing.old.asked doing.old.phase) (W.name words.now).limits self.new
             doing.old.asked (next_of result doing.new.phase) (W.sight pass.old) (W.sight pass.new) }
     {
@@ -141,13 +144,13 @@ impl<P: Packed, A: Allocator + Copy> LocalState<P, A> {
         pass: &mut W::Pass,
         asked: Call<P>,
     ) -> Reply<P>
-        requires of { IsView P.meld (view_of (W.name words.now) (W.sight pass.old)) }
+        requires of { IsView P.meld (view_of P.pack (W.name words.now) (W.sight pass.old)) }
         requires fits { Fits P.meld (W.name words.now).limits (W.sight pass.old).seen self.old }
         requires mine { (traits_of asked).by ≡ OfRank self.old.number }
-        ensures ends { EndsReply P.meld W.alone asked (local self.old (view_of (W.name words.now) (W.sight pass.old))) result
-            (local self.new (view_of (W.name words.now) (W.sight pass.new))) }
-        ensures pending { PendsIn P.meld W.alone asked (local self.old (view_of (W.name words.now) (W.sight pass.old))) result
-            (local self.new (view_of (W.name words.now) (W.sight pass.new))) }
+        ensures ends { EndsReply P.meld W.alone asked (local self.old (view_of P.pack (W.name words.now) (W.sight pass.old))) result
+            (local self.new (view_of P.pack (W.name words.now) (W.sight pass.new))) }
+        ensures pending { PendsIn P.meld W.alone asked (local self.old (view_of P.pack (W.name words.now) (W.sight pass.old))) result
+            (local self.new (view_of P.pack (W.name words.now) (W.sight pass.new))) }
         ensures steps { MakesSteps (W.name words.now).limits asked self.old (W.sight pass.old) self.new (W.sight pass.new) }
     {
         if self.is_refused() {
@@ -173,11 +176,11 @@ impl<P: Packed, A: Allocator + Copy> LocalState<P, A> {
         asked: &Call<P>,
         mut phase: Phase<P>,
     ) -> Reply<P>
-        requires of { IsView P.meld (view_of (W.name words.now) (W.sight pass.old)) }
-        requires stands { StillStands P.meld (under_way asked.now phase []) (local self.old (view_of (W.name words.now) (W.sight pass.old))) }
+        requires of { IsView P.meld (view_of P.pack (W.name words.now) (W.sight pass.old)) }
+        requires stands { StillStands P.meld (under_way asked.now phase []) (local self.old (view_of P.pack (W.name words.now) (W.sight pass.old))) }
         requires past { is_looking phase ≡ false }
-        ensures { RunsOn P.meld W.alone asked.now phase (local self.old (view_of (W.name words.now) (W.sight pass.old))) result
-            (local self.new (view_of (W.name words.now) (W.sight pass.new))) }
+        ensures { RunsOn P.meld W.alone asked.now phase (local self.old (view_of P.pack (W.name words.now) (W.sight pass.old))) result
+            (local self.new (view_of P.pack (W.name words.now) (W.sight pass.new))) }
     {
         let mut group = Vec::new(self.allocator());
         loop {
@@ -206,9 +209,9 @@ impl<P: Packed, A: Allocator + Copy> Rank<P, A> {
         requires { (traits_of asked).by ≡ OfRank self.now.own.number }
         ensures asked { result.way.asked ≡ asked }
         ensures first { result.way.phase ≡ (if self.now.own.refused then AtOver else AtBegun) }
-        ensures stands { (alone : Bool) (name : Name) (before : Sight P) → IsView P.meld (view_of name before) → Fits P.meld name.limits before.seen
+        ensures stands { (alone : Bool) (name : Over P) (before : Sight P) → IsView P.meld (view_at name before) → Fits P.meld name.limits before.seen
             self.now.own
-            → Stands P.meld alone (local self.now.own (view_of name before)) result.way (local self.now.own (view_of name before)) }
+            → Stands P.meld alone (local self.now.own (view_at name before)) result.way (local self.now.own (view_at name before)) }
         ensures bounded { steps_left self.now.own.limits self.now.own asked result.way.phase
             ≤ step_bound self.now.own.limits self.now.own asked + loads_again self.now.own }
         ensures also { also_left self.now.own.limits self.now.own asked result.way.phase
@@ -241,16 +244,16 @@ impl<P: Packed, A: Allocator + Copy> Rank<P, A> {
         pass: &mut W::Pass,
         doing: &mut Doing<P, A>,
     ) -> Option<Reply<P>>
-        requires of { IsView P.meld (view_of world.now (W.sight pass.old)) }
-        requires stood { MayStep P.meld doing.old.way (local self.old.own (view_of world.now (W.sight pass.old))) }
+        requires of { IsView P.meld (view_of P.pack world.now (W.sight pass.old)) }
+        requires stood { MayStep P.meld doing.old.way (local self.old.own (view_of P.pack world.now (W.sight pass.old))) }
         ensures asked { doing.new.way.asked ≡ doing.old.way.asked }
         ensures ended { OnSome result (doing.new.way.phase ≡ AtOver) }
-        ensures stepped { Stepped P.meld W.alone doing.old.way (local self.old.own (view_of world.now (W.sight pass.old)))
-            (next_of result doing.new.way.phase) (local self.new.own (view_of world.now (W.sight pass.new))) }
-        ensures stands { StandsOrEnds P.meld W.alone doing.old.way (local self.old.own (view_of world.now (W.sight pass.old))) result doing.new.way
-            (local self.new.own (view_of world.now (W.sight pass.new))) }
-        ensures made { StepCounts doing.old (local self.old.own (view_of world.now (W.sight pass.old))) (next_of result doing.new.way.phase) doing.new.made
-            (local self.new.own (view_of world.now (W.sight pass.new))) }
+        ensures stepped { Stepped P.meld W.alone doing.old.way (local self.old.own (view_of P.pack world.now (W.sight pass.old)))
+            (next_of result doing.new.way.phase) (local self.new.own (view_of P.pack world.now (W.sight pass.new))) }
+        ensures stands { StandsOrEnds P.meld W.alone doing.old.way (local self.old.own (view_of P.pack world.now (W.sight pass.old))) result doing.new.way
+            (local self.new.own (view_of P.pack world.now (W.sight pass.new))) }
+        ensures made { StepCounts doing.old (local self.old.own (view_of P.pack world.now (W.sight pass.old))) (next_of result doing.new.way.phase) doing.new.made
+            (local self.new.own (view_of P.pack world.now (W.sight pass.new))) }
         ensures last { MatchOption result (self.new.last ≡ self.old.last) (λ _. self.new.last ≡ doing.new.made) }
     {
         doing.count();
@@ -279,15 +282,15 @@ impl<P: Packed, A: Allocator + Copy> Rank<P, A> {
         pass: &mut W::Pass,
         asked: Call<P>,
     ) -> Reply<P>
-        requires of { IsView P.meld (view_of world.now (W.sight pass.old)) }
-        requires fits { FitsView P.meld (local self.old.own (view_of world.now (W.sight pass.old))) }
+        requires of { IsView P.meld (view_of P.pack world.now (W.sight pass.old)) }
+        requires fits { FitsView P.meld (local self.old.own (view_of P.pack world.now (W.sight pass.old))) }
         requires mine { (traits_of asked).by ≡ OfRank self.old.own.number }
-        ensures ends { EndsReply P.meld W.alone asked (local self.old.own (view_of world.now (W.sight pass.old))) result
-            (local self.new.own (view_of world.now (W.sight pass.new))) }
-        ensures pending { PendsIn P.meld W.alone asked (local self.old.own (view_of world.now (W.sight pass.old))) result
-            (local self.new.own (view_of world.now (W.sight pass.new))) }
-        ensures steps { TakesSteps asked (local self.old.own (view_of world.now (W.sight pass.old))) self.new.last
-            (local self.new.own (view_of world.now (W.sight pass.new))) }
+        ensures ends { EndsReply P.meld W.alone asked (local self.old.own (view_of P.pack world.now (W.sight pass.old))) result
+            (local self.new.own (view_of P.pack world.now (W.sight pass.new))) }
+        ensures pending { PendsIn P.meld W.alone asked (local self.old.own (view_of P.pack world.now (W.sight pass.old))) result
+            (local self.new.own (view_of P.pack world.now (W.sight pass.new))) }
+        ensures steps { TakesSteps asked (local self.old.own (view_of P.pack world.now (W.sight pass.old))) self.new.last
+            (local self.new.own (view_of P.pack world.now (W.sight pass.new))) }
     {
         let before = world.words.steps_made(pass);
         let reply = self.own.call(&world.words, pass, asked);

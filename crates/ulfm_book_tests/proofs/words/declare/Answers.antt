@@ -16,6 +16,7 @@ set_once-requires-clause-may g c =
       entry = record { by = Outside; event = Fail c.args.rank };
       is_entry = ap (λ r. Some (record { by = Outside; event = Fail r })) same;
       word = omega (arith, c.from.ensures);
+      half = refl;
       legal = λ more begins legal zero.
           let none = nobody (failures more) zero in
           ((c.requires.rank, ap (λ xs. has xs c.args.rank) none), ap (λ xs. ListAt (length xs)) none);

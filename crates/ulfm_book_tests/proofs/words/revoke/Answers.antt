@@ -13,5 +13,6 @@ set_once-requires-clause-may g c = record {
   entry = record { by = _; event = Revoke 0 };
   is_entry = refl;
   word = refl;
+  half = refl;
   legal = λ more begins legal zero. ((omega arith, says_no (is_revoked more 0) zero), refl);
 }

@@ -1,5 +1,6 @@
 use Rattle.std.proofs.Common.{◌≡◌, [], None, subst, sym}
 use Rattle.std.specs.List.{AllByRecursion}
+use Rattle.ulfm_words.specs.Steps.{over}
 use Rattle.ulfm_model.specs.Records.{Fits}
 use Rattle.ulfm_model.proofs.Lists.{each_push}
 use Rattle.ulfm_comm.specs.Counts.{records_of}
@@ -9,7 +10,7 @@ use Rattle.ulfm_comm_tests.proofs.play.seats_of.Goals as goal
 pub loop-own-init : goal.loop-own-init
 loop-own-init g c =
     let meld = g.P.Meld.meld in
-    let name = c.args.world.now in
+    let name = over g.P.Packed.pack c.args.world.now in
     let pass = g.W.Words.sight c.args.pass.now in
     let all : c.into_iter-own-iterator.result.rest.items ≡ c.args.ranks.items = c.into_iter-own-iterator.ensures.into_iter_gives.0 in
     let fits = subst (λ rs. AllByRecursion (Fits meld name.limits []) (records_of rs)) (sym all) c.requires.fits in
@@ -18,7 +19,7 @@ loop-own-init g c =
 pub loop-own-preserved : goal.loop-own-preserved
 loop-own-preserved g c =
     let meld = g.P.Meld.meld in
-    let name = c.args.world.now in
+    let name = over g.P.Packed.pack c.args.world.now in
     let pass = g.W.Words.sight c.args.pass.now in
     let left = subst (λ rs. AllByRecursion (Fits meld name.limits []) (records_of rs)) c.in-Some.ensures.steps.0 c.loop-own.invariant.0 in
     let fits = subst (λ h. Fits meld name.limits h c.in-Some.own.own) (sym c.requires.new.seen) left.0 in

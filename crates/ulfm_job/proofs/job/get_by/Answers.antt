@@ -1,4 +1,5 @@
 use Rattle.std.proofs.Common.{length, refl, ap, ◌∙◌, arith}
+use Rattle.ulfm_words.specs.Steps.{over}
 use Rattle.ulfm_model.specs.declared.call.Call.TheVariants as call
 use Rattle.ulfm_model.specs.declared.reply.Reply.TheVariants.{FailedGroup}
 use Rattle.ulfm_model.specs.History.{members}
@@ -10,12 +11,12 @@ use Rattle.ulfm_job.proofs.job.get_by.Goals as goal
 
 pub returns-then-rank-ranks-clause-step : goal.returns-then-rank-ranks-clause-step
 returns-then-rank-ranks-clause-step g c =
-    ranked_missing g.P.Meld.meld g.W.Words.alone c.args.world.now (g.W.Words.sight c.args.pass.now) c.args.ranks.now c.requires
+    ranked_missing g.P.Meld.meld g.W.Words.alone (over g.P.Packed.pack c.args.world.now) (g.W.Words.sight c.args.pass.now) c.args.ranks.now c.requires
     (call.GetFailed c.args.rank c.args.comm) c.args.rank refl (omega (arith, c.if-rank-ranks.true))
 
 pub get_failed-requires-clause-fits : goal.get_failed-requires-clause-fits
 get_failed-requires-clause-fits g c =
-    ranked_fits g.P.Meld.meld g.W.Words.alone c.args.world.now (g.W.Words.sight c.args.pass.now) c.args.ranks.now c.requires c.args.rank
+    ranked_fits g.P.Meld.meld g.W.Words.alone (over g.P.Packed.pack c.args.world.now) (g.W.Words.sight c.args.pass.now) c.args.ranks.now c.requires c.args.rank
     c.index-ranks-rank.result (omega (arith, c.if-rank-ranks.false))
 
 pub overflow_cast-result : goal.overflow_cast-result
@@ -29,7 +30,7 @@ overflow_cast-result g c =
 
 pub returns-in-Ok : goal.returns-in-Ok
 returns-in-Ok g c =
-    let answered = ranked_step g.P.Meld.meld g.W.Words.alone c.args.world.now (g.W.Words.sight c.args.pass.now) c.args.ranks.now
+    let answered = ranked_step g.P.Meld.meld g.W.Words.alone (over g.P.Packed.pack c.args.world.now) (g.W.Words.sight c.args.pass.now) c.args.ranks.now
     c.requires c.args.rank c.index-ranks-rank.result (omega (arith, c.if-rank-ranks.false))
     c.get_failed.new.self (g.W.Words.sight c.get_failed.new.pass) (λ r. call.GetFailed r c.args.comm) (FailedGroup (length c.as_slice.result.now)) refl
     (rw (← c.as_slice.ensures.value) at c.in-Ok.ensures.gets) in
@@ -37,13 +38,13 @@ returns-in-Ok g c =
 
 pub returns-in-OutOfMemory-clause-job : goal.returns-in-OutOfMemory-clause-job
 returns-in-OutOfMemory-clause-job g c =
-    ranked_job g.P.Meld.meld g.W.Words.alone c.args.world.now (g.W.Words.sight c.args.pass.now) c.args.ranks.now c.requires c.args.rank
+    ranked_job g.P.Meld.meld g.W.Words.alone (over g.P.Packed.pack c.args.world.now) (g.W.Words.sight c.args.pass.now) c.args.ranks.now c.requires c.args.rank
     c.index-ranks-rank.result (omega (arith, c.if-rank-ranks.false))
     c.get_failed.new.self (g.W.Words.sight c.get_failed.new.pass) _ (rw c.in-OutOfMemory.is at c.in-Err.ensures.gets)
 
 pub returns-in-OutOfMemory-clause-begins : goal.returns-in-OutOfMemory-clause-begins
 returns-in-OutOfMemory-clause-begins g c =
-    ranked_begins g.P.Meld.meld g.W.Words.alone c.args.world.now (g.W.Words.sight c.args.pass.now) c.args.ranks.now c.requires
+    ranked_begins g.P.Meld.meld g.W.Words.alone (over g.P.Packed.pack c.args.world.now) (g.W.Words.sight c.args.pass.now) c.args.ranks.now c.requires
     c.args.rank c.index-ranks-rank.result (omega (arith, c.if-rank-ranks.false))
     c.get_failed.new.self (g.W.Words.sight c.get_failed.new.pass) _ (rw c.in-OutOfMemory.is at c.in-Err.ensures.gets)
 
@@ -57,7 +58,7 @@ returns-in-OutOfMemory-clause-kept g c =
 
 pub returns-in_default : goal.returns-in_default
 returns-in_default g c =
-    let refused = ranked_refused g.P.Meld.meld g.W.Words.alone c.args.world.now (g.W.Words.sight c.args.pass.now) c.args.ranks.now
+    let refused = ranked_refused g.P.Meld.meld g.W.Words.alone (over g.P.Packed.pack c.args.world.now) (g.W.Words.sight c.args.pass.now) c.args.ranks.now
     c.requires c.args.rank c.index-ranks-rank.result (omega (arith, c.if-rank-ranks.false))
     c.get_failed.new.self (g.W.Words.sight c.get_failed.new.pass) (λ r. call.GetFailed r c.args.comm) c.in-Err.refusal refl c.in_default.not-OutOfMemory
     c.in-Err.ensures.gets in

@@ -8,7 +8,7 @@ use Rattle.ulfm_judge.proofs.judge.take_line.Goals as goal
 pub returns-in-Called-clause-taken : goal.returns-in-Called-clause-taken
 returns-in-Called-clause-taken g c = λ h us tells are.
     rw c.in-Called.is
-    (goes_on c.args.limits c.args.numbers.now c.args.records.now c.begin.new.calls.items (Takes g.P.Meld.meld (traced_of c.args.limits h c.args.records.now us) c.args.group.now (Line.Called c.in-Called.asked)) h
+    (goes_on c.args.limits c.args.numbers.now c.args.records.now c.begin.new.calls.items (Takes g.P.Meld.meld (traced_of c.args.limits h c.args.records.now us) c.args.group.now (Line.Called c.in-Called.asked c.in-Called.padded)) h
     c.begin.result tells (c.begin.ensures.taken c.args.limits h c.args.records.now us c.args.group.now tells.count are))
 
 pub returns-in-Looked-clause-taken : goal.returns-in-Looked-clause-taken

@@ -16,5 +16,5 @@ returns-clause-second g c = record {
 
 pub returns-clause-short : goal.returns-clause-short
 returns-clause-short g c =
-    is_short g.P.Meld.meld g.W.Words.alone g.W.OpenWords.tells_all c.args.comm c.args.first.now c.poll-answer.new.self c.poll-answer.result c.args.second.now c.learn.new.self c.poll.new.self c.poll.result (g.W.OpenWords.heard c.told.result)
+    is_short g.P.Meld.meld g.P.Packed.pack g.W.Words.alone g.W.OpenWords.tells_all c.args.comm c.args.first.now c.poll-answer.new.self c.poll-answer.result c.args.second.now c.learn.new.self c.poll.new.self c.poll.result (g.W.OpenWords.heard c.told.result)
     c.known_fit.ensures c.poll-answer.ensures c.told.ensures c.learn.ensures c.known_fit-2.ensures c.poll.ensures c.requires

@@ -3,7 +3,7 @@ use mathlib.Core.List.{IsPrefix}
 use Rattle.ulfm_laws.specs.Flags.{flag_meld}
 use Rattle.ulfm_words.specs.Steps.{view_of, IsView}
 use Rattle.ulfm_race.specs.declared.plan.RaceFault.{RaceFault}
-use Rattle.ulfm_race.specs.Races.{EndsFor, IsEnded, IsGathered, IsStarted, Numbered, StartIs, WasLet}
+use Rattle.ulfm_race.specs.Races.{EndsFor, IsEnded, IsGathered, IsStarted, Numbered, StartIs, WasLet, flag_pack}
 use Rattle.ulfm_race.proofs.gather.hear_all.Given as goal
 
 abbrev pub invariant-loop-one : goal.invariant-loop-one
@@ -16,7 +16,7 @@ invariant-loop-one g l =
     × (l.gate ≡ l.fn.gate)
     × (l.plan ≡ plan)
     × (l.gathered.plan ≡ plan)
-    × IsView flag_meld (view_of name l.outside)
+    × IsView flag_meld (view_of flag_pack name l.outside)
     × IsPrefix l.fn.outside.seen l.outside.seen
     × (vec_capacity l.gathered.replies ≡ plan.ranks)
     × ((fault : RaceFault) → l.gathered.fault ≡ Some fault → EndsFor plan (g.G.Gate.may_say l.fn.gate) fault)

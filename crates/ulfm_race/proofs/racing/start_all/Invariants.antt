@@ -2,6 +2,7 @@ use Rattle.std.proofs.Common.{◌≡◌, ℕ, ◌+◌, ◌*◌, ◌≤◌, lengt
 use Rattle.ulfm_laws.specs.Flags.{flag_meld}
 use Rattle.ulfm_words.specs.Steps.{view_of, IsView}
 use Rattle.ulfm_comm.specs.Counts.{records_of}
+use Rattle.ulfm_race.specs.Races.{flag_pack}
 use Rattle.ulfm_race.specs.{Races.{IsNewRank, IsStarted, Numbered, StartIs}, Worked.{steps_of}}
 use Rattle.ulfm_race.proofs.racing.start_all.Given as goal
 
@@ -13,7 +14,7 @@ invariant-loop-rank g l =
     (l.world ≡ l.fn.world)
     × (l.said ≡ l.fn.said)
     × (l.gate ≡ l.fn.gate)
-    × IsView flag_meld (view_of name l.outside)
+    × IsView flag_meld (view_of flag_pack name l.outside)
     × ((r : ℕ)
     × (r + length rest ≡ length l.fn.ranks.items)
     × Numbered (IsNewRank plan) r (records_of rest)

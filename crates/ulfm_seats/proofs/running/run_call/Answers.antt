@@ -8,14 +8,14 @@ use Rattle.ulfm_seats.proofs.running.run_call.Goals as goal
 pub returns-then-rank-seats-clause-tells : goal.returns-then-rank-seats-clause-tells
 returns-then-rank-seats-clause-tells g c = λ now stands.
     let name = c.args.world.now in
-    unknown_tells name c.args.pass.now c.args.seats.now now stands c.rank_of-rank.result c.args.asked (omega (arith, c.if-rank-seats.true, stands.size)) (by_its_rank c.args.asked c.requires.by_rank ∙ ap Rank (sym c.rank_of-rank.ensures))
+    unknown_tells name c.args.pass.now c.args.seats.now now stands c.rank_of-rank.result c.args.asked c.args.padded (omega (arith, c.if-rank-seats.true, stands.size)) (by_its_rank c.args.asked c.requires.by_rank ∙ ap Rank (sym c.rank_of-rank.ensures))
     c.args.teller.now.text.items c.tell_unknown.new.teller.text.items (rw c.count.ensures at c.in_ok-tell_unknown.ensures)
 
 pub returns-then-is_open-clause-tells : goal.returns-then-is_open-clause-tells
 returns-then-is_open-clause-tells g c = λ now stands.
     let name = c.args.world.now in
     open_tells name c.args.pass.now c.args.seats.now now stands c.rank_of-rank.result (get_or c.args.seats.now c.rank_of-rank.result c.index-seats-rank.result)
-    (get_there c.args.seats.now c.rank_of-rank.result c.index-seats-rank.result (omega (arith, c.if-rank-seats.false))) c.args.asked c.args.teller.now.text.items c.args.seats.now (by_its_rank c.args.asked c.requires.by_rank ∙ ap Rank (sym c.rank_of-rank.ensures))
+    (get_there c.args.seats.now c.rank_of-rank.result c.index-seats-rank.result (omega (arith, c.if-rank-seats.false))) c.args.asked c.args.padded c.args.teller.now.text.items c.args.seats.now (by_its_rank c.args.asked c.requires.by_rank ∙ ap Rank (sym c.rank_of-rank.ensures))
     (sym c.is_open.ensures ∙ c.if-is_open.true)
 
 pub begin_at-requires-clause-mine : goal.begin_at-requires-clause-mine
@@ -31,7 +31,7 @@ pub returns-clause-tells : goal.returns-clause-tells
 returns-clause-tells g c = λ now stands.
     let name = c.args.world.now in
     begin_tells name c.args.pass.now c.args.seats.now now stands c.rank_of-rank.result (get_or c.args.seats.now c.rank_of-rank.result c.index-seats-rank.result)
-    (get_there c.args.seats.now c.rank_of-rank.result c.index-seats-rank.result (omega (arith, c.if-rank-seats.false))) c.args.asked c.begin_at.new.seat c.args.teller.now.text.items c.begin_at.new.teller.text.items
+    (get_there c.args.seats.now c.rank_of-rank.result c.index-seats-rank.result (omega (arith, c.if-rank-seats.false))) c.args.asked c.args.padded c.begin_at.new.seat c.args.teller.now.text.items c.begin_at.new.teller.text.items
     (by_its_rank c.args.asked c.requires.by_rank
     ∙ ap Rank (sym c.rank_of-rank.ensures ∙ sym (number_there name c.args.pass.now c.args.seats.now now stands c.rank_of-rank.result c.index-seats-rank.result (omega (arith, c.if-rank-seats.false)))))
     c.in_ok-begin_at.ensures
@@ -42,7 +42,7 @@ returns-then-rank-seats-clause-stands g c =
     let stands = c.requires.stands.1 in
     let name = c.args.world.now in
     let t =
-    unknown_tells name c.args.pass.now c.args.seats.now now stands c.rank_of-rank.result c.args.asked (omega (arith, c.if-rank-seats.true, stands.size)) (by_its_rank c.args.asked c.requires.by_rank ∙ ap Rank (sym c.rank_of-rank.ensures))
+    unknown_tells name c.args.pass.now c.args.seats.now now stands c.rank_of-rank.result c.args.asked c.args.padded (omega (arith, c.if-rank-seats.true, stands.size)) (by_its_rank c.args.asked c.requires.by_rank ∙ ap Rank (sym c.rank_of-rank.ensures))
     c.args.teller.now.text.items c.tell_unknown.new.teller.text.items (rw c.count.ensures at c.in_ok-tell_unknown.ensures) in
     (t.1, t.3)
 
@@ -53,7 +53,7 @@ returns-clause-stands g c =
     let name = c.args.world.now in
     let t =
     begin_tells name c.args.pass.now c.args.seats.now now stands c.rank_of-rank.result (get_or c.args.seats.now c.rank_of-rank.result c.index-seats-rank.result)
-    (get_there c.args.seats.now c.rank_of-rank.result c.index-seats-rank.result (omega (arith, c.if-rank-seats.false))) c.args.asked c.begin_at.new.seat c.args.teller.now.text.items c.begin_at.new.teller.text.items
+    (get_there c.args.seats.now c.rank_of-rank.result c.index-seats-rank.result (omega (arith, c.if-rank-seats.false))) c.args.asked c.args.padded c.begin_at.new.seat c.args.teller.now.text.items c.begin_at.new.teller.text.items
     (by_its_rank c.args.asked c.requires.by_rank
     ∙ ap Rank (sym c.rank_of-rank.ensures ∙ sym (number_there name c.args.pass.now c.args.seats.now now stands c.rank_of-rank.result c.index-seats-rank.result (omega (arith, c.if-rank-seats.false)))))
     c.in_ok-begin_at.ensures in

@@ -6,7 +6,7 @@ use Rattle.ulfm_steps_tests.proofs.arrivals.missing.Given as goal
 
 abbrev pub invariant-loop-missing : goal.invariant-loop-missing
 invariant-loop-missing g l = record {
-  of : IsView g.P.Meld.meld (view_of (g.W.Words.name l.words) (g.W.Words.sight l.pass));
+  of : IsView g.P.Meld.meld (view_of g.P.Packed.pack (g.W.Words.name l.words) (g.W.Words.sight l.pass));
   round_of : IsRoundOf (g.W.Words.name l.words).limits (g.W.Words.sight l.pass).seen l.arrivals.comm l.arrivals.round l.group;
   at : AtArrival l.group l.declared l.arrivals (g.W.Words.sight l.pass).seen;
 }

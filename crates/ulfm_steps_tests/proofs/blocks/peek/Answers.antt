@@ -19,6 +19,7 @@ advance-requires g c =
       of = c.requires.of;
       round = rw (new.comm, new.round, c.requires.group) (world_round name.limits seen 0 c.requires.rounds);
       some = rw new.side c.requires.some;
+      first = rw new.first tt;
       are = rw (new.comm, new.round) (record {
         front = tells_none g.P.Meld.meld seen _ c.new-peek.result.blocks.front new.none.0;
         back = tells_none g.P.Meld.meld seen _ c.new-peek.result.blocks.back new.none.1;

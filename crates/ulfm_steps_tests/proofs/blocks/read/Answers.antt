@@ -18,4 +18,5 @@ advance-requires g c =
       round = rw (c.new-reading.ensures, c.requires.group) (world_round limits seen 0 c.requires.rounds);
       at = rw c.new-reading.ensures (starts g.P.Meld.meld seen 0 0 c.args.group.now c.peek-blocks.result c.requires.some c.peek-blocks.ensures.are
           (sym c.all.ensures.whole ∙ ap is_some c.in_default.is));
+      half = rw c.new-reading.ensures (record { first = tt; more = λ some. absurd (cc some); winged = λ set. absurd (cc set) });
     }

@@ -27,4 +27,5 @@ finish-requires-3-clause-may g c =
       of = search rules;
       round = rw (c.new-3.ensures, c.requires.group) (world_round (g.W.Words.name c.args.words.now).limits seen 0 c.requires.rounds);
       read = rw c.new-3.ensures (summed_none g.P.Meld.meld seen 0 0);
+      first = rw c.new-3.ensures tt;
     }

@@ -6,7 +6,7 @@ use Rattle.ulfm_steps_tests.proofs.read_on.read.Given as goal
 
 abbrev pub invariant-loop-on : goal.invariant-loop-on
 invariant-loop-on g l = record {
-  of : IsView g.P.Meld.meld (view_of (g.W.Words.name l.words) (g.W.Words.sight l.pass));
+  of : IsView g.P.Meld.meld (view_of g.P.Packed.pack (g.W.Words.name l.words) (g.W.Words.sight l.pass));
   may : MayReadOn l.group l.asked l.seen.items (failures (g.W.Words.sight l.pass).seen);
   at : AtFailure l.group l.asked l.on l.seen.items;
   room : (g.W.Words.name l.words).limits.ranks ≤ vec_capacity l.seen;

@@ -5,7 +5,7 @@ use Rattle.ulfm_steps_tests.proofs.stepped.declare.Given as goal
 
 abbrev pub invariant-loop-end : goal.invariant-loop-end
 invariant-loop-end g l = record {
-  of : IsView g.P.Meld.meld (view_of (g.W.Words.name l.words) (g.W.Words.sight l.pass));
+  of : IsView g.P.Meld.meld (view_of g.P.Packed.pack (g.W.Words.name l.words) (g.W.Words.sight l.pass));
   may : MayAppend g.P.Meld.meld (g.W.Words.name l.words).limits (g.W.Words.sight l.pass).seen l.append.item;
   round : HasRound (g.W.Words.name l.words).limits l.append.item;
   passed : Passed (g.W.Words.sight l.pass).seen l.append.item l.append.index;

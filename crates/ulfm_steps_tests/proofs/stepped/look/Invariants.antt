@@ -5,7 +5,7 @@ use Rattle.ulfm_steps_tests.proofs.stepped.look.Given as goal
 
 abbrev pub invariant-loop-look : goal.invariant-loop-look
 invariant-loop-look g l = record {
-  of : IsView g.P.Meld.meld (view_of (g.W.Words.name l.words) (g.W.Words.sight l.pass));
+  of : IsView g.P.Meld.meld (view_of g.P.Packed.pack (g.W.Words.name l.words) (g.W.Words.sight l.pass));
   room : (g.W.Words.name l.words).limits.ranks ≤ vec_capacity l.found;
   kept : vec_capacity l.initial.found ≤ vec_capacity l.found;
   look : LookIs (g.W.Words.name l.words).limits l.look.done l.found.items (g.W.Words.sight l.pass).seen;

@@ -5,7 +5,7 @@ use Rattle.ulfm_steps_tests.proofs.stepped.mark.Given as goal
 
 abbrev pub invariant-loop-marking : goal.invariant-loop-marking
 invariant-loop-marking g l = record {
-  of : IsView g.P.Meld.meld (view_of (g.W.Words.name l.words) (g.W.Words.sight l.pass));
+  of : IsView g.P.Meld.meld (view_of g.P.Packed.pack (g.W.Words.name l.words) (g.W.Words.sight l.pass));
   may : MayMarkAll (g.W.Words.name l.words).limits (g.W.Words.sight l.pass).seen l.marking.comm l.marking.round l.group l.declared;
   at : IsAt l.group l.declared l.marking.next l.marking.known;
 }

@@ -13,6 +13,7 @@ loop-reading-init g c =
       round_of = rw (c.new-reading.ensures, c.requires.group) (world_round name.limits seen 0 c.requires.rounds);
       within = rw c.new-reading.ensures (omega arith);
       read = rw c.new-reading.ensures (summed_none g.P.Meld.meld seen 0 0);
+      first = rw c.new-reading.ensures tt;
     }
 
 pub loop-reading-preserved : goal.loop-reading-preserved
@@ -24,6 +25,7 @@ loop-reading-preserved g c =
     record {
       of = e.goes.of;
       round_of = rw (e.comm, e.round) (round_stays (g.W.Words.name c.args.words.now).limits now after here.comm here.round c.args.group.now (did_prefix g.W.Words.alone [] now after e.goes.did) c.loop-reading.invariant.round_of);
-      within = c.advance.ensures.within;
+      within = e.within;
       read = rw (e.comm, e.round) e.read;
+      first = e.first;
     }

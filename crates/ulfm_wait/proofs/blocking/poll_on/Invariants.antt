@@ -7,5 +7,5 @@ use Rattle.ulfm_wait.proofs.blocking.poll_on.Given as goal
 
 abbrev pub invariant-loop : goal.invariant-loop
 invariant-loop g l =
-    (result : Result (Polled _) Refusal) (new : Membership _) → MemberPollsOn g.P.Meld.meld g.W.Words.alone l.fn.comm l.member result new
-    → MemberPollsOn g.P.Meld.meld g.W.Words.alone l.fn.comm l.fn.member result new
+    (result : Result (Polled _) Refusal) (new : Membership _) → MemberPollsOn g.P.Meld.meld g.P.Packed.pack g.W.Words.alone l.fn.comm l.member result new
+    → MemberPollsOn g.P.Meld.meld g.P.Packed.pack g.W.Words.alone l.fn.comm l.fn.member result new

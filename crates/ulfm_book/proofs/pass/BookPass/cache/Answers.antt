@@ -1,6 +1,7 @@
 use Rattle.std.proofs.Common.{◌≡◌, sym, ◌∙◌, ap, subst}
 use Rattle.ulfm_model.specs.Blocks.{IsBlock, IsBlockWithin}
-use Rattle.ulfm_book.specs.{Logs.{history_in, limits_in}, Rules.{book_of, word_named}, Layout.{block_offset}}
+use Rattle.ulfm_words.specs.{Blocks.{IsSpreadBlock}, Steps.{Sight, view_of}}
+use Rattle.ulfm_book.specs.{Logs.{history_in, limits_in}, Rules.{book_of, sight_of, word_named}, Layout.{block_offset}}
 use Rattle.ulfm_book.proofs.{Caching.{add_block_moves}, Telling.{cache_lost_tells, cache_won_tells}}
 use Rattle.ulfm_book.proofs.pass.BookPass.cache.Goals as goal
 
@@ -13,13 +14,15 @@ compare_exchange-stood-requires g c =
     let within : IsBlockWithin (limits_in seen.log) block = subst (λ s. IsBlockWithin s.name.limits block) (sym c.self.view_is) c.requires.within in
     let may : IsBlock g.P.Meld.meld g.P.Packed.pack (limits_in seen.log).ranks (history_in seen.log) block c.args.said =
     subst (λ s. IsBlock g.P.Meld.meld g.P.Packed.pack s.name.limits.ranks s.seen block c.args.said) (sym c.self.view_is) c.requires.may in
+    let spread : IsSpreadBlock (view_of g.P.Packed.pack c.args.self.now.name (sight_of seen.book seen.log c.self.inside.trail.log.items)) block =
+    subst (λ (s : Sight _). IsSpreadBlock (view_of g.P.Packed.pack c.args.self.now.name s) block) (sym c.self.view_is) c.requires.winged in
     let book : seen.book ≡ c.args.word.now.book = sym (ap (λ w. w.book) word) in (
       ap (λ w. w.tracked) word,
       book,
       c.no_pen-pen.ensures.0 ∙ book,
       c.plain-offer.ensures.0,
       rw (c.plain-offer.ensures.3, c.no_pen-pen.ensures.1)
-          (add_block_moves g.P.Meld.meld g.P.Packed.pack block c.args.said seen.log c.plain-offer.result.ask c.args.word.now.key may c.self.invariant within (ap (λ w. w.key) word)),
+          (add_block_moves g.P.Meld.meld g.P.Packed.pack block seen.log c.args.word.now.key c.self.invariant within (ap (λ w. w.key) word) c.args.said spread.0 c.plain-offer.result.ask may spread.2),
     )
 
 pub returns-then-stood-eq0 : goal.returns-then-stood-eq0

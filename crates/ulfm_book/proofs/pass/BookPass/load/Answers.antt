@@ -13,7 +13,7 @@ load-found-requires g c =
       ap (λ w. w.tracked) word,
       sym (ap (λ w. w.book) word),
       c.plain-offer.ensures.0,
-      rw c.plain-offer.ensures.3 (look_moves g.P.Meld.meld g.P.Packed.pack c.args.place seen.log c.plain-offer.result.ask c.args.word.now.key c.self.invariant within (ap (λ w. w.key) word)),
+      rw c.plain-offer.ensures.3 (look_moves g.P.Meld.meld g.P.Packed.pack c.args.place seen.log c.args.word.now.key c.self.invariant within (ap (λ w. w.key) word) c.plain-offer.result.ask),
     )
 
 pub returns-clause-loads : goal.returns-clause-loads

@@ -1,6 +1,6 @@
 use Rattle.std.proofs.Common.{◌≡◌, sym, ◌∙◌, ap, subst}
-use Rattle.ulfm_words.specs.{Places.{IsWithin}, Steps.{MaySet}}
-use Rattle.ulfm_book.specs.{declared.line.Line.TheVariants.{Made}, Logs.{history_in, limits_in, line_of}, Rules.{book_of, word_named}, Layout.{place_offset}}
+use Rattle.ulfm_words.specs.{Places.{IsWithin}, Steps.{IsWinged, MaySet, Sight}}
+use Rattle.ulfm_book.specs.{declared.line.Line.TheVariants.{Made}, Logs.{cached_in, history_in, limits_in, line_of}, Rules.{book_of, word_named}, Layout.{place_offset}}
 use Rattle.ulfm_book.proofs.{Moving.{add_moves}, Telling.{lost_tells, won_tells}}
 use Rattle.ulfm_book.proofs.pass.BookPass.set_once.Goals as goal
 
@@ -13,6 +13,8 @@ compare_exchange-found-requires g c =
     let within : IsWithin (limits_in seen.log) place = subst (λ s. IsWithin s.name.limits place) (sym c.self.view_is) c.requires.within in
     let may : MaySet g.P.Meld.meld g.P.Packed.pack g.P.Packed.unpack (limits_in seen.log) (history_in seen.log) c.args.step =
     subst (λ s. MaySet g.P.Meld.meld g.P.Packed.pack g.P.Packed.unpack s.name.limits s.seen c.args.step) (sym c.self.view_is) c.requires.may in
+    let winged : IsWinged g.P.Packed.pack (cached_in seen.log) may.entry.event =
+    subst (λ (s : Sight _). IsWinged g.P.Packed.pack s.cached may.entry.event) (sym c.self.view_is) (c.requires.winged may.entry may.is_entry) in
     let ask : c.plain-offer.result.ask ≡ Made may.entry = c.plain-offer.ensures.1 ∙ ap line_of may.is_entry in
     let book : seen.book ≡ c.args.word.now.book = sym (ap (λ w. w.book) word) in (
       ap (λ w. w.tracked) word,
@@ -20,7 +22,7 @@ compare_exchange-found-requires g c =
       c.no_pen-pen.ensures.0 ∙ book,
       c.plain-offer.ensures.0,
       rw (c.plain-offer.ensures.3, c.no_pen-pen.ensures.1, ask)
-          (add_moves g.P.Meld.meld g.P.Packed.pack place c.args.step.word may.entry seen.log c.args.word.now.key may.word may.legal c.self.invariant within (ap (λ w. w.key) word)),
+          (add_moves g.P.Meld.meld g.P.Packed.pack place seen.log c.args.word.now.key c.self.invariant within (ap (λ w. w.key) word) c.args.step.word may.entry may.word may.legal winged),
     )
 
 pub returns-then-found-eq0 : goal.returns-then-found-eq0

@@ -1,14 +1,19 @@
 use Rattle.std.proofs.Common.{◌≡◌, ◌⊎◌, ◌<◌, ◌≤◌, ℕ, Bool, false, List, [], length, IsTrue, arith, append-nil, refl, inl, inr, ap, subst, sym, ◌∙◌}
+use Rattle.ulfm_words.proofs.Tried.{tries_none}
+use Rattle.ulfm_comm.specs.declared.phases.phase.Next.TheVariants.{Ends}
+use Rattle.ulfm_comm.specs.Local.{Local}
+use Rattle.ulfm_comm.specs.Phase.{under_way}
+use Rattle.ulfm_comm.proofs.Wings.{turns_then}
 use Rattle.std.proofs.lemmas.Bool.{eqb-true, false≢true}
 use mathlib.Core.List.{IsPrefix}
-use Rattle.ulfm_model.specs.declared.{block.Block.{Block}, call.Call.{Call}, refusal.Refusal.TheVariants.{SelfFailed}, reply.Reply.{Reply}}
+use Rattle.ulfm_model.specs.declared.{block.Beside.{Beside}, call.Call.{Call}, refusal.Refusal.TheVariants.{SelfFailed}, reply.Reply.{Reply}}
 use Rattle.ulfm_model.specs.declared.reply.Reply.TheVariants.{Refused}
 use Rattle.ulfm_model.specs.{Answers.{polled_by}, History.{failures, has}, Records.{Record, held_at, is_shrink}}
 use Rattle.ulfm_model.proofs.Lists.{prefix_trans}
-use Rattle.ulfm_words.specs.Steps.{view_of, Name, Sight}
+use Rattle.ulfm_words.specs.Steps.{view_of, Over, Sight, view_at, over}
 use Rattle.ulfm_words.proofs.Trails.{did_none, did_prefix}
 use Rattle.ulfm_comm.specs.{Calls.{HasReplied}, AlsoLeft.{AlsoFew, FindsSetNext, also_left}, Counts.{IsLook}, Ends.{IsRefusedAgain}, Known.{KnowsIn, KnowsNext}}
-use Rattle.ulfm_comm.specs.{Phase.{Answered, IsPast, NextIs, Stands, Waits}, Requests.{may_cache}, Step.{HasReadOn}, StepsLeft.{Spends, steps_left}}
+use Rattle.ulfm_comm.specs.{Phase.{Answered, Idles, IsPast, NextIs, Stands}, Step.{HasReadOn, TriesTurn}, StepsLeft.{Spends, steps_left}}
 use Rattle.ulfm_comm.specs.declared.phases.phase.Phase.TheVariants.{Begun}
 use Rattle.ulfm_comm.proofs.{AlsoLeft.{also_ended}, Known.{blocks_of, knows_same, whole_ends}, Look.{full_seen, has_place_left, has_seen_all}}
 use Rattle.ulfm_comm.proofs.{Stands.{stands_own}, StepsLeft.{begun_bound}}
@@ -17,13 +22,13 @@ use Rattle.ulfm_comm.proofs.rank.LocalState.call.Goals.{After-go_begun, After-ha
 use Rattle.ulfm_comm.specs.Local.{stance, local}
 
 -- a rank that was in use isn't refused again: its call has ended
-has_ended : {P : Type 0} (meld : P → P → P) (alone : Bool) (name : Name) (asked : Call P) (old : Record) (before : Sight P) (reply : Reply P) (new : Record)
-    (after : Sight P) → old.refused ≡ false → Answered meld alone asked (local old (view_of name before)) reply (local new (view_of name after))
-    → HasReplied meld alone asked (local old (view_of name before)) reply (local new (view_of name after))
+has_ended : {P : Type 0} (meld : P → P → P) (alone : Bool) (name : Over P) (asked : Call P) (old : Record) (before : Sight P) (reply : Reply P) (new : Record)
+    (after : Sight P) → old.refused ≡ false → Answered meld alone asked (local old (view_at name before)) reply (local new (view_at name after))
+    → HasReplied meld alone asked (local old (view_at name before)) reply (local new (view_at name after))
 has_ended meld alone name asked old before reply new after in_use answered = by_ends answered.ends
   where
-    by_ends : (IsRefusedAgain old reply new × Waits alone before after) ⊎ HasReplied meld alone asked (local old (view_of name before)) reply (local new (view_of name after))
-        → HasReplied meld alone asked (local old (view_of name before)) reply (local new (view_of name after))
+    by_ends : (IsRefusedAgain old reply new × Idles alone before after) ⊎ HasReplied meld alone asked (local old (view_at name before)) reply (local new (view_at name after))
+        → HasReplied meld alone asked (local old (view_at name before)) reply (local new (view_at name after))
     by_ends (inl again) = absurd (false≢true (sym in_use ∙ again.0.refused))
     by_ends (inr ends) = ends
 
@@ -33,7 +38,7 @@ in_use g c is = sym c.is_refused.ensures ∙ is
 
 -- the call has just begun
 begins : (g : _) (c : After-is_refused g) → c.is_refused.result ≡ false → (alone : Bool)
-    → Stands g.P.Meld.meld alone (local c.args.self.now (view_of (g.W.Words.name c.args.words.now) (g.W.Words.sight c.args.pass.now))) (record { asked = c.args.asked; phase = Begun; group = [] }) (local c.args.self.now (view_of (g.W.Words.name c.args.words.now) (g.W.Words.sight c.args.pass.now)))
+    → Stands g.P.Meld.meld alone (local c.args.self.now (view_of g.P.Packed.pack (g.W.Words.name c.args.words.now) (g.W.Words.sight c.args.pass.now))) (record { asked = c.args.asked; phase = Begun; group = [] }) (local c.args.self.now (view_of g.P.Packed.pack (g.W.Words.name c.args.words.now) (g.W.Words.sight c.args.pass.now)))
 begins g c is alone = record {
   fits = c.requires.fits;
   mine = c.requires.mine;
@@ -54,14 +59,14 @@ go_begun-requires-clause-stands g c = (
 
 -- what comes next
 then : (g : _) (c : After-go_begun g) → c.is_refused.result ≡ false → (alone : Bool) → (IsTrue alone → IsTrue g.W.Words.alone)
-    → NextIs g.P.Meld.meld alone c.args.asked (local c.args.self.now (view_of (g.W.Words.name c.args.words.now) (g.W.Words.sight c.args.pass.now))) c.go_begun.result [] (local c.go_begun.new.self (view_of (g.W.Words.name c.args.words.now) (g.W.Words.sight c.go_begun.new.pass)))
+    → NextIs g.P.Meld.meld alone c.args.asked (local c.args.self.now (view_of g.P.Packed.pack (g.W.Words.name c.args.words.now) (g.W.Words.sight c.args.pass.now))) c.go_begun.result [] (local c.go_begun.new.self (view_of g.P.Packed.pack (g.W.Words.name c.args.words.now) (g.W.Words.sight c.go_begun.new.pass)))
 then g c is alone only =
     (c.go_begun.ensures.turn []).turns alone only c.args.self.now (g.W.Words.sight c.args.pass.now)
     (begins g (goal.at.After-go_begun g c).After-is_refused is alone)
 
 -- not all ranks were seen
 more : (g : _) (c : After-has_seen_all g) → c.has_seen_all.result ≡ false → length c.args.self.now.seen < (g.W.Words.name c.args.words.now).limits.ranks
-more g c is = has_place_left g.P.Meld.meld (g.W.Words.name c.args.words.now) c.args.self.now (g.W.Words.sight c.args.pass.now) c.requires.of
+more g c is = has_place_left g.P.Meld.meld (over g.P.Packed.pack (g.W.Words.name c.args.words.now)) c.args.self.now (g.W.Words.sight c.args.pass.now) c.requires.of
     c.requires.fits (sym c.has_seen_all.ensures.all ∙ is)
 
 -- the look of a call, with what comes after it
@@ -92,22 +97,24 @@ looks g c is own after goes_on ends sees =
 
 -- the look ended the call
 answered : (g : _) (c : In-Ends g) → c.is_refused.result ≡ false
-    → Answered g.P.Meld.meld g.W.Words.alone c.args.asked (local c.args.self.now (view_of (g.W.Words.name c.args.words.now) (g.W.Words.sight c.args.pass.now))) c.in-Ends.reply (local c.go_begun.new.self (view_of (g.W.Words.name c.args.words.now) (g.W.Words.sight c.go_begun.new.pass)))
+    → Answered g.P.Meld.meld g.W.Words.alone c.args.asked (local c.args.self.now (view_of g.P.Packed.pack (g.W.Words.name c.args.words.now) (g.W.Words.sight c.args.pass.now))) c.in-Ends.reply (local c.go_begun.new.self (view_of g.P.Packed.pack (g.W.Words.name c.args.words.now) (g.W.Words.sight c.go_begun.new.pass)))
 answered g c is =
-    subst (λ next. NextIs g.P.Meld.meld g.W.Words.alone c.args.asked (local c.args.self.now (view_of (g.W.Words.name c.args.words.now) (g.W.Words.sight c.args.pass.now))) next [] (local c.go_begun.new.self (view_of (g.W.Words.name c.args.words.now) (g.W.Words.sight c.go_begun.new.pass)))) c.in-Ends.is
+    subst (λ next. NextIs g.P.Meld.meld g.W.Words.alone c.args.asked (local c.args.self.now (view_of g.P.Packed.pack (g.W.Words.name c.args.words.now) (g.W.Words.sight c.args.pass.now))) next [] (local c.go_begun.new.self (view_of g.P.Packed.pack (g.W.Words.name c.args.words.now) (g.W.Words.sight c.go_begun.new.pass)))) c.in-Ends.is
     (then g (goal.at.In-Ends g c).After-go_begun is g.W.Words.alone (λ here. here))
 
 pub returns-in-Ends-clause-ends : goal.returns-in-Ends-clause-ends
 returns-in-Ends-clause-ends g c =
     let at = goal.at.returns-in-Ends-clause-ends g c in
-    let name = g.W.Words.name c.args.words.now in
+    let name = over g.P.Packed.pack (g.W.Words.name c.args.words.now) in
     let before = g.W.Words.sight c.args.pass.now in
     let after = g.W.Words.sight c.go_begun.new.pass in
     let turn = c.go_begun.ensures.turn [] in
     whole_ends g.P.Meld.meld g.W.Words.alone name c.args.asked c.args.self.now before c.in-Ends.reply c.go_begun.new.self after
     (has_ended g.P.Meld.meld g.W.Words.alone name c.args.asked c.args.self.now before c.in-Ends.reply c.go_begun.new.self after
     (in_use g at.After-is_refused c.if-is_refused.false) (answered g at.In-Ends c.if-is_refused.false))
-    turn.walks.cached turn.caches (subst (λ next. KnowsNext c.args.self.now c.args.asked after.cached next) c.in-Ends.is (turn.knows tt))
+    turn.walks.cached turn.beside.caches
+    (λ here wings. (subst (λ next. TriesTurn g.W.Words.alone (under_way c.args.asked Begun []) (local c.args.self.now (view_at name before)) next (local c.go_begun.new.self (view_at name after))) c.in-Ends.is turn.beside).wings here wings)
+    (subst (λ next. KnowsNext c.args.self.now c.args.asked after.cached next) c.in-Ends.is (turn.knows tt))
 
 pub returns-in-Ends-clause-pending : goal.returns-in-Ends-clause-pending
 returns-in-Ends-clause-pending g c = (answered g (goal.at.returns-in-Ends-clause-pending g c).In-Ends c.if-is_refused.false).pending
@@ -137,15 +144,15 @@ returns-in-Ends-clause-steps g c =
 
 -- the call goes on behind its look
 goes : (g : _) (c : In-Goes g) → c.is_refused.result ≡ false → (alone : Bool) → (IsTrue alone → IsTrue g.W.Words.alone)
-    → Stands g.P.Meld.meld alone (local c.args.self.now (view_of (g.W.Words.name c.args.words.now) (g.W.Words.sight c.args.pass.now))) (record { asked = c.args.asked; phase = c.in-Goes.phase; group = [] }) (local c.go_begun.new.self (view_of (g.W.Words.name c.args.words.now) (g.W.Words.sight c.go_begun.new.pass)))
+    → Stands g.P.Meld.meld alone (local c.args.self.now (view_of g.P.Packed.pack (g.W.Words.name c.args.words.now) (g.W.Words.sight c.args.pass.now))) (record { asked = c.args.asked; phase = c.in-Goes.phase; group = [] }) (local c.go_begun.new.self (view_of g.P.Packed.pack (g.W.Words.name c.args.words.now) (g.W.Words.sight c.go_begun.new.pass)))
 goes g c is alone only =
-    subst (λ next. NextIs g.P.Meld.meld alone c.args.asked (local c.args.self.now (view_of (g.W.Words.name c.args.words.now) (g.W.Words.sight c.args.pass.now))) next [] (local c.go_begun.new.self (view_of (g.W.Words.name c.args.words.now) (g.W.Words.sight c.go_begun.new.pass)))) c.in-Goes.is
+    subst (λ next. NextIs g.P.Meld.meld alone c.args.asked (local c.args.self.now (view_of g.P.Packed.pack (g.W.Words.name c.args.words.now) (g.W.Words.sight c.args.pass.now))) next [] (local c.go_begun.new.self (view_of g.P.Packed.pack (g.W.Words.name c.args.words.now) (g.W.Words.sight c.go_begun.new.pass)))) c.in-Goes.is
     (then g (goal.at.In-Goes g c).After-go_begun is alone only)
 
 -- it has changed nothing of the record but what was seen
 kept : (g : _) (c : In-Goes g) → c.is_refused.result ≡ false → c.go_begun.new.self ≡ record c.args.self.now { seen = c.go_begun.new.self.seen }
 kept g c is =
-    stands_own g.P.Meld.meld false (g.W.Words.name c.args.words.now) c.args.asked c.args.self.now (g.W.Words.sight c.args.pass.now) [] c.go_begun.new.self
+    stands_own g.P.Meld.meld false (over g.P.Packed.pack (g.W.Words.name c.args.words.now)) c.args.asked c.args.self.now (g.W.Words.sight c.args.pass.now) [] c.go_begun.new.self
     (g.W.Words.sight c.go_begun.new.pass) c.in-Goes.phase
     (goes g c is false (λ here. absurd (false≢true here))).at
 
@@ -171,10 +178,20 @@ knows g c is =
     knows_same c.args.self.now c.go_begun.new.self c.args.asked looked.cached (λ comm. ap (λ (w : Record). held_at w comm) (kept g c is)) c.in-Goes.phase
     (subst (λ next. KnowsNext c.args.self.now c.args.asked looked.cached next) c.in-Goes.is ((c.go_begun.ensures.turn []).knows tt))
 
+-- what its turns leave of the words beside
+turns : (g : _) (c : In-Goes g) → c.is_refused.result ≡ false → {reply : Reply g.row.P.Denot} {new : Local g.row.P.Denot}
+    → TriesTurn g.W.Words.alone (under_way c.args.asked c.in-Goes.phase []) (local c.go_begun.new.self (view_of g.P.Packed.pack (g.W.Words.name c.args.words.now) (g.W.Words.sight c.go_begun.new.pass))) (Ends reply) new
+    → TriesTurn g.W.Words.alone (under_way c.args.asked Begun []) (local c.args.self.now (view_of g.P.Packed.pack (g.W.Words.name c.args.words.now) (g.W.Words.sight c.args.pass.now))) (Ends reply) new
+turns g c is {reply} {new} run =
+    let old = local c.args.self.now (view_of g.P.Packed.pack (g.W.Words.name c.args.words.now) (g.W.Words.sight c.args.pass.now)) in
+    let mid = local c.go_begun.new.self (view_of g.P.Packed.pack (g.W.Words.name c.args.words.now) (g.W.Words.sight c.go_begun.new.pass)) in
+    let first = subst (λ next. TriesTurn g.W.Words.alone (under_way c.args.asked Begun []) old next mid) c.in-Goes.is (c.go_begun.ensures.turn []).beside in
+    turns_then g.W.Words.alone c.args.asked Begun c.in-Goes.phase [] old mid (Ends reply) new (kept g c is) first run
+
 pub returns-in-Goes-clause-ends : goal.returns-in-Goes-clause-ends
 returns-in-Goes-clause-ends g c =
     let at = goal.at.returns-in-Goes-clause-ends g c in
-    let name = g.W.Words.name c.args.words.now in
+    let name = over g.P.Packed.pack (g.W.Words.name c.args.words.now) in
     let own = c.args.self.now in
     let before = g.W.Words.sight c.args.pass.now in
     let looked = g.W.Words.sight c.go_begun.new.pass in
@@ -185,10 +202,7 @@ returns-in-Goes-clause-ends g c =
     (has_ended g.P.Meld.meld g.W.Words.alone name c.args.asked own before c.run_on.result c.run_on.new.self after
     (in_use g at.After-is_refused c.if-is_refused.false) answered)
     (prefix_trans before.cached looked.cached after.cached (c.go_begun.ensures.turn []).walks.cached run.cached)
-    (λ none.
-    let same : may_cache c.go_begun.new.self c.args.asked ≡ may_cache own c.args.asked = ap (λ (w : Record). may_cache w c.args.asked)
-    (kept g at.In-Goes c.if-is_refused.false) in
-    run.caches (same ∙ none) ∙ (c.go_begun.ensures.turn []).caches none)
+    (turns g at.In-Goes c.if-is_refused.false run.beside).caches (turns g at.In-Goes c.if-is_refused.false run.beside).wings
     (λ of.
     blocks_of c.go_begun.new.self own c.args.asked after.cached after.cached (λ comm. sym (ap (λ (w : Record). held_at w comm)
     (kept g at.In-Goes c.if-is_refused.false))) ([], append-nil after.cached)
@@ -200,7 +214,7 @@ returns-in-Goes-clause-pending g c =
     g.W.Words.alone (λ here. here))).pending
 
 -- what was read on, by the record before
-read_on : (g : _) (c : In-Goes g) → c.is_refused.result ≡ false → (seen : List ℕ) (cached : List Block)
+read_on : (g : _) (c : In-Goes g) → c.is_refused.result ≡ false → (seen : List ℕ) (cached : List Beside)
     → HasReadOn c.go_begun.new.self c.args.asked c.go_begun.new.self.seen seen cached
     → HasReadOn c.args.self.now c.args.asked (failures (g.W.Words.sight c.go_begun.new.pass).seen) seen cached
 read_on g c is seen cached read =
@@ -254,14 +268,15 @@ returns-in-Goes-clause-steps g c =
 pub returns-then-is_refused-clause-ends : goal.returns-then-is_refused-clause-ends
 returns-then-is_refused-clause-ends g c =
     let now = g.W.Words.sight c.args.pass.now in
-    whole_ends g.P.Meld.meld g.W.Words.alone (g.W.Words.name c.args.words.now) c.args.asked c.args.self.now now (Refused SelfFailed) c.args.self.now now
+    whole_ends g.P.Meld.meld g.W.Words.alone (over g.P.Packed.pack (g.W.Words.name c.args.words.now)) c.args.asked c.args.self.now now (Refused SelfFailed) c.args.self.now now
     (record {
       of = c.requires.of;
       onward = omega arith;
       fits = c.requires.fits;
+      twice = λ is. absurd (cc is);
       ends = inl (record { refused = sym c.is_refused.ensures ∙ c.if-is_refused.true; reply_is = refl; record_is = refl }, refl);
     })
-    ([], append-nil now.cached) (λ none. refl) (λ of. absurd (cc of))
+    ([], append-nil now.cached) (tries_none now.caches now.caches refl) (λ here wings. wings) (λ of. absurd (cc of))
 
 pub returns-then-is_refused-clause-steps : goal.returns-then-is_refused-clause-steps
 returns-then-is_refused-clause-steps g c =
@@ -284,17 +299,17 @@ returns-then-is_refused-clause-steps g c =
 pub returns-then-has_seen_all-clause-ends : goal.returns-then-has_seen_all-clause-ends
 returns-then-has_seen_all-clause-ends g c =
     let at = (goal.at.returns-then-has_seen_all-clause-ends g c).After-is_refused in
-    let name = g.W.Words.name c.args.words.now in
+    let name = over g.P.Packed.pack (g.W.Words.name c.args.words.now) in
     let now = g.W.Words.sight c.args.pass.now in
     whole_ends g.P.Meld.meld g.W.Words.alone name c.args.asked c.args.self.now now (Refused SelfFailed) c.refuse.new.self now
     (has_seen_all g.P.Meld.meld g.W.Words.alone name c.args.asked c.args.self.now c.refuse.new.self now c.requires.of c.requires.fits
     (in_use g at c.if-is_refused.false)
     c.has_seen_all.ensures.below (eqb-true _ _ (sym c.has_seen_all.ensures.all ∙ c.if-has_seen_all.true)) c.refuse.ensures)
-    ([], append-nil now.cached) (λ none. refl) (λ of. absurd (cc of))
+    ([], append-nil now.cached) (tries_none now.caches now.caches refl) (λ here wings. wings) (λ of. absurd (cc of))
 
 pub returns-then-has_seen_all-clause-steps : goal.returns-then-has_seen_all-clause-steps
 returns-then-has_seen_all-clause-steps g c =
-    let name = g.W.Words.name c.args.words.now in
+    let name = over g.P.Packed.pack (g.W.Words.name c.args.words.now) in
     let now = g.W.Words.sight c.args.pass.now in
     let all = full_seen g.P.Meld.meld name c.args.self.now now c.requires.of c.requires.fits
     (eqb-true _ _ (sym c.has_seen_all.ensures.all ∙ c.if-has_seen_all.true)) in

@@ -1,7 +1,9 @@
 use Rattle.std.proofs.Common.{rules, append-nil, [], ◌∙◌, ◌≡◌, arith, ap, inl, refl, subst, sym, ℕ, List}
+use Rattle.ulfm_words.proofs.Trails.{did_prefix}
+use Rattle.ulfm_comm.proofs.Wings.{turn_same}
 use Rattle.ulfm_model.specs.declared.call.Call.{Call}
 use Rattle.ulfm_model.specs.Records.{moment, Record}
-use Rattle.ulfm_words.specs.Steps.{view_of, Name, Sight}
+use Rattle.ulfm_words.specs.Steps.{view_of, Over, Sight, view_at, over}
 use Rattle.ulfm_comm.specs.declared.{phases.phase.Phase.{Phase}}
 use Rattle.ulfm_model.specs.{declared.reply.Reply.TheVariants.{Standing}, History.{is_revoked}, Terms.{comm_of}}
 use Rattle.ulfm_words.proofs.Trails.{did_none}
@@ -12,10 +14,10 @@ use Rattle.ulfm_comm.specs.Local.{frame, local}
 use Rattle.ulfm_comm.specs.Phase.{under_way}
 
 -- where it stands is said of that phase
-still : {P : Type 0} (meld : P → P → P) (name : Name) (asked : Call P) (group : List ℕ) (own : Record) (now : Sight P) (phase here : Phase P) → phase ≡ here
-    → StillStands meld (under_way asked phase group) (local own (view_of name now))
-    → StillStands meld (under_way asked here group) (local own (view_of name now))
-still meld name asked group own now phase here is stands = subst (λ at. StillStands meld (under_way asked at group) (local own (view_of name now))) is stands
+still : {P : Type 0} (meld : P → P → P) (name : Over P) (asked : Call P) (group : List ℕ) (own : Record) (now : Sight P) (phase here : Phase P) → phase ≡ here
+    → StillStands meld (under_way asked phase group) (local own (view_at name now))
+    → StillStands meld (under_way asked here group) (local own (view_at name now))
+still meld name asked group own now phase here is stands = subst (λ at. StillStands meld (under_way asked at group) (local own (view_at name now))) is stands
 
 pub returns-in-Over : goal.returns-in-Over
 returns-in-Over g c =
@@ -28,7 +30,7 @@ returns-in-Over g c =
           onward = omega arith;
           cached = ([], append-nil (g.W.Words.sight c.args.pass.now).cached);
         };
-        caches = λ none. refl;
+        beside = turn_same _ _ _ _ _ (λ w. w) ([], append-nil (g.W.Words.sight c.args.pass.now).seen) refl;
         named = λ not. refl;
         nearer = λ not. tt;
         spends = omega arith;
@@ -68,6 +70,15 @@ returns-in-Looking g c =
       early = tt;
     })
 
+pub returns-in-Spreading : goal.returns-in-Spreading
+returns-in-Spreading g c =
+    rw c.in-Spreading.is (record {
+      turn = c.go_spreading.ensures c.args.group.now.items c.args.whole;
+      over = λ at. absurd (cc at);
+      checks = search rules;
+      early = search rules;
+    })
+
 pub returns-in-Settling : goal.returns-in-Settling
 returns-in-Settling g c =
     rw c.in-Settling.is (record {
@@ -98,17 +109,17 @@ returns-in-Revoking g c =
 -- a call that asks whether its communicator is revoked loads it
 pub load_revocation-requires-clause-within : goal.load_revocation-requires-clause-within
 load_revocation-requires-clause-within g c =
-    let stands = subst (λ phase. StillStands g.P.Meld.meld (under_way c.args.asked.now phase c.args.group.now.items) (local c.args.self.now (view_of (g.W.Words.name c.args.words.now) (g.W.Words.sight c.args.pass.now)))) c.in-Asking.is c.requires.stands in
+    let stands = subst (λ phase. StillStands g.P.Meld.meld (under_way c.args.asked.now phase c.args.group.now.items) (local c.args.self.now (view_of g.P.Packed.pack (g.W.Words.name c.args.words.now) (g.W.Words.sight c.args.pass.now)))) c.in-Asking.is c.requires.stands in
     rw c.comm_of.ensures (asked_below _ _ _ _ _ _ _ _ stands.2.at.0 c.requires.of.legal c.requires.of.may_open)
 
 pub returns-in-Asking : goal.returns-in-Asking
 returns-in-Asking g c =
     rw c.in-Asking.is (record {
       turn = record {
-        walks = walks_none g.P.Meld.meld g.W.Words.alone (g.W.Words.name c.args.words.now) c.args.self.now.number (g.W.Words.sight c.args.pass.now)
+        walks = walks_none g.P.Meld.meld g.W.Words.alone (over g.P.Packed.pack (g.W.Words.name c.args.words.now)) c.args.self.now.number (g.W.Words.sight c.args.pass.now)
             (g.W.Words.sight c.load_revocation.new.pass)
             c.load_revocation.ensures.loads.of c.load_revocation.ensures.loads.steps c.load_revocation.ensures.loads.cached c.load_revocation.ensures.loads.did;
-        caches = λ none. c.load_revocation.ensures.loads.caches;
+        beside = turn_same _ _ _ _ _ (λ w. w) (did_prefix g.W.Words.alone _ _ _ c.load_revocation.ensures.loads.did) c.load_revocation.ensures.loads.caches;
         named = search rules;
         nearer = λ not. tt;
         spends = omega (arith, c.load_revocation.ensures.loads.steps);
@@ -122,14 +133,14 @@ returns-in-Asking g c =
         knows = λ known of. absurd (cc of);
         leads = tt;
         turns = λ alone only old before stands.
-            let name = g.W.Words.name c.args.words.now in
+            let name = over g.P.Packed.pack (g.W.Words.name c.args.words.now) in
             let own = c.args.self.now in
             let now = g.W.Words.sight c.args.pass.now in
             let after = g.W.Words.sight c.load_revocation.new.pass in
             let found = c.load_revocation.result in
             let is = c.load_revocation.ensures.revoked ∙ ap (is_revoked after.seen) c.comm_of.ensures in
             subst (λ asked. HasLooked (frame g.P.Meld.meld name.limits alone) asked (moment old before.seen) (moment own now.seen)
-            → Answered g.P.Meld.meld alone asked (local old (view_of name before)) (Standing found) (local own (view_of name after))) (sym stands.at.1)
+            → Answered g.P.Meld.meld alone asked (local old (view_at name before)) (Standing found) (local own (view_at name after))) (sym stands.at.1)
             (λ p. asked_answered g.P.Meld.meld alone g.W.Words.alone only name (comm_of c.args.asked.now) old before own now after
             (omega (arith, stands.onward, c.load_revocation.ensures.loads.steps)) stands.fits c.load_revocation.ensures.loads.of p found
             c.load_revocation.ensures.loads.did is)
@@ -206,71 +217,78 @@ returns-in-Checking g c =
 pub go_begun-requires-clause-stands : goal.go_begun-requires-clause-stands
 go_begun-requires-clause-stands g c = (
   c.args.group.now.items,
-  still g.P.Meld.meld (g.W.Words.name c.args.words.now) c.args.asked.now
+  still g.P.Meld.meld (over g.P.Packed.pack (g.W.Words.name c.args.words.now)) c.args.asked.now
       c.args.group.now.items c.args.self.now (g.W.Words.sight c.args.pass.now) c.args.phase _ c.in-Begun.is c.requires.stands,
 )
 
 pub go_looking-requires-clause-stands : goal.go_looking-requires-clause-stands
 go_looking-requires-clause-stands g c = (
   c.args.group.now.items,
-  still g.P.Meld.meld (g.W.Words.name c.args.words.now) c.args.asked.now
+  still g.P.Meld.meld (over g.P.Packed.pack (g.W.Words.name c.args.words.now)) c.args.asked.now
       c.args.group.now.items c.args.self.now (g.W.Words.sight c.args.pass.now) c.args.phase _ c.in-Looking.is c.requires.stands,
+)
+
+pub go_spreading-requires-clause-stands : goal.go_spreading-requires-clause-stands
+go_spreading-requires-clause-stands g c = (
+  c.args.group.now.items,
+  still g.P.Meld.meld (over g.P.Packed.pack (g.W.Words.name c.args.words.now)) c.args.asked.now
+      c.args.group.now.items c.args.self.now (g.W.Words.sight c.args.pass.now) c.args.phase _ c.in-Spreading.is c.requires.stands,
 )
 
 pub go_settling-requires-clause-stands : goal.go_settling-requires-clause-stands
 go_settling-requires-clause-stands g c = (
   c.args.group.now.items,
-  still g.P.Meld.meld (g.W.Words.name c.args.words.now) c.args.asked.now
+  still g.P.Meld.meld (over g.P.Packed.pack (g.W.Words.name c.args.words.now)) c.args.asked.now
       c.args.group.now.items c.args.self.now (g.W.Words.sight c.args.pass.now) c.args.phase _ c.in-Settling.is c.requires.stands,
 )
 
 pub go_arriving-requires-clause-stands : goal.go_arriving-requires-clause-stands
 go_arriving-requires-clause-stands g c = (
   c.args.group.now.items,
-  still g.P.Meld.meld (g.W.Words.name c.args.words.now) c.args.asked.now
+  still g.P.Meld.meld (over g.P.Packed.pack (g.W.Words.name c.args.words.now)) c.args.asked.now
       c.args.group.now.items c.args.self.now (g.W.Words.sight c.args.pass.now) c.args.phase _ c.in-Arriving.is c.requires.stands,
 )
 
 pub go_revoking-requires-clause-stands : goal.go_revoking-requires-clause-stands
 go_revoking-requires-clause-stands g c = (
   c.args.group.now.items,
-  still g.P.Meld.meld (g.W.Words.name c.args.words.now) c.args.asked.now
+  still g.P.Meld.meld (over g.P.Packed.pack (g.W.Words.name c.args.words.now)) c.args.asked.now
       c.args.group.now.items c.args.self.now (g.W.Words.sight c.args.pass.now) c.args.phase _ c.in-Revoking.is c.requires.stands,
 )
 
 pub go_peeking-requires-clause-stands : goal.go_peeking-requires-clause-stands
-go_peeking-requires-clause-stands g c = still g.P.Meld.meld (g.W.Words.name c.args.words.now) c.args.asked.now c.args.group.now.items c.args.self.now
+go_peeking-requires-clause-stands g c = still g.P.Meld.meld (over g.P.Packed.pack (g.W.Words.name c.args.words.now)) c.args.asked.now c.args.group.now.items c.args.self.now
     (g.W.Words.sight c.args.pass.now) c.args.phase _ c.in-Peeking.is c.requires.stands
 
 pub go_marking-requires-clause-stands : goal.go_marking-requires-clause-stands
 go_marking-requires-clause-stands g c = (
   c.args.group.now.items,
-  still g.P.Meld.meld (g.W.Words.name c.args.words.now) c.args.asked.now
+  still g.P.Meld.meld (over g.P.Packed.pack (g.W.Words.name c.args.words.now)) c.args.asked.now
       c.args.group.now.items c.args.self.now (g.W.Words.sight c.args.pass.now) c.args.phase _ c.in-Marking.is c.requires.stands,
 )
 
 pub go_reading-requires-clause-stands : goal.go_reading-requires-clause-stands
-go_reading-requires-clause-stands g c = still g.P.Meld.meld (g.W.Words.name c.args.words.now) c.args.asked.now c.args.group.now.items c.args.self.now
+go_reading-requires-clause-stands g c = still g.P.Meld.meld (over g.P.Packed.pack (g.W.Words.name c.args.words.now)) c.args.asked.now c.args.group.now.items c.args.self.now
     (g.W.Words.sight c.args.pass.now) c.args.phase _ c.in-Reading.is c.requires.stands
 
 pub go_reading_on-requires-clause-stands : goal.go_reading_on-requires-clause-stands
-go_reading_on-requires-clause-stands g c = still g.P.Meld.meld (g.W.Words.name c.args.words.now) c.args.asked.now c.args.group.now.items c.args.self.now
+go_reading_on-requires-clause-stands g c = still g.P.Meld.meld (over g.P.Packed.pack (g.W.Words.name c.args.words.now)) c.args.asked.now c.args.group.now.items c.args.self.now
     (g.W.Words.sight c.args.pass.now) c.args.phase _ c.in-ReadingOn.is c.requires.stands
 
 pub go_spawning-requires-clause-stands : goal.go_spawning-requires-clause-stands
-go_spawning-requires-clause-stands g c = still g.P.Meld.meld (g.W.Words.name c.args.words.now) c.args.asked.now c.args.group.now.items c.args.self.now
+go_spawning-requires-clause-stands g c = still g.P.Meld.meld (over g.P.Packed.pack (g.W.Words.name c.args.words.now)) c.args.asked.now c.args.group.now.items c.args.self.now
     (g.W.Words.sight c.args.pass.now) c.args.phase _ c.in-Spawning.is c.requires.stands
 
 pub go_waiting-requires-clause-stands : goal.go_waiting-requires-clause-stands
 go_waiting-requires-clause-stands g c = (
   c.args.group.now.items,
-  still g.P.Meld.meld (g.W.Words.name c.args.words.now) c.args.asked.now
+  still g.P.Meld.meld (over g.P.Packed.pack (g.W.Words.name c.args.words.now)) c.args.asked.now
       c.args.group.now.items c.args.self.now (g.W.Words.sight c.args.pass.now) c.args.phase _ c.in-Waiting.is c.requires.stands,
 )
 
 pub go_checking-requires-clause-stands : goal.go_checking-requires-clause-stands
 go_checking-requires-clause-stands g c = (
   c.args.group.now.items,
-  still g.P.Meld.meld (g.W.Words.name c.args.words.now) c.args.asked.now
+  still g.P.Meld.meld (over g.P.Packed.pack (g.W.Words.name c.args.words.now)) c.args.asked.now
       c.args.group.now.items c.args.self.now (g.W.Words.sight c.args.pass.now) c.args.phase _ c.in-Checking.is c.requires.stands,
 )

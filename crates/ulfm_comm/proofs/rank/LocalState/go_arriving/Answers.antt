@@ -1,10 +1,12 @@
 use Rattle.std.proofs.Common.{rules, ◌≡◌, arith, [], Some, IsTrue, MatchBool, ap, refl, ◌∙◌, subst, sym}
+use Rattle.ulfm_words.proofs.Trails.{did_prefix}
+use Rattle.ulfm_comm.proofs.Wings.{turn_same}
 use Rattle.ulfm_model.specs.declared.{call.Request.TheVariants.{Barrier}, event.Caller.TheVariants.{Rank}, event.Event.TheVariants.{Arrive}}
 use Rattle.ulfm_model.specs.declared.{refusal.Refusal.TheVariants.{Twice}, reply.Reply.TheVariants.{Refused, Started}}
 use Rattle.ulfm_model.specs.{Answers.{opened}, History.{has_arrived}, Records.{Record, with_held}, Runs.{Did}}
 use Rattle.ulfm_model.specs.Terms.{comm_of}
 use Rattle.ulfm_model.specs.Records.{moment}
-use Rattle.ulfm_words.specs.Steps.{view_of, IsAdded}
+use Rattle.ulfm_words.specs.Steps.{view_of, IsAdded, view_at, over}
 use Rattle.ulfm_comm.specs.{Phase.{Answered}, Look.{HasLooked}, Step.{Walks}}
 use Rattle.ulfm_comm.proofs.AlsoLeft.{also_ends}
 use Rattle.ulfm_comm.proofs.{BarrierStart.{when_lost, when_won}, Exchange.{arrived_before, arrived_now, arriving_may, arriving_within, walks_tried}}
@@ -39,9 +41,9 @@ arrived : (g : _) (c : After-set_arrival g) → IsTrue (has_arrived (g.W.Words.s
     c.args.self.now.number)
 arrived g c = rw (← c.number-number.ensures, ← c.comm_of-comm.ensures) c.set_arrival.ensures.stands
 
-walks : (g : _) (c : After-set_arrival g) → Walks g.P.Meld.meld g.W.Words.alone c.args.self.now.number (view_of (g.W.Words.name c.args.words.now) (g.W.Words.sight c.args.pass.now)) (view_of (g.W.Words.name c.args.words.now) (g.W.Words.sight c.set_arrival.new.pass))
+walks : (g : _) (c : After-set_arrival g) → Walks g.P.Meld.meld g.W.Words.alone c.args.self.now.number (view_of g.P.Packed.pack (g.W.Words.name c.args.words.now) (g.W.Words.sight c.args.pass.now)) (view_of g.P.Packed.pack (g.W.Words.name c.args.words.now) (g.W.Words.sight c.set_arrival.new.pass))
 walks g c =
-    walks_tried g.P.Meld.meld g.W.Words.alone (g.W.Words.name c.args.words.now) c.args.self.now.number (g.W.Words.sight c.args.pass.now)
+    walks_tried g.P.Meld.meld g.W.Words.alone (over g.P.Packed.pack (g.W.Words.name c.args.words.now)) c.args.self.now.number (g.W.Words.sight c.args.pass.now)
     (g.W.Words.sight c.set_arrival.new.pass)
     c.set_arrival.ensures.tries.of c.set_arrival.ensures.tries.steps c.set_arrival.ensures.tries.cached c.set_arrival.result
     (Arrive (comm_of c.args.asked.now) c.args.round c.args.self.now.number) (outcome g c)
@@ -51,7 +53,7 @@ returns-then-not-set_arrival g c =
     λ group whole.
     record {
       walks = walks g (goal.at.returns-then-not-set_arrival g c).After-set_arrival;
-      caches = λ none. c.set_arrival.ensures.tries.caches;
+      beside = turn_same _ _ _ _ _ (λ w. w) (did_prefix g.W.Words.alone _ _ _ (walks g (goal.at.returns-then-not-set_arrival g c).After-set_arrival).did) c.set_arrival.ensures.tries.caches;
       named = search rules;
       nearer = search rules;
       spends = omega (arith, c.set_arrival.ensures.tries.steps);
@@ -71,12 +73,12 @@ returns-then-not-set_arrival g c =
       turns = λ alone only old before stands.
           let at = (goal.at.returns-then-not-set_arrival g c).After-set_arrival in
           let lost = when_lost _ _ c.set_arrival.result c.if-not-set_arrival.true (outcome g at) in
-          let name = g.W.Words.name c.args.words.now in
+          let name = over g.P.Packed.pack (g.W.Words.name c.args.words.now) in
           let own = c.args.self.now in
           let now = g.W.Words.sight c.args.pass.now in
           let after = g.W.Words.sight c.set_arrival.new.pass in
           subst (λ asked. ((p : HasLooked (frame g.P.Meld.meld name.limits alone) asked (moment old before.seen) (moment own now.seen)) × (c.args.round ≡ p.x.next_barrier))
-          → Answered g.P.Meld.meld alone asked (local old (view_of name before)) (Refused Twice) (local own (view_of name after))) (sym stands.at.1)
+          → Answered g.P.Meld.meld alone asked (local old (view_at name before)) (Refused Twice) (local own (view_at name after))) (sym stands.at.1)
           (λ p. arrived_before g.P.Meld.meld alone g.W.Words.alone only name (comm_of c.args.asked.now) c.args.round old before own now after
           (omega (arith, stands.onward, c.set_arrival.ensures.tries.steps)) stands.fits p.0 p.1 c.set_arrival.ensures.tries.of (arrived g at) lost)
           (stands.at.0, stands.at.2);
@@ -87,7 +89,7 @@ returns g c =
     λ group whole.
     record {
       walks = walks g (goal.at.returns g c).After-set_arrival;
-      caches = λ none. c.set_arrival.ensures.tries.caches;
+      beside = turn_same _ _ _ _ _ (λ w. w) (did_prefix g.W.Words.alone _ _ _ (walks g (goal.at.returns g c).After-set_arrival).did) c.set_arrival.ensures.tries.caches;
       named = search rules;
       nearer = search rules;
       spends = omega (arith, c.set_arrival.ensures.tries.steps);
@@ -108,13 +110,13 @@ returns g c =
       turns = λ alone only old before stands.
           let at = (goal.at.returns g c).After-set_arrival in
           let won = when_won _ _ c.set_arrival.result c.if-not-set_arrival.false (outcome g at) in
-          let name = g.W.Words.name c.args.words.now in
+          let name = over g.P.Packed.pack (g.W.Words.name c.args.words.now) in
           let own = c.args.self.now in
           let now = g.W.Words.sight c.args.pass.now in
           let after = g.W.Words.sight c.set_arrival.new.pass in
           let leaves = c.open.ensures ∙ ap (λ w. with_held own w (λ y. opened y (Some (Barrier c.args.round)))) c.comm_of-comm.ensures in
           subst (λ asked. ((p : HasLooked (frame g.P.Meld.meld name.limits alone) asked (moment old before.seen) (moment own now.seen)) × (c.args.round ≡ p.x.next_barrier))
-          → Answered g.P.Meld.meld alone asked (local old (view_of name before)) Started (local c.open.new.self (view_of name after))) (sym stands.at.1)
+          → Answered g.P.Meld.meld alone asked (local old (view_at name before)) Started (local c.open.new.self (view_at name after))) (sym stands.at.1)
           (λ p. arrived_now g.P.Meld.meld alone g.W.Words.alone only name (comm_of c.args.asked.now) c.args.round old before own now after
           (omega (arith, stands.onward, c.set_arrival.ensures.tries.steps)) stands.fits p.0 p.1 c.set_arrival.ensures.tries.of
           (arrived g at) c.open.new.self won leaves)

@@ -1,12 +1,13 @@
 use Rattle.std.proofs.Common.{rules, ◌≡◌, ◌≤◌, false, ap, arith, refl, subst, sym, ◌∙◌}
+use Rattle.ulfm_comm.proofs.Wings.{try_seen}
 use Rattle.ulfm_model.specs.Records.{Record, held_at}
-use Rattle.ulfm_comm.specs.{Requests.{may_cache}, Step.{Walks}, StepsLeft.{steps_left}}
+use Rattle.ulfm_comm.specs.{Step.{Walks}, StepsLeft.{steps_left}}
 use Rattle.ulfm_comm.specs.declared.phases.phase.Phase.TheVariants.{Begun, Looking}
 use Rattle.ulfm_comm.proofs.{AlsoLeft.{also_resumes, looks_resumed}, Known.{next_same}, Look.{begins_looking, begun_within}}
 use Rattle.ulfm_comm.proofs.StepsLeft.{fewer_more, resumed_left}
 use Rattle.ulfm_comm.proofs.rank.LocalState.go_begun.Goals as goal
 use Rattle.ulfm_comm.proofs.rank.LocalState.go_begun.Goals.{After-resume}
-use Rattle.ulfm_words.specs.Steps.{view_of}
+use Rattle.ulfm_words.specs.Steps.{view_of, over}
 
 pub go_looking-requires-clause-stands : goal.go_looking-requires-clause-stands
 go_looking-requires-clause-stands g c =
@@ -17,7 +18,7 @@ go_looking-requires-clause-stands g c =
       (
         old,
         before,
-        begins_looking g.P.Meld.meld _ (g.W.Words.name c.args.words.now) c.args.asked.now old before p.0 c.args.self.now c.resume.new.self
+        begins_looking g.P.Meld.meld _ (over g.P.Packed.pack (g.W.Words.name c.args.words.now)) c.args.asked.now old before p.0 c.args.self.now c.resume.new.self
             (g.W.Words.sight c.args.pass.now) c.requires.of c.resume.ensures p.1.2,
       ),
     )
@@ -46,11 +47,14 @@ returns-clause-turn g c =
     let limits = (g.W.Words.name c.args.words.now).limits in
     let own = c.args.self.now in
     let stood = c.requires.stands in
-    let within = begun_within g.P.Meld.meld false (g.W.Words.name c.args.words.now) c.args.asked.now stood.1.0 stood.1.1 stood.0 own now c.requires.of
+    let within = begun_within g.P.Meld.meld false (over g.P.Packed.pack (g.W.Words.name c.args.words.now)) c.args.asked.now stood.1.0 stood.1.1 stood.0 own now c.requires.of
     stood.1.2 in
     record {
-      walks = subst (λ (w : Record). Walks g.P.Meld.meld g.W.Words.alone w.number (view_of (g.W.Words.name c.args.words.now) now) (view_of (g.W.Words.name c.args.words.now) after)) c.resume.ensures t.walks;
-      caches = subst (λ (w : Record). may_cache w c.args.asked.now ≡ false → after.caches ≡ now.caches) c.resume.ensures t.caches;
+      walks = subst (λ (w : Record). Walks g.P.Meld.meld g.W.Words.alone w.number (view_of g.P.Packed.pack (g.W.Words.name c.args.words.now) now) (view_of g.P.Packed.pack (g.W.Words.name c.args.words.now) after)) c.resume.ensures t.walks;
+      beside = record {
+        caches = try_seen own c.resume.new.self _ c.args.asked.now now.caches after.caches c.resume.ensures t.beside.caches;
+        wings = t.beside.wings;
+      };
       named = t.named;
       nearer = λ single. fewer_more (g.W.Words.name c.args.words.now).limits c.go_looking.new.self c.args.asked.now _ _ fewer c.go_looking.result
           (t.nearer single);
@@ -66,6 +70,6 @@ returns-clause-turn g c =
       leads = search rules;
       turns = λ alone only old before u.
           t.turns alone only old before
-          (begins_looking g.P.Meld.meld alone (g.W.Words.name c.args.words.now) c.args.asked.now old before group c.args.self.now c.resume.new.self
+          (begins_looking g.P.Meld.meld alone (over g.P.Packed.pack (g.W.Words.name c.args.words.now)) c.args.asked.now old before group c.args.self.now c.resume.new.self
           (g.W.Words.sight c.args.pass.now) c.requires.of c.resume.ensures u);
     }

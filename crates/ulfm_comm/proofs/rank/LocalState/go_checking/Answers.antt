@@ -1,4 +1,6 @@
 use Rattle.std.proofs.Common.{rules, ◌≡◌, ℕ, arith, Bool, false, List, refl, ap, sym, ◌∙◌, inl, inr}
+use Rattle.ulfm_words.proofs.Trails.{did_prefix}
+use Rattle.ulfm_comm.proofs.Wings.{turn_same}
 use Rattle.ulfm_model.specs.{declared.reply.Reply.{Reply}, Records.{Record}}
 use Rattle.std.proofs.lemmas.Bool.{false≢true}
 use Rattle.ulfm_comm.specs.{Phase.{Turns}, Requests.{is_of_round}, Step.{TakesTurn}}
@@ -11,12 +13,12 @@ use Rattle.ulfm_comm.proofs.rank.LocalState.go_checking.Goals.{After-load_revoca
 use Rattle.ulfm_comm.specs.Local.{local}
 use Rattle.ulfm_comm.specs.Phase.{under_way}
 use Rattle.ulfm_comm.specs.Step.{coming}
-use Rattle.ulfm_words.specs.Steps.{view_of}
+use Rattle.ulfm_words.specs.Steps.{view_of, over}
 
 pub load_revocation-requires-clause-within : goal.load_revocation-requires-clause-within
 load_revocation-requires-clause-within g c =
     let stands = c.requires.stands.1 in
-    checking_within g.P.Meld.meld false (g.W.Words.name c.args.words.now) c.args.asked.now c.args.missing c.requires.stands.0 c.args.self.now
+    checking_within g.P.Meld.meld false (over g.P.Packed.pack (g.W.Words.name c.args.words.now)) c.args.asked.now c.args.missing c.requires.stands.0 c.args.self.now
     (g.W.Words.sight c.args.pass.now) c.requires.of stands.0 stands.1 stands.2
     c.comm_of-comm.result c.comm_of-comm.ensures
 
@@ -43,12 +45,12 @@ returns-in-Declared-clause-early g c = λ group alone only found.
 
 -- the call ends by its load, which leaves what the rank has seen
 ends : (g : _) (c : After-load_revocation g) (reply : Reply g.row.P.Denot) (new : Record) → new.seen ≡ c.args.self.now.seen → is_of_round reply ≡ false
-    → ((group : List ℕ) → Turns g.P.Meld.meld g.W.Words.alone (under_way c.args.asked.now (Checking c.args.missing) group) (local c.args.self.now (view_of (g.W.Words.name c.args.words.now) (g.W.Words.sight c.args.pass.now))) (Ends reply) group (local new (view_of (g.W.Words.name c.args.words.now) (g.W.Words.sight c.load_revocation.new.pass))))
-    → (group : List ℕ) (whole : Bool) → TakesTurn g.P.Meld.meld g.W.Words.alone whole (under_way c.args.asked.now (Checking c.args.missing) group) (local c.args.self.now (view_of (g.W.Words.name c.args.words.now) (g.W.Words.sight c.args.pass.now))) (coming (Ends reply) group) (local new (view_of (g.W.Words.name c.args.words.now) (g.W.Words.sight c.load_revocation.new.pass)))
+    → ((group : List ℕ) → Turns g.P.Meld.meld g.W.Words.alone (under_way c.args.asked.now (Checking c.args.missing) group) (local c.args.self.now (view_of g.P.Packed.pack (g.W.Words.name c.args.words.now) (g.W.Words.sight c.args.pass.now))) (Ends reply) group (local new (view_of g.P.Packed.pack (g.W.Words.name c.args.words.now) (g.W.Words.sight c.load_revocation.new.pass))))
+    → (group : List ℕ) (whole : Bool) → TakesTurn g.P.Meld.meld g.W.Words.alone whole (under_way c.args.asked.now (Checking c.args.missing) group) (local c.args.self.now (view_of g.P.Packed.pack (g.W.Words.name c.args.words.now) (g.W.Words.sight c.args.pass.now))) (coming (Ends reply) group) (local new (view_of g.P.Packed.pack (g.W.Words.name c.args.words.now) (g.W.Words.sight c.load_revocation.new.pass)))
 ends g c reply new sees none turns = λ group whole.
     record {
       walks = search rules;
-      caches = λ none. c.load_revocation.ensures.loads.caches;
+      beside = turn_same _ _ _ _ _ (λ w. w) (did_prefix g.W.Words.alone _ _ _ c.load_revocation.ensures.loads.did) c.load_revocation.ensures.loads.caches;
       named = search rules;
       nearer = λ not. tt;
       spends = omega (arith, c.load_revocation.ensures.loads.steps);
@@ -66,7 +68,7 @@ ends g c reply new sees none turns = λ group whole.
 pub returns-then-load_revocation-clause-turn : goal.returns-then-load_revocation-clause-turn
 returns-then-load_revocation-clause-turn g c = ends g (goal.at.returns-then-load_revocation-clause-turn g c).After-load_revocation _ c.close.new.self
     (ap (λ (w : Record). w.seen) c.close.ensures) refl (λ group alone only old before stands.
-    checking_revoked g.P.Meld.meld alone (g.W.Words.name c.args.words.now) c.args.asked.now c.args.missing group c.args.self.now
+    checking_revoked g.P.Meld.meld alone (over g.P.Packed.pack (g.W.Words.name c.args.words.now)) c.args.asked.now c.args.missing group c.args.self.now
     (g.W.Words.sight c.args.pass.now) c.requires.of old before stands
     g.W.Words.alone only (g.W.Words.sight c.load_revocation.new.pass) c.load_revocation.ensures.loads.of c.load_revocation.ensures.loads.did
     (omega (arith, c.load_revocation.ensures.loads.steps)) c.comm_of-comm.result c.comm_of-comm.ensures c.close.new.self
@@ -75,7 +77,7 @@ returns-then-load_revocation-clause-turn g c = ends g (goal.at.returns-then-load
 pub returns-in-Nobody-clause-turn : goal.returns-in-Nobody-clause-turn
 returns-in-Nobody-clause-turn g c = ends g (goal.at.returns-in-Nobody-clause-turn g c).After-load_revocation _ c.close-in-Nobody.new.self
     (ap (λ (w : Record). w.seen) c.close-in-Nobody.ensures) refl (λ group alone only old before stands.
-    checking_missing g.P.Meld.meld alone (g.W.Words.name c.args.words.now) c.args.asked.now c.args.missing group c.args.self.now
+    checking_missing g.P.Meld.meld alone (over g.P.Packed.pack (g.W.Words.name c.args.words.now)) c.args.asked.now c.args.missing group c.args.self.now
     (g.W.Words.sight c.args.pass.now) c.requires.of old before stands
     g.W.Words.alone only (g.W.Words.sight c.load_revocation.new.pass) c.load_revocation.ensures.loads.of c.load_revocation.ensures.loads.did
     (omega (arith, c.load_revocation.ensures.loads.steps)) c.comm_of-comm.result c.comm_of-comm.ensures c.close-in-Nobody.new.self
@@ -84,7 +86,7 @@ returns-in-Nobody-clause-turn g c = ends g (goal.at.returns-in-Nobody-clause-tur
 pub returns-in-Others-clause-turn : goal.returns-in-Others-clause-turn
 returns-in-Others-clause-turn g c = ends g (goal.at.returns-in-Others-clause-turn g c).After-load_revocation _ c.args.self.now refl refl
     (λ group alone only old before stands.
-    checking_missing g.P.Meld.meld alone (g.W.Words.name c.args.words.now) c.args.asked.now c.args.missing group c.args.self.now
+    checking_missing g.P.Meld.meld alone (over g.P.Packed.pack (g.W.Words.name c.args.words.now)) c.args.asked.now c.args.missing group c.args.self.now
     (g.W.Words.sight c.args.pass.now) c.requires.of old before stands
     g.W.Words.alone only (g.W.Words.sight c.load_revocation.new.pass) c.load_revocation.ensures.loads.of c.load_revocation.ensures.loads.did
     (omega (arith, c.load_revocation.ensures.loads.steps)) c.comm_of-comm.result c.comm_of-comm.ensures c.args.self.now
@@ -93,7 +95,7 @@ returns-in-Others-clause-turn g c = ends g (goal.at.returns-in-Others-clause-tur
 pub returns-in-Declared-clause-turn : goal.returns-in-Declared-clause-turn
 returns-in-Declared-clause-turn g c = ends g (goal.at.returns-in-Declared-clause-turn g c).After-load_revocation _ c.close-in-Declared.new.self
     (ap (λ (w : Record). w.seen) c.close-in-Declared.ensures) refl (λ group alone only old before stands.
-    checking_missing g.P.Meld.meld alone (g.W.Words.name c.args.words.now) c.args.asked.now c.args.missing group c.args.self.now
+    checking_missing g.P.Meld.meld alone (over g.P.Packed.pack (g.W.Words.name c.args.words.now)) c.args.asked.now c.args.missing group c.args.self.now
     (g.W.Words.sight c.args.pass.now) c.requires.of old before stands
     g.W.Words.alone only (g.W.Words.sight c.load_revocation.new.pass) c.load_revocation.ensures.loads.of c.load_revocation.ensures.loads.did
     (omega (arith, c.load_revocation.ensures.loads.steps)) c.comm_of-comm.result c.comm_of-comm.ensures c.close-in-Declared.new.self

@@ -1,4 +1,6 @@
 use Rattle.std.proofs.Common.{rules, Bool, ℕ, ◌≡◌, ◌+◌, ◌-◌, ◌≤◌, arith, refl, subst, length, [], true, false, IsTrue, ap, ap₂, sym, ◌∙◌}
+use Rattle.ulfm_comm.proofs.Wings.{turn_same}
+use Rattle.ulfm_words.specs.Steps.{over}
 use Rattle.std.proofs.lemmas.Bool.{false≢true}
 use Rattle.ulfm_model.specs.{History.{failures, has}, Records.{Record, held_at}}
 use mathlib.Core.List.{IsPrefix}
@@ -83,7 +85,7 @@ returns-then-not-look_on-clause-turn g c =
     c.if-not-look_on.true c.look_on.ensures.takes.turns in
     record {
       walks = walked c.look_on.ensures.goes;
-      caches = λ none. c.look_on.ensures.goes.caches;
+      beside = turn_same _ _ _ _ _ (λ w. w) (did_prefix g.W.Words.alone _ _ _ c.look_on.ensures.goes.did) c.look_on.ensures.goes.caches;
       named = search rules;
       nearer = search rules;
       spends = looks_on (g.W.Words.name c.args.words.now).limits c.args.self.now c.look_on.new.self c.args.asked.now c.look_on.ensures.kept
@@ -122,7 +124,7 @@ returns-then-has_rank-clause-turn g c =
     λ group.
     record {
       walks = walked c.look_on.ensures.goes;
-      caches = λ none. c.look_on.ensures.goes.caches;
+      beside = turn_same _ _ _ _ _ (λ w. w) (did_prefix g.W.Words.alone _ _ _ c.look_on.ensures.goes.did) c.look_on.ensures.goes.caches;
       named = search rules;
       nearer = search rules;
       spends = ends_look g (goal.at.returns-then-has_rank-clause-turn g c).After-look_on c.if-not-look_on.false c.refuse.new.self
@@ -138,7 +140,7 @@ returns-then-has_rank-clause-turn g c =
           c.refuse.new.self (ap (λ (w : Record). w.seen) c.refuse.ensures) (Ends (Refused SelfFailed)) (λ declared. refl);
       knows = λ known of. absurd (cc of);
       leads = search rules;
-      turns = let name = g.W.Words.name c.args.words.now in
+      turns = let name = over g.P.Packed.pack (g.W.Words.name c.args.words.now) in
           let now = g.W.Words.sight c.args.pass.now in
           let after = g.W.Words.sight c.look_on.new.pass in
           λ alone only old before u.
@@ -157,10 +159,10 @@ returns-clause-turn g c =
     λ group.
     record {
       walks = walked c.look_on.ensures.goes;
-      caches = λ none. c.look_on.ensures.goes.caches;
+      beside = turn_same _ _ _ _ _ (λ w. w) (did_prefix g.W.Words.alone _ _ _ c.look_on.ensures.goes.did) c.look_on.ensures.goes.caches;
       named = search rules;
       nearer = λ single.
-          let name = g.W.Words.name c.args.words.now in
+          let name = over g.P.Packed.pack (g.W.Words.name c.args.words.now) in
           let now = g.W.Words.sight c.args.pass.now in
           let after = g.W.Words.sight c.look_on.new.pass in
           let own = c.args.self.now in

@@ -1,4 +1,7 @@
 use Rattle.std.proofs.Common.{rules, ◌≡◌, false, length, ap, sym, ◌∙◌, arith}
+use Rattle.ulfm_words.proofs.Trails.{did_prefix}
+use Rattle.ulfm_comm.proofs.Wings.{turn_same}
+use Rattle.ulfm_words.specs.Steps.{over}
 use Rattle.ulfm_model.specs.Records.{Held, held_at}
 use Rattle.ulfm_comm.proofs.Agreement.{marking_any, marking_few, marking_goes, marking_may_on, marking_reads, marking_unknown}
 use Rattle.ulfm_comm.proofs.StepsLeft.{marks_read}
@@ -18,7 +21,7 @@ members g c = c.deref.ensures.value ∙ ap (λ (y : Held). y.group) c.x.view_is
 pub advance-requires-clause-may : goal.advance-requires-clause-may
 advance-requires-clause-may g c =
     let stands = c.requires.stands.1 in
-    marking_may_on g.P.Meld.meld (g.W.Words.name c.args.words.now) c.args.asked.now c.args.marks c.args.blocks c.args.shrinks c.requires.stands.0
+    marking_may_on g.P.Meld.meld (over g.P.Packed.pack (g.W.Words.name c.args.words.now)) c.args.asked.now c.args.marks c.args.blocks c.args.shrinks c.requires.stands.0
     c.args.self.now (g.W.Words.sight c.args.pass.now) c.requires.of
     c.held_comm-x.result.now c.comm_of.result c.held_comm-x.ensures c.comm_of.ensures c.deref.result.now c.failures-seen.result.now
     (members g (goal.at.advance-requires-clause-may g c).After-deref) c.failures-seen.ensures false stands.0 stands.1 stands.2
@@ -31,7 +34,7 @@ adds g c reply not =
     let s = c.requires.stands in
     let now = (g.W.Words.sight c.args.pass.now).seen in
     let after = (g.W.Words.sight c.advance.new.pass).seen in
-    adds_marked g.P.Meld.meld g.W.Words.alone (g.W.Words.name c.args.words.now) c.args.asked.now c.args.marks c.args.blocks c.args.shrinks s.0 s.1.0 s.1.1
+    adds_marked g.P.Meld.meld g.W.Words.alone (over g.P.Packed.pack (g.W.Words.name c.args.words.now)) c.args.asked.now c.args.marks c.args.blocks c.args.shrinks s.0 s.1.0 s.1.1
     c.args.self.now (g.W.Words.sight c.args.pass.now) after c.requires.of s.1.2 reply
     (rw (← c.failures-seen.ensures) (c.advance.ensures.once not))
 
@@ -46,7 +49,7 @@ returns-then-marks-seen g c =
     λ group.
     record {
       walks = search rules;
-      caches = λ none. c.advance.ensures.marks.marks.caches;
+      beside = turn_same _ _ _ _ _ (λ w. w) (did_prefix g.W.Words.alone _ _ _ c.advance.ensures.marks.marks.marks.did) c.advance.ensures.marks.marks.caches;
       named = search rules;
       nearer = search rules;
       spends = search rules;
@@ -58,7 +61,7 @@ returns-then-marks-seen g c =
       knows = λ known. rw (c.advance.ensures.comm, c.advance.ensures.round) (later g (goal.at.returns-then-marks-seen g c).After-advance known);
       leads = search rules;
       turns = λ alone only old before stands.
-          marking_goes g.P.Meld.meld (g.W.Words.name c.args.words.now) c.args.asked.now c.args.marks c.args.blocks c.args.shrinks group c.args.self.now
+          marking_goes g.P.Meld.meld (over g.P.Packed.pack (g.W.Words.name c.args.words.now)) c.args.asked.now c.args.marks c.args.blocks c.args.shrinks group c.args.self.now
           (g.W.Words.sight c.args.pass.now) c.requires.of
           c.held_comm-x.result.now c.comm_of.result c.held_comm-x.ensures c.comm_of.ensures c.deref.result.now c.failures-seen.result.now
           (members g (goal.at.returns-then-marks-seen g c).After-deref) c.failures-seen.ensures alone old before stands
@@ -74,7 +77,7 @@ pub overflow_cast-members : goal.overflow_cast-members
 overflow_cast-members g c =
     let stood = c.requires.stands in
     let stands = stood.1 in
-    let few = marking_few g.P.Meld.meld (g.W.Words.name c.args.words.now) c.args.asked.now c.args.marks c.args.blocks c.args.shrinks stood.0
+    let few = marking_few g.P.Meld.meld (over g.P.Packed.pack (g.W.Words.name c.args.words.now)) c.args.asked.now c.args.marks c.args.blocks c.args.shrinks stood.0
     c.args.self.now (g.W.Words.sight c.args.pass.now) c.requires.of
     c.held_comm-x.result.now c.comm_of.result c.held_comm-x.ensures c.comm_of.ensures c.deref.result.now c.failures-seen.result.now
     (members g (goal.at.overflow_cast-members g c).After-deref) c.failures-seen.ensures false stands.0 stands.1 stands.2 in
@@ -84,7 +87,7 @@ pub new-requires : goal.new-requires
 new-requires g c =
     let stood = c.requires.stands in
     let stands = stood.1 in
-    let some = marking_any g.P.Meld.meld (g.W.Words.name c.args.words.now) c.args.asked.now c.args.marks c.args.blocks c.args.shrinks stood.0
+    let some = marking_any g.P.Meld.meld (over g.P.Packed.pack (g.W.Words.name c.args.words.now)) c.args.asked.now c.args.marks c.args.blocks c.args.shrinks stood.0
     c.args.self.now (g.W.Words.sight c.args.pass.now) c.requires.of
     c.held_comm-x.result.now c.comm_of.result c.held_comm-x.ensures c.comm_of.ensures c.deref.result.now c.failures-seen.result.now
     (members g (goal.at.new-requires g c).After-deref) c.failures-seen.ensures false stands.0 stands.1 stands.2 in
@@ -95,7 +98,7 @@ returns g c =
     let stood = c.requires.stands in
     let stands = stood.1 in
     let takes = c.advance.ensures.takes in
-    let unknown = marking_unknown g.P.Meld.meld (g.W.Words.name c.args.words.now) c.args.asked.now c.args.marks c.args.blocks c.args.shrinks stood.0
+    let unknown = marking_unknown g.P.Meld.meld (over g.P.Packed.pack (g.W.Words.name c.args.words.now)) c.args.asked.now c.args.marks c.args.blocks c.args.shrinks stood.0
     c.args.self.now (g.W.Words.sight c.args.pass.now) c.requires.of
     c.held_comm-x.result.now c.comm_of.result c.held_comm-x.ensures c.comm_of.ensures c.deref.result.now c.failures-seen.result.now
     (members g (goal.at.returns g c).After-deref) c.failures-seen.ensures false stands.0 stands.1 stands.2 in
@@ -108,7 +111,7 @@ returns g c =
     λ group.
     record {
       walks = search rules;
-      caches = λ none. c.advance.ensures.marks.marks.caches;
+      beside = turn_same _ _ _ _ _ (λ w. w) (did_prefix g.W.Words.alone _ _ _ c.advance.ensures.marks.marks.marks.did) c.advance.ensures.marks.marks.caches;
       named = search rules;
       nearer = λ single. omega (arith, left, takes.some);
       spends = left;
@@ -120,7 +123,7 @@ returns g c =
       knows = λ known. rw (c.new.ensures, c.advance.ensures.comm, c.advance.ensures.round) (later g (goal.at.returns g c).After-advance known);
       leads = search rules;
       turns = λ alone only old before stands.
-          marking_reads g.P.Meld.meld (g.W.Words.name c.args.words.now) c.args.asked.now c.args.marks c.args.blocks c.args.shrinks group c.args.self.now
+          marking_reads g.P.Meld.meld (over g.P.Packed.pack (g.W.Words.name c.args.words.now)) c.args.asked.now c.args.marks c.args.blocks c.args.shrinks group c.args.self.now
           (g.W.Words.sight c.args.pass.now) c.requires.of
           c.held_comm-x.result.now c.comm_of.result c.held_comm-x.ensures c.comm_of.ensures c.deref.result.now c.failures-seen.result.now
           (members g (goal.at.returns g c).After-deref) c.failures-seen.ensures alone old before stands

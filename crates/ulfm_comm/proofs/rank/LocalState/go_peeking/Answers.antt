@@ -1,4 +1,6 @@
 use Rattle.std.proofs.lemmas.Bool.{false≢true}
+use Rattle.ulfm_words.proofs.Trails.{did_prefix}
+use Rattle.ulfm_comm.proofs.Wings.{turn_same}
 use Rattle.std.proofs.Common.{◌≡◌, ◌+◌, ◌<◌, ◌≤◌, ℕ, List, Some, true, false, [], length, refl, ap, sym, ◌∙◌, arith}
 use Rattle.ulfm_model.specs.{Blocks.{IsSummed}, Records.{Held, Record, held_at}, Terms.{comm_of}}
 use Rattle.ulfm_steps.specs.Blocks.{AllSet, AreSet, is_whole}
@@ -14,7 +16,7 @@ use Rattle.ulfm_comm.proofs.rank.LocalState.go_peeking.Goals.{After-deref, After
 use Rattle.ulfm_comm.specs.Local.{stance, local}
 use Rattle.ulfm_comm.specs.Phase.{under_way}
 use Rattle.ulfm_comm.specs.Step.{coming}
-use Rattle.ulfm_words.specs.Steps.{view_of}
+use Rattle.ulfm_words.specs.Steps.{view_of, over}
 
 -- a step was made, so that fewer are left
 fewer : (after left now most : ℕ) → after + left ≤ now + most → now < after → left < most
@@ -27,7 +29,7 @@ members g c = c.deref.ensures.value ∙ ap (λ (y : Held). y.group) c.x.view_is
 pub advance-requires : goal.advance-requires
 advance-requires g c =
     let stands = c.requires.stands in
-    peek_may g.P.Meld.meld (g.W.Words.name c.args.words.now) c.args.asked.now c.args.peek c.args.shrinks c.args.group.now.items c.args.self.now
+    peek_may g.P.Meld.meld (over g.P.Packed.pack (g.W.Words.name c.args.words.now)) c.args.asked.now c.args.peek c.args.shrinks c.args.group.now.items c.args.self.now
     (g.W.Words.sight c.args.pass.now) c.requires.of
     c.held_comm-x.result.now c.comm_of.result c.held_comm-x.ensures c.comm_of.ensures c.deref.result.now (members g (goal.at.advance-requires g c).After-deref)
     false stands.0 stands.1 stands.2
@@ -43,7 +45,7 @@ held g c = ap (held_at c.args.self.now) (sym c.comm_of.ensures) ∙ c.held_comm-
 pub overflow_cast-members : goal.overflow_cast-members
 overflow_cast-members g c =
     let stands = c.requires.stands in
-    let few = peek_few g.P.Meld.meld (g.W.Words.name c.args.words.now) c.args.asked.now c.args.peek c.args.shrinks c.args.group.now.items c.args.self.now
+    let few = peek_few g.P.Meld.meld (over g.P.Packed.pack (g.W.Words.name c.args.words.now)) c.args.asked.now c.args.peek c.args.shrinks c.args.group.now.items c.args.self.now
     (g.W.Words.sight c.args.pass.now) c.requires.of
     c.held_comm-x.result.now c.comm_of.result c.held_comm-x.ensures c.comm_of.ensures c.deref.result.now
     (members g (goal.at.overflow_cast-members g c).After-deref) false stands.0 stands.1 stands.2 in
@@ -52,7 +54,7 @@ overflow_cast-members g c =
 pub all-requires : goal.all-requires
 all-requires g c =
     let stands = c.requires.stands in
-    let some = peek_any g.P.Meld.meld (g.W.Words.name c.args.words.now) c.args.asked.now c.args.peek c.args.shrinks c.args.group.now.items c.args.self.now
+    let some = peek_any g.P.Meld.meld (over g.P.Packed.pack (g.W.Words.name c.args.words.now)) c.args.asked.now c.args.peek c.args.shrinks c.args.group.now.items c.args.self.now
     (g.W.Words.sight c.args.pass.now) c.requires.of
     c.held_comm-x.result.now c.comm_of.result c.held_comm-x.ensures c.comm_of.ensures c.deref.result.now (members g (goal.at.all-requires g c).After-deref)
     false stands.0 stands.1 stands.2 in
@@ -69,14 +71,14 @@ peeks : (g : _) (c : After-advance g) (next : Next g.row.P.Denot) (left : List �
     → AlsoSpends (also_left (g.W.Words.name c.args.words.now).limits c.args.self.now c.args.asked.now (Peeking c.args.peek c.args.shrinks)) (g.W.Words.name c.args.words.now).limits c.args.asked.now (stance c.args.self.now (g.W.Words.sight c.args.pass.now)) next (stance new (g.W.Words.sight c.advance.new.pass)))
     → (AreSet (g.W.Words.sight c.args.pass.now).cached c.args.peek.comm c.args.peek.round c.args.peek.blocks
     → KnowsNext c.args.self.now c.args.asked.now (g.W.Words.sight c.advance.new.pass).cached next)
-    → Turns g.P.Meld.meld g.W.Words.alone (under_way c.args.asked.now (Peeking c.args.peek c.args.shrinks) c.args.group.now.items) (local c.args.self.now (view_of (g.W.Words.name c.args.words.now) (g.W.Words.sight c.args.pass.now))) next left (local new (view_of (g.W.Words.name c.args.words.now) (g.W.Words.sight c.advance.new.pass)))
-    → TakesTurn g.P.Meld.meld g.W.Words.alone c.args.whole (under_way c.args.asked.now (Peeking c.args.peek c.args.shrinks) c.args.group.now.items) (local c.args.self.now (view_of (g.W.Words.name c.args.words.now) (g.W.Words.sight c.args.pass.now))) (coming next left) (local new (view_of (g.W.Words.name c.args.words.now) (g.W.Words.sight c.advance.new.pass)))
+    → Turns g.P.Meld.meld g.W.Words.alone (under_way c.args.asked.now (Peeking c.args.peek c.args.shrinks) c.args.group.now.items) (local c.args.self.now (view_of g.P.Packed.pack (g.W.Words.name c.args.words.now) (g.W.Words.sight c.args.pass.now))) next left (local new (view_of g.P.Packed.pack (g.W.Words.name c.args.words.now) (g.W.Words.sight c.advance.new.pass)))
+    → TakesTurn g.P.Meld.meld g.W.Words.alone c.args.whole (under_way c.args.asked.now (Peeking c.args.peek c.args.shrinks) c.args.group.now.items) (local c.args.self.now (view_of g.P.Packed.pack (g.W.Words.name c.args.words.now) (g.W.Words.sight c.args.pass.now))) (coming next left) (local new (view_of g.P.Packed.pack (g.W.Words.name c.args.words.now) (g.W.Words.sight c.advance.new.pass)))
 peeks g c next left new nearer spends further sees leads also knows turns =
     let goes = c.advance.ensures.goes in
     let now = g.W.Words.sight c.args.pass.now in
     record {
       walks = record { of = goes.of; own = []; did = goes.did; onward = goes.onward; cached = goes.cached };
-      caches = λ none. goes.caches;
+      beside = turn_same _ _ _ _ _ (λ w. w) (did_prefix g.W.Words.alone _ _ _ goes.did) goes.caches;
       named = λ single. peek_named c.args.peek c.args.shrinks c.args.self.now.number (comm_of c.args.asked.now) now
           (g.W.Words.sight c.advance.new.pass) c.requires.stands.2.at.1.there (c.advance.ensures.takes.one single);
       nearer = nearer;
@@ -107,15 +109,16 @@ returns-then-not-advance g c =
     (λ all. also_peeks_on (g.W.Words.name c.args.words.now).limits c.args.self.now c.args.asked.now c.held_comm-x.result.now
     (held g (goal.at.returns-then-not-advance g c).After-deref) c.args.shrinks c.deref.result.now
     (members g (goal.at.returns-then-not-advance g c).After-deref) c.args.peek c.advance.new.self (g.W.Words.sight c.args.pass.now) after
-    c.advance.ensures.comm c.advance.ensures.round c.advance.ensures.front c.advance.ensures.kept all c.advance.ensures.goes.cached takes.some takes.turns)
+    c.advance.ensures.comm c.advance.ensures.round c.advance.ensures.front c.advance.ensures.onward c.advance.ensures.kept all c.advance.ensures.goes.cached
+    takes.turns)
     (λ known. rw (c.advance.ensures.comm, c.advance.ensures.round) (c.advance.ensures.sets known))
     (λ alone only old before stands.
-    peek_goes g.P.Meld.meld (g.W.Words.name c.args.words.now) c.args.asked.now c.args.peek c.args.shrinks c.args.group.now.items c.args.self.now
+    peek_goes g.P.Meld.meld (over g.P.Packed.pack (g.W.Words.name c.args.words.now)) c.args.asked.now c.args.peek c.args.shrinks c.args.group.now.items c.args.self.now
     (g.W.Words.sight c.args.pass.now) c.requires.of
     c.held_comm-x.result.now c.comm_of.result c.held_comm-x.ensures c.comm_of.ensures c.deref.result.now
     (members g (goal.at.returns-then-not-advance g c).After-deref) alone old before stands
     g.W.Words.alone only (g.W.Words.sight c.advance.new.pass) c.advance.ensures.goes.of c.advance.ensures.goes.did c.advance.ensures.goes.onward
-    c.advance.new.self c.advance.ensures.comm c.advance.ensures.round c.advance.ensures.are (c.if-not-advance.ensures.some refl))
+    c.advance.new.self c.advance.ensures.comm c.advance.ensures.round c.advance.ensures.are (c.if-not-advance.ensures.some refl) (c.if-not-advance.ensures.first refl))
 
 pub unread-requires-clause-peeked : goal.unread-requires-clause-peeked
 unread-requires-clause-peeked g c =
@@ -124,7 +127,7 @@ unread-requires-clause-peeked g c =
     (sym (length_is g (goal.at.unread-requires-clause-peeked g c).After-len-members)) ∙ sym c.in-None.ensures.whole in (
       stands.0,
       stands.1,
-      peek_unread g.P.Meld.meld (g.W.Words.name c.args.words.now) c.args.asked.now c.args.peek c.args.shrinks c.args.group.now.items c.args.self.now
+      peek_unread g.P.Meld.meld (over g.P.Packed.pack (g.W.Words.name c.args.words.now)) c.args.asked.now c.args.peek c.args.shrinks c.args.group.now.items c.args.self.now
           (g.W.Words.sight c.args.pass.now) c.requires.of
           c.held_comm-x.result.now c.comm_of.result c.held_comm-x.ensures c.comm_of.ensures c.deref.result.now
           (members g (goal.at.unread-requires-clause-peeked g c).After-deref) false stands.0 stands.1 stands.2
@@ -148,12 +151,12 @@ returns-in-None g c =
     (λ whole. c.unread.ensures.further) refl c.unread.ensures.past
     (λ all. let whole = also_whole (g.W.Words.name c.args.words.now).limits c.args.self.now c.args.asked.now c.held_comm-x.result.now
     (held g (goal.at.returns-in-None g c).After-deref) c.args.shrinks c.deref.result.now (members g (goal.at.returns-in-None g c).After-deref) c.args.peek
-    c.advance.new.self (g.W.Words.sight c.args.pass.now) after c.advance.ensures.comm c.advance.ensures.round c.advance.ensures.front c.advance.ensures.kept
-    all (c.advance.ensures.back c.if-not-advance.false) in absurd (false≢true (sym here ∙ whole)))
+    c.advance.new.self (g.W.Words.sight c.args.pass.now) after c.advance.ensures.comm c.advance.ensures.round c.advance.ensures.front
+    c.advance.ensures.onward c.advance.ensures.kept all (c.advance.ensures.last c.if-not-advance.false) (c.advance.ensures.back c.if-not-advance.false) in absurd (false≢true (sym here ∙ whole)))
     (λ known. c.unread.ensures.knows after.cached (rw (c.advance.ensures.comm, c.advance.ensures.round) (c.advance.ensures.sets known)))
     (λ alone only old before stands.
     c.unread.ensures.turns c.args.group.now.items alone old before
-    (peek_unread g.P.Meld.meld (g.W.Words.name c.args.words.now) c.args.asked.now c.args.peek c.args.shrinks c.args.group.now.items c.args.self.now
+    (peek_unread g.P.Meld.meld (over g.P.Packed.pack (g.W.Words.name c.args.words.now)) c.args.asked.now c.args.peek c.args.shrinks c.args.group.now.items c.args.self.now
     (g.W.Words.sight c.args.pass.now) c.requires.of
     c.held_comm-x.result.now c.comm_of.result c.held_comm-x.ensures c.comm_of.ensures c.deref.result.now (members g (goal.at.returns-in-None g c).After-deref)
     alone old before stands
@@ -171,7 +174,7 @@ decided-requires-clause-read g c =
     let stands = c.requires.stands in (
       stands.0,
       stands.1,
-      peek_ends g.P.Meld.meld (g.W.Words.name c.args.words.now) c.args.asked.now c.args.peek c.args.shrinks c.args.group.now.items c.args.self.now
+      peek_ends g.P.Meld.meld (over g.P.Packed.pack (g.W.Words.name c.args.words.now)) c.args.asked.now c.args.peek c.args.shrinks c.args.group.now.items c.args.self.now
           (g.W.Words.sight c.args.pass.now) c.requires.of
           c.held_comm-x.result.now c.comm_of.result c.held_comm-x.ensures c.comm_of.ensures c.deref.result.now
           (members g (goal.at.decided-requires-clause-read g c).After-deref) false stands.0 stands.1 stands.2
@@ -210,14 +213,14 @@ returns-in-Some g c =
     (λ whole. below_more 5 7 (omega arith) _ c.decided.ensures.further) c.decided.ensures.sees c.decided.ensures.past
     (λ all. also_peeks_over (g.W.Words.name c.args.words.now).limits c.args.self.now c.args.asked.now c.held_comm-x.result.now
     (held g (goal.at.returns-in-Some g c).After-deref) c.args.shrinks c.deref.result.now (members g (goal.at.returns-in-Some g c).After-deref) c.args.peek
-    c.advance.new.self (g.W.Words.sight c.args.pass.now) after c.advance.ensures.comm c.advance.ensures.round c.advance.ensures.front c.advance.ensures.kept
-    all (omega (arith, takes.turns)) _ _ c.decided.ensures.sees c.decided.ensures.further c.decided.ensures.also)
+    c.advance.new.self (g.W.Words.sight c.args.pass.now) after c.advance.ensures.comm c.advance.ensures.round c.advance.ensures.front
+    c.advance.ensures.onward c.advance.ensures.kept all (omega (arith, takes.turns)) _ _ c.decided.ensures.sees c.decided.ensures.further c.decided.ensures.also)
     (λ are. known g (goal.at.returns-in-Some g c).After-advance _ c.decided.ensures.further
     (all_known after.cached c.args.peek.comm c.args.peek.round c.deref.result.now c.advance.new.self.blocks (c.advance.ensures.sets are)
     (ap (is_whole c.advance.new.self.blocks) (sym (length_is g (goal.at.returns-in-Some g c).After-len-members)) ∙ sym c.in-Some.ensures.whole)))
     (λ alone only old before stands.
     c.decided.ensures.turns alone old before
-    (peek_ends g.P.Meld.meld (g.W.Words.name c.args.words.now) c.args.asked.now c.args.peek c.args.shrinks c.args.group.now.items c.args.self.now
+    (peek_ends g.P.Meld.meld (over g.P.Packed.pack (g.W.Words.name c.args.words.now)) c.args.asked.now c.args.peek c.args.shrinks c.args.group.now.items c.args.self.now
     (g.W.Words.sight c.args.pass.now) c.requires.of
     c.held_comm-x.result.now c.comm_of.result c.held_comm-x.ensures c.comm_of.ensures c.deref.result.now (members g (goal.at.returns-in-Some g c).After-deref)
     alone old before stands

@@ -1,4 +1,6 @@
-use Rattle.std.proofs.Common.{rules, ◌≡◌, ℕ, List, Some, true, false, [], ap, sym, ◌∙◌, arith}
+use Rattle.std.proofs.Common.{refl, rules, ◌≡◌, ℕ, List, Some, true, false, [], ap, sym, ◌∙◌, arith}
+use Rattle.ulfm_words.proofs.Trails.{did_prefix}
+use Rattle.ulfm_comm.proofs.Wings.{turn_blocks}
 use Rattle.ulfm_model.specs.{Records.{Held, Record, held_at}, Terms.{comm_of}}
 use Rattle.ulfm_steps.specs.Blocks.{AllSet, AreSet}
 use Rattle.ulfm_comm.specs.{Known.{KnowsNext}, Phase.{IsFurther, IsPast, NextBelow, Turns}, Requests.{agreement}, Step.{TakesTurn}}
@@ -13,7 +15,7 @@ use Rattle.ulfm_comm.proofs.rank.LocalState.go_reading.Goals.{After-deref, After
 use Rattle.ulfm_comm.specs.Local.{local}
 use Rattle.ulfm_comm.specs.Phase.{under_way}
 use Rattle.ulfm_comm.specs.Step.{coming}
-use Rattle.ulfm_words.specs.Steps.{view_of}
+use Rattle.ulfm_words.specs.Steps.{view_of, over}
 
 -- the members that the code reads
 members : (g : _) (c : After-deref g) → c.deref.result.now ≡ c.held_comm-x.result.now.group
@@ -22,7 +24,7 @@ members g c = c.deref.ensures.value ∙ ap (λ (y : Held). y.group) c.x.view_is
 pub advance-requires : goal.advance-requires
 advance-requires g c =
     let stands = c.requires.stands in
-    reading_may g.P.Meld.meld (g.W.Words.name c.args.words.now) c.args.asked.now c.args.reading c.args.shrinks c.args.group.now.items c.args.self.now
+    reading_may g.P.Meld.meld (over g.P.Packed.pack (g.W.Words.name c.args.words.now)) c.args.asked.now c.args.reading c.args.shrinks c.args.group.now.items c.args.self.now
     (g.W.Words.sight c.args.pass.now)
     c.held_comm-x.result.now c.comm_of.result c.held_comm-x.ensures c.comm_of.ensures c.deref.result.now (members g (goal.at.advance-requires g c).After-deref)
     false stands.0 stands.1 stands.2 c.requires.of
@@ -32,7 +34,7 @@ decided-requires-clause-read g c =
     let stands = c.requires.stands in (
       stands.0,
       stands.1,
-      reading_ends g.P.Meld.meld (g.W.Words.name c.args.words.now) c.args.asked.now c.args.reading c.args.shrinks c.args.group.now.items c.args.self.now
+      reading_ends g.P.Meld.meld (over g.P.Packed.pack (g.W.Words.name c.args.words.now)) c.args.asked.now c.args.reading c.args.shrinks c.args.group.now.items c.args.self.now
           (g.W.Words.sight c.args.pass.now)
           c.held_comm-x.result.now c.comm_of.result c.held_comm-x.ensures c.comm_of.ensures c.deref.result.now
           (members g (goal.at.decided-requires-clause-read g c).After-deref) false stands.0 stands.1 stands.2
@@ -54,8 +56,8 @@ reads : (g : _) (c : After-advance g) (next : Next g.row.P.Denot) (left : List �
     → (c.args.whole ≡ true → IsFurther (Reading c.args.reading c.args.shrinks) next) → new.seen ≡ c.args.self.now.seen → IsPast next
     → (AreSet (g.W.Words.sight c.args.pass.now).cached c.args.reading.comm c.args.reading.round c.args.reading.blocks
     → KnowsNext c.args.self.now c.args.asked.now (g.W.Words.sight c.advance.new.pass).cached next)
-    → Turns g.P.Meld.meld g.W.Words.alone (under_way c.args.asked.now (Reading c.args.reading c.args.shrinks) c.args.group.now.items) (local c.args.self.now (view_of (g.W.Words.name c.args.words.now) (g.W.Words.sight c.args.pass.now))) next left (local new (view_of (g.W.Words.name c.args.words.now) (g.W.Words.sight c.advance.new.pass)))
-    → TakesTurn g.P.Meld.meld g.W.Words.alone c.args.whole (under_way c.args.asked.now (Reading c.args.reading c.args.shrinks) c.args.group.now.items) (local c.args.self.now (view_of (g.W.Words.name c.args.words.now) (g.W.Words.sight c.args.pass.now))) (coming next left) (local new (view_of (g.W.Words.name c.args.words.now) (g.W.Words.sight c.advance.new.pass)))
+    → Turns g.P.Meld.meld g.W.Words.alone (under_way c.args.asked.now (Reading c.args.reading c.args.shrinks) c.args.group.now.items) (local c.args.self.now (view_of g.P.Packed.pack (g.W.Words.name c.args.words.now) (g.W.Words.sight c.args.pass.now))) next left (local new (view_of g.P.Packed.pack (g.W.Words.name c.args.words.now) (g.W.Words.sight c.advance.new.pass)))
+    → TakesTurn g.P.Meld.meld g.W.Words.alone c.args.whole (under_way c.args.asked.now (Reading c.args.reading c.args.shrinks) c.args.group.now.items) (local c.args.self.now (view_of g.P.Packed.pack (g.W.Words.name c.args.words.now) (g.W.Words.sight c.args.pass.now))) (coming next left) (local new (view_of g.P.Packed.pack (g.W.Words.name c.args.words.now) (g.W.Words.sight c.advance.new.pass)))
 reads g c next left new nearer spends further sees leads knows turns =
     let goes = c.advance.ensures.goes in
     let now = g.W.Words.sight c.args.pass.now in
@@ -63,9 +65,9 @@ reads g c next left new nearer spends further sees leads knows turns =
     let at = stands.2.at.1 in
     record {
       walks = record { of = goes.of; own = []; did = goes.did; onward = goes.onward; cached = goes.cached };
-      caches = λ none.
-          absurd (false≢true (sym none ∙ agreement_caches c.args.self.now c.args.asked.now stands.0.number stands.2.at.0 at.x at.marked.held c.args.shrinks
-          c.args.reading.round at.marked.open_is));
+      beside = turn_blocks _ _ _ _ _ (λ w. w) (did_prefix g.W.Words.alone _ _ _ goes.did)
+          (agreement_caches c.args.self.now c.args.asked.now stands.0.number stands.2.at.0 at.x at.marked.held c.args.shrinks c.args.reading.round at.marked.open_is)
+          goes.caches;
       named = λ single. reads_named c.deref.result.now c.args.reading c.args.shrinks c.args.self.now.number (comm_of c.args.asked.now) now
           (g.W.Words.sight c.advance.new.pass) c.requires.stands.2.at.1.there (c.advance.ensures.takes.one single);
       nearer = nearer;
@@ -89,12 +91,12 @@ returns-in-None g c =
     c.args.reading c.advance.new.self (g.W.Words.sight c.args.pass.now).steps after.steps takes.turns in
     reads g (goal.at.returns-in-None g c).After-advance _ _ _ (λ single. omega (arith, left, takes.some)) left (search rules) (search rules)
     (search rules) c.in-None.ensures.sets (λ alone only old before stands.
-    reading_goes g.P.Meld.meld (g.W.Words.name c.args.words.now) c.args.asked.now c.args.reading c.args.shrinks c.args.group.now.items c.args.self.now
+    reading_goes g.P.Meld.meld (over g.P.Packed.pack (g.W.Words.name c.args.words.now)) c.args.asked.now c.args.reading c.args.shrinks c.args.group.now.items c.args.self.now
     (g.W.Words.sight c.args.pass.now)
     c.held_comm-x.result.now c.comm_of.result c.held_comm-x.ensures c.comm_of.ensures c.deref.result.now (members g (goal.at.returns-in-None g c).After-deref)
     alone old before stands
     g.W.Words.alone only (g.W.Words.sight c.advance.new.pass) c.advance.ensures.goes.of c.advance.ensures.goes.did c.advance.ensures.goes.onward
-    c.advance.new.self c.advance.ensures.comm c.advance.ensures.round c.in-None.ensures.tells)
+    c.advance.new.self c.advance.ensures.comm c.advance.ensures.round c.in-None.ensures.tells (c.in-None.ensures.half refl))
 
 pub returns-in-Some-Missing : goal.returns-in-Some-Missing
 returns-in-Some-Missing g c =
@@ -106,7 +108,7 @@ returns-in-Some-Missing g c =
     (members g (goal.at.returns-in-Some-Missing g c).After-deref) c.args.reading c.args.self.now (Ends Pending) (g.W.Words.sight c.args.pass.now) after
     (omega (arith, takes.turns)) tt)
     (search rules) (search rules) (search rules) (λ known of. absurd (cc of)) (λ alone only old before stands.
-    reading_pends g.P.Meld.meld (g.W.Words.name c.args.words.now) c.args.asked.now c.args.reading c.args.shrinks c.args.group.now.items c.args.self.now
+    reading_pends g.P.Meld.meld (over g.P.Packed.pack (g.W.Words.name c.args.words.now)) c.args.asked.now c.args.reading c.args.shrinks c.args.group.now.items c.args.self.now
     (g.W.Words.sight c.args.pass.now)
     c.held_comm-x.result.now c.comm_of.result c.held_comm-x.ensures c.comm_of.ensures c.deref.result.now
     (members g (goal.at.returns-in-Some-Missing g c).After-deref) alone old before stands
@@ -144,7 +146,7 @@ returns-in-Some-All g c =
     (λ are. known g (goal.at.returns-in-Some-All g c).After-advance _ c.decided.ensures.further
     ((rw c.in-Some-All.field-0-is at c.in-Some-All.ensures.sets) are)) (λ alone only old before stands.
     c.decided.ensures.turns alone old before
-    (reading_ends g.P.Meld.meld (g.W.Words.name c.args.words.now) c.args.asked.now c.args.reading c.args.shrinks c.args.group.now.items c.args.self.now
+    (reading_ends g.P.Meld.meld (over g.P.Packed.pack (g.W.Words.name c.args.words.now)) c.args.asked.now c.args.reading c.args.shrinks c.args.group.now.items c.args.self.now
     (g.W.Words.sight c.args.pass.now)
     c.held_comm-x.result.now c.comm_of.result c.held_comm-x.ensures c.comm_of.ensures c.deref.result.now
     (members g (goal.at.returns-in-Some-All g c).After-deref) alone old before stands

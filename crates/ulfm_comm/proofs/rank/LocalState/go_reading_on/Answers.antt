@@ -1,8 +1,10 @@
 use Rattle.std.proofs.Common.{rules, ◌≤◌, [], ap, arith, refl, subst, sym, ◌∙◌, IsTrue, Bool, false}
+use Rattle.ulfm_words.proofs.Trails.{did_prefix}
+use Rattle.ulfm_comm.proofs.Wings.{turn_same}
 use mathlib.Core.List.{IsPrefix}
 use Rattle.ulfm_model.specs.Records.{held_at, Record}
 use Rattle.ulfm_model.specs.Terms.{comm_of}
-use Rattle.ulfm_words.specs.Steps.{view_of, Sight}
+use Rattle.ulfm_words.specs.Steps.{view_of, Sight, over}
 use Rattle.ulfm_steps.specs.ReadsOn.{AtFailure}
 use Rattle.ulfm_comm.specs.{Spawning.{HasReached}, Phase.{Stands}}
 use Rattle.ulfm_comm.specs.declared.phases.phase.Phase.TheVariants.{ReadingOn as AtReadingOn}
@@ -15,7 +17,7 @@ use Rattle.ulfm_comm.specs.Local.{local}
 
 pub read_on-requires-clause-may : goal.read_on-requires-clause-may
 read_on-requires-clause-may g c =
-    let name = g.W.Words.name c.args.words.now in
+    let name = over g.P.Packed.pack (g.W.Words.name c.args.words.now) in
     let now = g.W.Words.sight c.args.pass.now in
     let stands = c.requires.stands in
     let old = stands.0 in
@@ -31,17 +33,17 @@ read_on-requires-clause-may g c =
 
 -- a call that stands on its way through the list
 abbrev StoodAt : (g : _) → After-read_on g → Bool → Record → Sight g.row.P.Denot → Type 0
-StoodAt g c alone old before = Stands g.P.Meld.meld alone (local old (view_of (g.W.Words.name c.args.words.now) before)) (record {
+StoodAt g c alone old before = Stands g.P.Meld.meld alone (local old (view_of g.P.Packed.pack (g.W.Words.name c.args.words.now) before)) (record {
   asked = c.args.asked.now;
   phase = AtReadingOn c.args.on c.args.made;
   group = c.args.group.now.items;
-}) (local c.args.self.now (view_of (g.W.Words.name c.args.words.now) (g.W.Words.sight c.args.pass.now)))
+}) (local c.args.self.now (view_of g.P.Packed.pack (g.W.Words.name c.args.words.now) (g.W.Words.sight c.args.pass.now)))
 
 -- how far the failures that are seen now reach
 at_failure : (g : _) (c : After-read_on g) (alone : Bool) (old : Record) (before : Sight g.row.P.Denot) (s : StoodAt g c alone old before)
     → AtFailure s.at.1.group c.args.made.count c.read_on.new.on c.read_on.new.self.seen
 at_failure g c alone old before s =
-    let name = g.W.Words.name c.args.words.now in
+    let name = over g.P.Packed.pack (g.W.Words.name c.args.words.now) in
     let now = g.W.Words.sight c.args.pass.now in
     let comm = comm_of c.args.asked.now in
     c.read_on.ensures.at s.at.1
@@ -51,12 +53,12 @@ at_failure g c alone old before s =
 -- the decision's whole failed group is known
 reached : (g : _) (c : After-read_on g) (alone : Bool) → (IsTrue alone → IsTrue g.W.Words.alone) → (old : Record) (before : Sight g.row.P.Denot)
     → StoodAt g c alone old before → c.args.made.count ≤ c.read_on.new.on.found
-    → HasReached g.P.Meld.meld alone c.args.asked.now c.args.made c.read_on.new.on.reach (local old (view_of (g.W.Words.name c.args.words.now) before)) (local c.read_on.new.self (view_of (g.W.Words.name c.args.words.now) (g.W.Words.sight c.read_on.new.pass)))
+    → HasReached g.P.Meld.meld alone c.args.asked.now c.args.made c.read_on.new.on.reach (local old (view_of g.P.Packed.pack (g.W.Words.name c.args.words.now) before)) (local c.read_on.new.self (view_of g.P.Packed.pack (g.W.Words.name c.args.words.now) (g.W.Words.sight c.read_on.new.pass)))
 reached g c alone only old before s enough =
     let now = g.W.Words.sight c.args.pass.now in
     let after = g.W.Words.sight c.read_on.new.pass in
     let ensures = c.read_on.ensures in
-    has_reached g.P.Meld.meld alone (g.W.Words.name c.args.words.now) c.args.asked.now c.args.on c.args.made c.args.group.now.items old before
+    has_reached g.P.Meld.meld alone (over g.P.Packed.pack (g.W.Words.name c.args.words.now)) c.args.asked.now c.args.on c.args.made c.args.group.now.items old before
     c.args.self.now now s c.read_on.new.self after
     (did_loosely alone g.W.Words.alone only [] now.seen after.seen ensures.goes.did) ensures.goes.onward ensures.kept ensures.goes_on ensures.begins
     c.read_on.new.on (at_failure g c alone old before s) enough
@@ -74,7 +76,7 @@ returns-then-on-made g c =
     record {
       walks = let goes = c.read_on.ensures.goes in
           record { of = goes.of; own = []; did = goes.did; onward = goes.onward; cached = goes.cached };
-      caches = λ none. c.read_on.ensures.goes.caches;
+      beside = turn_same _ _ _ _ _ (λ w. w) (did_prefix g.W.Words.alone _ _ _ c.read_on.ensures.goes.did) c.read_on.ensures.goes.caches;
       named = search rules;
       nearer = search rules;
       spends = search rules;
@@ -92,7 +94,7 @@ returns-then-on-made g c =
           let now = g.W.Words.sight c.args.pass.now in
           let after = g.W.Words.sight c.read_on.new.pass in
           let ensures = c.read_on.ensures in
-          reads_further g.P.Meld.meld alone (g.W.Words.name c.args.words.now) c.args.asked.now c.args.on c.args.made c.args.group.now.items old before
+          reads_further g.P.Meld.meld alone (over g.P.Packed.pack (g.W.Words.name c.args.words.now)) c.args.asked.now c.args.on c.args.made c.args.group.now.items old before
           c.args.self.now now s c.read_on.new.self after
           (did_loosely alone g.W.Words.alone only [] now.seen after.seen ensures.goes.did) ensures.goes.onward ensures.kept ensures.goes_on ensures.begins
           c.read_on.new.on c.args.group.now.items
@@ -104,7 +106,7 @@ returns g c =
     record {
       walks = let goes = c.read_on.ensures.goes in
           record { of = goes.of; own = []; did = goes.did; onward = goes.onward; cached = goes.cached };
-      caches = λ none. c.read_on.ensures.goes.caches;
+      beside = turn_same _ _ _ _ _ (λ w. w) (did_prefix g.W.Words.alone _ _ _ c.read_on.ensures.goes.did) c.read_on.ensures.goes.caches;
       named = search rules;
       nearer = search rules;
       spends = search rules;

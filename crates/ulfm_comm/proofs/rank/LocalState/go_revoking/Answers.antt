@@ -1,10 +1,12 @@
 use Rattle.std.proofs.Common.{rules, ◌≡◌, arith, Bool, List, ℕ, [], IsTrue, MatchBool, ap, refl, subst, sym, ◌∙◌}
+use Rattle.ulfm_words.proofs.Trails.{did_prefix}
+use Rattle.ulfm_comm.proofs.Wings.{turn_same}
 use Rattle.std.proofs.lemmas.Bool.{false≢true}
 use Rattle.ulfm_model.specs.declared.{event.Caller.TheVariants.{Rank}, event.Event.TheVariants.{Revoke}, reply.Reply.{Reply}}
 use Rattle.ulfm_model.specs.declared.reply.Reply.TheVariants.{AlreadyRevoked, Revoked}
 use Rattle.ulfm_model.specs.{History.{is_revoked}, Runs.{Did}, Terms.{comm_of}}
 use Rattle.ulfm_model.specs.Records.{moment}
-use Rattle.ulfm_words.specs.Steps.{view_of, IsAdded}
+use Rattle.ulfm_words.specs.Steps.{view_of, IsAdded, view_at, over}
 use Rattle.ulfm_comm.specs.{Revokes.{revoked}, Phase.{Answered, Turns}, Look.{HasLooked}, Step.{TakesTurn, Walks}}
 use Rattle.ulfm_comm.specs.declared.{phases.phase.Next.TheVariants.{Ends}, phases.phase.Phase.TheVariants.{Revoking}}
 use Rattle.ulfm_comm.proofs.{AlsoLeft.{also_ends}, Exchange.{asked_below, asked_may_end, revoke_answered, walks_tried}, Known.{revoked_of_none}}
@@ -31,25 +33,25 @@ outcome : (g : _) (c : After-set_revocation g)
     (Did g.W.Words.alone [] (g.W.Words.sight c.args.pass.now).seen (g.W.Words.sight c.set_revocation.new.pass).seen)
 outcome g c = rw (← c.number.ensures, ← c.comm_of.ensures) c.set_revocation.ensures.tries.outcome
 
-walks : (g : _) (c : After-set_revocation g) → Walks g.P.Meld.meld g.W.Words.alone c.args.self.now.number (view_of (g.W.Words.name c.args.words.now) (g.W.Words.sight c.args.pass.now)) (view_of (g.W.Words.name c.args.words.now) (g.W.Words.sight c.set_revocation.new.pass))
+walks : (g : _) (c : After-set_revocation g) → Walks g.P.Meld.meld g.W.Words.alone c.args.self.now.number (view_of g.P.Packed.pack (g.W.Words.name c.args.words.now) (g.W.Words.sight c.args.pass.now)) (view_of g.P.Packed.pack (g.W.Words.name c.args.words.now) (g.W.Words.sight c.set_revocation.new.pass))
 walks g c =
-    walks_tried g.P.Meld.meld g.W.Words.alone (g.W.Words.name c.args.words.now) c.args.self.now.number (g.W.Words.sight c.args.pass.now)
+    walks_tried g.P.Meld.meld g.W.Words.alone (over g.P.Packed.pack (g.W.Words.name c.args.words.now)) c.args.self.now.number (g.W.Words.sight c.args.pass.now)
     (g.W.Words.sight c.set_revocation.new.pass)
     c.set_revocation.ensures.tries.of c.set_revocation.ensures.tries.steps c.set_revocation.ensures.tries.cached c.set_revocation.result
     (Revoke (comm_of c.args.asked.now)) (outcome g c)
 
 -- the revocation is answered by whether this call made it
 answered : (g : _) (c : After-set_revocation g) (group : List ℕ)
-    → Turns g.P.Meld.meld g.W.Words.alone (under_way c.args.asked.now Revoking group) (local c.args.self.now (view_of (g.W.Words.name c.args.words.now) (g.W.Words.sight c.args.pass.now))) (Ends (revoked c.set_revocation.result)) group (local c.args.self.now (view_of (g.W.Words.name c.args.words.now) (g.W.Words.sight c.set_revocation.new.pass)))
+    → Turns g.P.Meld.meld g.W.Words.alone (under_way c.args.asked.now Revoking group) (local c.args.self.now (view_of g.P.Packed.pack (g.W.Words.name c.args.words.now) (g.W.Words.sight c.args.pass.now))) (Ends (revoked c.set_revocation.result)) group (local c.args.self.now (view_of g.P.Packed.pack (g.W.Words.name c.args.words.now) (g.W.Words.sight c.set_revocation.new.pass)))
 answered g c =
     λ group alone only old before stands.
-    let name = g.W.Words.name c.args.words.now in
+    let name = over g.P.Packed.pack (g.W.Words.name c.args.words.now) in
     let own = c.args.self.now in
     let now = g.W.Words.sight c.args.pass.now in
     let after = g.W.Words.sight c.set_revocation.new.pass in
     let there : IsTrue (is_revoked after.seen (comm_of c.args.asked.now)) = rw (← c.comm_of.ensures) c.set_revocation.ensures.stands in
     subst (λ asked. HasLooked (frame g.P.Meld.meld name.limits alone) asked (moment old before.seen) (moment own now.seen)
-    → Answered g.P.Meld.meld alone asked (local old (view_of name before)) (revoked c.set_revocation.result) (local own (view_of name after))) (sym stands.at.1)
+    → Answered g.P.Meld.meld alone asked (local old (view_at name before)) (revoked c.set_revocation.result) (local own (view_at name after))) (sym stands.at.1)
     (λ p. revoke_answered g.P.Meld.meld alone g.W.Words.alone only name (comm_of c.args.asked.now) old before own now after
     (omega (arith, stands.onward, c.set_revocation.ensures.tries.steps)) stands.fits c.set_revocation.ensures.tries.of p c.set_revocation.result
     (outcome g c) there)
@@ -57,16 +59,16 @@ answered g c =
 
 -- the exchange ends the call, with this reply
 ends : (g : _) (c : After-set_revocation g) (reply : Reply g.row.P.Denot) → revoked c.set_revocation.result ≡ reply → (group : List ℕ) (whole : Bool)
-    → TakesTurn g.P.Meld.meld g.W.Words.alone whole (under_way c.args.asked.now Revoking group) (local c.args.self.now (view_of (g.W.Words.name c.args.words.now) (g.W.Words.sight c.args.pass.now))) (coming (Ends reply) group) (local c.args.self.now (view_of (g.W.Words.name c.args.words.now) (g.W.Words.sight c.set_revocation.new.pass)))
+    → TakesTurn g.P.Meld.meld g.W.Words.alone whole (under_way c.args.asked.now Revoking group) (local c.args.self.now (view_of g.P.Packed.pack (g.W.Words.name c.args.words.now) (g.W.Words.sight c.args.pass.now))) (coming (Ends reply) group) (local c.args.self.now (view_of g.P.Packed.pack (g.W.Words.name c.args.words.now) (g.W.Words.sight c.set_revocation.new.pass)))
 ends g c reply is = λ group whole.
-    let name = g.W.Words.name c.args.words.now in
+    let name = over g.P.Packed.pack (g.W.Words.name c.args.words.now) in
     let own = c.args.self.now in
     let now = g.W.Words.sight c.args.pass.now in
     let after = g.W.Words.sight c.set_revocation.new.pass in
     let s = c.requires.stands.1 in
-    subst (λ r. TakesTurn g.P.Meld.meld g.W.Words.alone whole (under_way c.args.asked.now Revoking group) (local own (view_of name now)) (coming (Ends r) group) (local own (view_of name after))) is (record {
+    subst (λ r. TakesTurn g.P.Meld.meld g.W.Words.alone whole (under_way c.args.asked.now Revoking group) (local own (view_at name now)) (coming (Ends r) group) (local own (view_at name after))) is (record {
       walks = walks g c;
-      caches = λ none. c.set_revocation.ensures.tries.caches;
+      beside = turn_same _ _ _ _ _ (λ w. w) (did_prefix g.W.Words.alone _ _ _ (walks g c).did) c.set_revocation.ensures.tries.caches;
       named = search rules;
       nearer = λ not. tt;
       spends = omega (arith, c.set_revocation.ensures.tries.steps);

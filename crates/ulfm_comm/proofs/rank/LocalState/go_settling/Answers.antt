@@ -1,4 +1,5 @@
 use Rattle.std.proofs.Common.{rules, ◌≡◌, ℕ, arith, Bool, false, List, Some, ap, refl, sym, subst, ◌∙◌}
+use Rattle.ulfm_comm.proofs.Wings.{settles_begins, settles_set, turn_settles}
 use Rattle.ulfm_model.specs.Records.{Record}
 use Rattle.ulfm_comm.proofs.StepAdds.{adds_settled, start_keeps}
 use Rattle.ulfm_model.specs.declared.{reply.Reply.{Reply}, reply.Reply.TheVariants.{Started}}
@@ -17,7 +18,7 @@ use Rattle.ulfm_comm.proofs.rank.LocalState.go_settling.Goals.{After-end_start}
 use Rattle.ulfm_comm.specs.Local.{local}
 use Rattle.ulfm_comm.specs.Phase.{under_way}
 use Rattle.ulfm_comm.specs.Step.{coming}
-use Rattle.ulfm_words.specs.Steps.{view_of}
+use Rattle.ulfm_words.specs.Steps.{view_of, view_at, over}
 
 pub contribute-settled-requires-clause-fits : goal.contribute-settled-requires-clause-fits
 contribute-settled-requires-clause-fits g c =
@@ -41,12 +42,12 @@ contribute-settled-requires-clause-acked g c =
 
 -- the start is answered as its exchange says
 answered : (g : _) (c : After-end_start g) (group : List ℕ)
-    → Turns g.P.Meld.meld g.W.Words.alone (under_way c.args.asked.now (Settling c.args.request c.args.offer) group) (local c.args.self.now (view_of (g.W.Words.name c.args.words.now) (g.W.Words.sight c.args.pass.now))) (Ends (reply_of (λ _. Started) c.end_start.result)) group (local c.end_start.new.self (view_of (g.W.Words.name c.args.words.now) (g.W.Words.sight c.contribute-settled.new.pass)))
+    → Turns g.P.Meld.meld g.W.Words.alone (under_way c.args.asked.now (Settling c.args.request c.args.offer) group) (local c.args.self.now (view_of g.P.Packed.pack (g.W.Words.name c.args.words.now) (g.W.Words.sight c.args.pass.now))) (Ends (reply_of (λ _. Started) c.end_start.result)) group (local c.end_start.new.self (view_of g.P.Packed.pack (g.W.Words.name c.args.words.now) (g.W.Words.sight c.contribute-settled.new.pass)))
 answered g c =
     λ group alone only old before stands.
     let held = c.held_comm-x.ensures in
-    let name = g.W.Words.name c.args.words.now in
-    subst (λ r. Answered g.P.Meld.meld alone c.args.asked.now (local old (view_of name before)) (reply_of (λ _. Started) r) (local c.end_start.new.self (view_of name (g.W.Words.sight c.contribute-settled.new.pass)))) (sym c.end_start.ensures.result)
+    let name = over g.P.Packed.pack (g.W.Words.name c.args.words.now) in
+    subst (λ r. Answered g.P.Meld.meld alone c.args.asked.now (local old (view_at name before)) (reply_of (λ _. Started) r) (local c.end_start.new.self (view_at name (g.W.Words.sight c.contribute-settled.new.pass)))) (sym c.end_start.ensures.result)
     (start_answered g.P.Meld.meld alone g.W.Words.alone only name c.args.asked.now c.args.request c.args.offer group old before c.args.self.now
     (g.W.Words.sight c.args.pass.now) (g.W.Words.sight c.contribute-settled.new.pass)
     (omega (arith, c.contribute-settled.ensures.one.steps)) stands c.held_comm-x.result.now (rw (← c.comm_of.ensures) held) c.contribute-settled.result
@@ -62,7 +63,7 @@ adds g c =
     let held = c.held_comm-x.ensures in
     subst (λ r. Adds g.W.Words.alone c.args.self.now.seen c.args.self.now c.args.asked.now (Some (reply_of (λ _. Started) r)) now.seen after.seen)
     (sym c.end_start.ensures.result)
-    (adds_settled g.P.Meld.meld g.W.Words.alone (g.W.Words.name c.args.words.now) c.args.asked.now c.args.request c.args.offer s.0 s.1.0 s.1.1
+    (adds_settled g.P.Meld.meld g.W.Words.alone (over g.P.Packed.pack (g.W.Words.name c.args.words.now)) c.args.asked.now c.args.request c.args.offer s.0 s.1.0 s.1.1
     c.args.self.now now after.seen s.1.2 c.held_comm-x.result.now (rw (← c.comm_of.ensures) held)
     c.contribute-settled.result c.contribute-settled.ensures.settles)
 
@@ -84,14 +85,19 @@ named g c =
 
 -- the exchange ends the call, with this reply
 ends : (g : _) (c : After-end_start g) (reply : Reply g.row.P.Denot) → reply_of (λ _. Started) c.end_start.result ≡ reply → (group : List ℕ) (whole : Bool)
-    → TakesTurn g.P.Meld.meld g.W.Words.alone whole (under_way c.args.asked.now (Settling c.args.request c.args.offer) group) (local c.args.self.now (view_of (g.W.Words.name c.args.words.now) (g.W.Words.sight c.args.pass.now))) (coming (Ends reply) group) (local c.end_start.new.self (view_of (g.W.Words.name c.args.words.now) (g.W.Words.sight c.contribute-settled.new.pass)))
+    → TakesTurn g.P.Meld.meld g.W.Words.alone whole (under_way c.args.asked.now (Settling c.args.request c.args.offer) group) (local c.args.self.now (view_of g.P.Packed.pack (g.W.Words.name c.args.words.now) (g.W.Words.sight c.args.pass.now))) (coming (Ends reply) group) (local c.end_start.new.self (view_of g.P.Packed.pack (g.W.Words.name c.args.words.now) (g.W.Words.sight c.contribute-settled.new.pass)))
 ends g c reply is = λ group whole.
     record {
-      walks = walks_settled g.P.Meld.meld g.W.Words.alone (g.W.Words.name c.args.words.now) c.args.self.now.number (g.W.Words.sight c.args.pass.now)
+      walks = walks_settled g.P.Meld.meld g.W.Words.alone (over g.P.Packed.pack (g.W.Words.name c.args.words.now)) c.args.self.now.number (g.W.Words.sight c.args.pass.now)
           (g.W.Words.sight c.contribute-settled.new.pass)
           c.contribute-settled.ensures.of c.contribute-settled.ensures.one.steps c.contribute-settled.ensures.cached c.args.self.now c.held_comm-x.result.now
           c.args.offer c.contribute-settled.result refl c.contribute-settled.ensures.settles;
-      caches = λ none. c.contribute-settled.ensures.caches;
+      beside = turn_settles _ (under_way c.args.asked.now (Settling c.args.request c.args.offer) group) c.args.request c.args.offer _ reply _ refl
+          (settles_begins g.W.Words.alone (g.W.Words.sight c.args.pass.now).seen (g.W.Words.sight c.contribute-settled.new.pass).seen c.args.self.now c.held_comm-x.result.now c.args.offer
+          c.contribute-settled.result c.contribute-settled.ensures.settles)
+          c.contribute-settled.ensures.caches c.held_comm-x.result.now (rw (← c.comm_of.ensures) c.held_comm-x.ensures)
+          (settles_set g.W.Words.alone (g.W.Words.sight c.args.pass.now).seen (view_of g.P.Packed.pack (g.W.Words.name c.args.words.now) (g.W.Words.sight c.contribute-settled.new.pass)) c.args.self.now c.held_comm-x.result.now c.args.offer c.contribute-settled.result
+          c.contribute-settled.ensures.settles);
       named = λ not. named g c;
       nearer = λ not. tt;
       spends = omega (arith, c.contribute-settled.ensures.one.steps);
@@ -106,11 +112,11 @@ ends g c reply is = λ group whole.
       looks = λ at. absurd (cc at);
       knows = λ known of.
           let none = ap (λ r. is_of_round {P = g.row.P.Denot} (reply_of (λ _. Started) r)) c.end_start.ensures.result
-          ∙ start_of_none c.contribute-settled.result in
+          ∙ start_of_none _ c.contribute-settled.result in
           absurd (false≢true (sym none ∙ (ap is_of_round is ∙ of)));
       leads = search rules;
       turns = λ alone only old before stands.
-          subst (λ r. Answered g.P.Meld.meld alone c.args.asked.now (local old (view_of (g.W.Words.name c.args.words.now) before)) r (local c.end_start.new.self (view_of (g.W.Words.name c.args.words.now) (g.W.Words.sight c.contribute-settled.new.pass)))) is (answered g c group alone only old before stands);
+          subst (λ r. Answered g.P.Meld.meld alone c.args.asked.now (local old (view_of g.P.Packed.pack (g.W.Words.name c.args.words.now) before)) r (local c.end_start.new.self (view_of g.P.Packed.pack (g.W.Words.name c.args.words.now) (g.W.Words.sight c.contribute-settled.new.pass)))) is (answered g c group alone only old before stands);
     }
 
 pub returns-in-Ok : goal.returns-in-Ok

@@ -1,4 +1,6 @@
 use Rattle.std.proofs.Common.{rules, ◌≡◌, ℕ, List, true, false, ap, arith, ◌∙◌}
+use Rattle.ulfm_words.proofs.Trails.{did_prefix}
+use Rattle.ulfm_comm.proofs.Wings.{turn_same}
 use Rattle.ulfm_model.specs.{Records.{Record}}
 use Rattle.ulfm_steps.specs.declared.item.Item.TheVariants.{Comm as OfComm}
 use Rattle.ulfm_comm.specs.{Phase.{IsFurther, IsMaking, Turns, reply_in}, Spawning.{SpawnIs}, Step.{TakesTurn}, StepsLeft.{FewerLeft, Spends, steps_left}}
@@ -13,13 +15,13 @@ use Rattle.ulfm_comm.specs.Local.{stance, local}
 use Rattle.ulfm_comm.specs.Spawning.{seeking, target}
 use Rattle.ulfm_comm.specs.Phase.{under_way}
 use Rattle.ulfm_comm.specs.Step.{coming}
-use Rattle.ulfm_words.specs.Steps.{view_of}
+use Rattle.ulfm_words.specs.Steps.{view_of, over}
 
 -- the item that is looked for
 item : (g : _) (c : After-comm_of-comm g) → c.args.append.item ≡ OfComm c.comm_of-comm.result c.requires.stands.2.at.1.round
 item g c =
     let s = c.requires.stands in
-    item_is g.P.Meld.meld false g.W.Words.alone (λ here. absurd (cc here)) (g.W.Words.name c.args.words.now) c.args.asked.now c.args.append c.args.context
+    item_is g.P.Meld.meld false g.W.Words.alone (λ here. absurd (cc here)) (over g.P.Packed.pack (g.W.Words.name c.args.words.now)) c.args.asked.now c.args.append c.args.context
     c.args.reach c.args.group.now.items s.0 s.1 c.args.self.now (g.W.Words.sight c.args.pass.now)
     c.requires.of s.2 c.comm_of-comm.result c.comm_of-comm.ensures
 
@@ -27,7 +29,7 @@ pub spawn-requires-clause-may : goal.spawn-requires-clause-may
 spawn-requires-clause-may g c =
     let s = c.requires.stands in (
       s.2.at.1.round,
-      may_step g.P.Meld.meld false g.W.Words.alone (λ here. absurd (cc here)) (g.W.Words.name c.args.words.now) c.args.asked.now c.args.append
+      may_step g.P.Meld.meld false g.W.Words.alone (λ here. absurd (cc here)) (over g.P.Packed.pack (g.W.Words.name c.args.words.now)) c.args.asked.now c.args.append
           c.args.context c.args.reach c.args.group.now.items s.0 s.1 c.args.self.now (g.W.Words.sight c.args.pass.now)
           c.requires.of s.2 c.comm_of-comm.result c.comm_of-comm.ensures,
     )
@@ -35,13 +37,13 @@ spawn-requires-clause-may g c =
 pub spawn-requires-clause-holds : goal.spawn-requires-clause-holds
 spawn-requires-clause-holds g c =
     let s = c.requires.stands in
-    may_take g.P.Meld.meld false g.W.Words.alone (λ here. absurd (cc here)) (g.W.Words.name c.args.words.now) c.args.asked.now c.args.append
+    may_take g.P.Meld.meld false g.W.Words.alone (λ here. absurd (cc here)) (over g.P.Packed.pack (g.W.Words.name c.args.words.now)) c.args.asked.now c.args.append
     c.args.context c.args.reach c.args.group.now.items s.0 s.1 c.args.self.now (g.W.Words.sight c.args.pass.now)
     c.requires.of s.2 c.comm_of-comm.result c.comm_of-comm.ensures
 
 -- what the step in the list of communicators came to, in the rank's turn
 spawns : (g : _) (c : After-spawn g) (result : Spawned) (next : Next g.row.P.Denot) (left : List ℕ) (new : Record)
-    → SpawnIs g.P.Meld.meld g.W.Words.alone (target c.comm_of-comm.result c.requires.stands.2.at.1.round c.args.context c.args.group.now.items) (seeking c.args.append (local c.args.self.now (view_of (g.W.Words.name c.args.words.now) (g.W.Words.sight c.args.pass.now)))) result (seeking c.spawn.new.append (local c.spawn.new.self (view_of (g.W.Words.name c.args.words.now) (g.W.Words.sight c.spawn.new.pass))))
+    → SpawnIs g.P.Meld.meld g.W.Words.alone (target c.comm_of-comm.result c.requires.stands.2.at.1.round c.args.context c.args.group.now.items) (seeking c.args.append (local c.args.self.now (view_of g.P.Packed.pack (g.W.Words.name c.args.words.now) (g.W.Words.sight c.args.pass.now)))) result (seeking c.spawn.new.append (local c.spawn.new.self (view_of g.P.Packed.pack (g.W.Words.name c.args.words.now) (g.W.Words.sight c.spawn.new.pass))))
     → (c.args.whole ≡ false → FewerLeft (steps_left (g.W.Words.name c.args.words.now).limits c.args.self.now c.args.asked.now
     (Spawning c.args.append c.args.context c.args.reach)) (g.W.Words.name c.args.words.now).limits new c.args.asked.now next)
     → Spends (steps_left (g.W.Words.name c.args.words.now).limits c.args.self.now c.args.asked.now (Spawning c.args.append c.args.context c.args.reach))
@@ -50,28 +52,28 @@ spawns : (g : _) (c : After-spawn g) (result : Spawned) (next : Next g.row.P.Den
     → (FindsSetIn c.args.self.now c.args.asked.now (g.W.Words.sight c.args.pass.now).cached (Spawning c.args.append c.args.context c.args.reach)
     → AlsoSpends (also_left (g.W.Words.name c.args.words.now).limits c.args.self.now c.args.asked.now
     (Spawning c.args.append c.args.context c.args.reach)) (g.W.Words.name c.args.words.now).limits c.args.asked.now (stance c.args.self.now (g.W.Words.sight c.args.pass.now)) next (stance new (g.W.Words.sight c.spawn.new.pass)))
-    → Turns g.P.Meld.meld g.W.Words.alone (under_way c.args.asked.now (Spawning c.args.append c.args.context c.args.reach) c.args.group.now.items) (local c.args.self.now (view_of (g.W.Words.name c.args.words.now) (g.W.Words.sight c.args.pass.now))) next left (local new (view_of (g.W.Words.name c.args.words.now) (g.W.Words.sight c.spawn.new.pass)))
-    → TakesTurn g.P.Meld.meld g.W.Words.alone c.args.whole (under_way c.args.asked.now (Spawning c.args.append c.args.context c.args.reach) c.args.group.now.items) (local c.args.self.now (view_of (g.W.Words.name c.args.words.now) (g.W.Words.sight c.args.pass.now))) (coming next left) (local new (view_of (g.W.Words.name c.args.words.now) (g.W.Words.sight c.spawn.new.pass)))
+    → Turns g.P.Meld.meld g.W.Words.alone (under_way c.args.asked.now (Spawning c.args.append c.args.context c.args.reach) c.args.group.now.items) (local c.args.self.now (view_of g.P.Packed.pack (g.W.Words.name c.args.words.now) (g.W.Words.sight c.args.pass.now))) next left (local new (view_of g.P.Packed.pack (g.W.Words.name c.args.words.now) (g.W.Words.sight c.spawn.new.pass)))
+    → TakesTurn g.P.Meld.meld g.W.Words.alone c.args.whole (under_way c.args.asked.now (Spawning c.args.append c.args.context c.args.reach) c.args.group.now.items) (local c.args.self.now (view_of g.P.Packed.pack (g.W.Words.name c.args.words.now) (g.W.Words.sight c.args.pass.now))) (coming next left) (local new (view_of g.P.Packed.pack (g.W.Words.name c.args.words.now) (g.W.Words.sight c.spawn.new.pass)))
 spawns g c result next left new is nearer spends further sees leads also turns =
     let s = c.requires.stands in
-    let walks = spawn_walks g.P.Meld.meld false g.W.Words.alone (λ here. absurd (cc here)) (g.W.Words.name c.args.words.now) c.args.asked.now
+    let walks = spawn_walks g.P.Meld.meld false g.W.Words.alone (λ here. absurd (cc here)) (over g.P.Packed.pack (g.W.Words.name c.args.words.now)) c.args.asked.now
     c.args.append c.args.context c.args.reach c.args.group.now.items s.0 s.1 c.args.self.now (g.W.Words.sight c.args.pass.now)
     c.requires.of s.2 c.comm_of-comm.result c.comm_of-comm.ensures
     c.spawn.new.append c.spawn.new.self (g.W.Words.sight c.spawn.new.pass) result is in
     record {
       walks = walks;
-      caches = λ none.
-          spawn_caches g.P.Meld.meld false g.W.Words.alone (λ here. absurd (cc here)) (g.W.Words.name c.args.words.now) c.args.asked.now c.args.append
+      beside = turn_same _ _ _ _ _ (λ w. w) (did_prefix g.W.Words.alone _ _ _ walks.did)
+          (spawn_caches g.P.Meld.meld false g.W.Words.alone (λ here. absurd (cc here)) (over g.P.Packed.pack (g.W.Words.name c.args.words.now)) c.args.asked.now c.args.append
           c.args.context c.args.reach c.args.group.now.items s.0 s.1 c.args.self.now (g.W.Words.sight c.args.pass.now)
           c.requires.of s.2 c.comm_of-comm.result c.comm_of-comm.ensures
-          c.spawn.new.append c.spawn.new.self (g.W.Words.sight c.spawn.new.pass) result is;
+          c.spawn.new.append c.spawn.new.self (g.W.Words.sight c.spawn.new.pass) result is);
       named = search rules;
       nearer = nearer;
       spends = spends;
       also = also;
       further = further;
       adds = λ not.
-          spawn_adds g.P.Meld.meld false g.W.Words.alone (λ here. absurd (cc here)) (g.W.Words.name c.args.words.now) c.args.asked.now c.args.append
+          spawn_adds g.P.Meld.meld false g.W.Words.alone (λ here. absurd (cc here)) (over g.P.Packed.pack (g.W.Words.name c.args.words.now)) c.args.asked.now c.args.append
           c.args.context c.args.reach c.args.group.now.items s.0 s.1 c.args.self.now (g.W.Words.sight c.args.pass.now)
           c.requires.of s.2 c.comm_of-comm.result c.comm_of-comm.ensures
           c.spawn.new.append c.spawn.new.self (g.W.Words.sight c.spawn.new.pass) (reply_in next) result is;
@@ -93,10 +95,10 @@ returns-in-Unknown g c =
     (λ all. also_spawns (g.W.Words.name c.args.words.now).limits c.args.asked.now c.args.self.now c.spawn.new.self (g.W.Words.sight c.args.pass.now)
     (g.W.Words.sight c.spawn.new.pass) c.args.append c.spawn.new.append c.args.context c.args.reach c.in-Unknown.ensures.takes.turns is.1)
     (λ alone only old before s.
-    let here = item_is g.P.Meld.meld alone g.W.Words.alone only (g.W.Words.name c.args.words.now) c.args.asked.now c.args.append c.args.context
+    let here = item_is g.P.Meld.meld alone g.W.Words.alone only (over g.P.Packed.pack (g.W.Words.name c.args.words.now)) c.args.asked.now c.args.append c.args.context
     c.args.reach c.args.group.now.items old before c.args.self.now (g.W.Words.sight c.args.pass.now)
     c.requires.of s c.comm_of-comm.result c.comm_of-comm.ensures in
-    spawn_goes_on g.P.Meld.meld alone g.W.Words.alone only (g.W.Words.name c.args.words.now) c.args.asked.now c.args.append c.args.context c.args.reach
+    spawn_goes_on g.P.Meld.meld alone g.W.Words.alone only (over g.P.Packed.pack (g.W.Words.name c.args.words.now)) c.args.asked.now c.args.append c.args.context c.args.reach
     c.args.group.now.items old before c.args.self.now (g.W.Words.sight c.args.pass.now)
     c.requires.of s c.comm_of-comm.result c.comm_of-comm.ensures
     c.spawn.new.append c.spawn.new.self (g.W.Words.sight c.spawn.new.pass) c.spawn.new.group.items (c.spawn.ensures.kept c.in-Unknown.is)
@@ -110,10 +112,10 @@ returns-in-Made g c =
     (λ all. also_ends _ (g.W.Words.name c.args.words.now).limits c.args.asked.now c.args.self.now c.spawn.new.self (g.W.Words.sight c.args.pass.now)
     (g.W.Words.sight c.spawn.new.pass) _ (omega (arith, c.in-Made.ensures.takes.turns)) (ap (λ (w : Record). w.seen) is.1.record_is))
     (λ alone only old before s.
-    let here = item_is g.P.Meld.meld alone g.W.Words.alone only (g.W.Words.name c.args.words.now) c.args.asked.now c.args.append c.args.context
+    let here = item_is g.P.Meld.meld alone g.W.Words.alone only (over g.P.Packed.pack (g.W.Words.name c.args.words.now)) c.args.asked.now c.args.append c.args.context
     c.args.reach c.args.group.now.items old before c.args.self.now (g.W.Words.sight c.args.pass.now)
     c.requires.of s c.comm_of-comm.result c.comm_of-comm.ensures in
-    spawn_makes g.P.Meld.meld alone g.W.Words.alone only (g.W.Words.name c.args.words.now) c.args.asked.now c.args.append c.args.context c.args.reach
+    spawn_makes g.P.Meld.meld alone g.W.Words.alone only (over g.P.Packed.pack (g.W.Words.name c.args.words.now)) c.args.asked.now c.args.append c.args.context c.args.reach
     c.args.group.now.items old before c.args.self.now (g.W.Words.sight c.args.pass.now)
     c.requires.of s c.comm_of-comm.result c.comm_of-comm.ensures
     c.spawn.new.append c.spawn.new.self (g.W.Words.sight c.spawn.new.pass) c.in-Made.comm c.in-Made.size (c.in-Made.ensures.spawns s.at.1.round here))
@@ -126,10 +128,10 @@ returns-in-Full g c =
     (λ all. also_ends _ (g.W.Words.name c.args.words.now).limits c.args.asked.now c.args.self.now c.close.new.self (g.W.Words.sight c.args.pass.now)
     (g.W.Words.sight c.spawn.new.pass) _ (omega (arith, c.in-Full.ensures.takes.turns))
     (ap (λ (w : Record). w.seen) c.close.ensures ∙ ap (λ (w : Record). w.seen) is.1)) (λ alone only old before s.
-    let here = item_is g.P.Meld.meld alone g.W.Words.alone only (g.W.Words.name c.args.words.now) c.args.asked.now c.args.append c.args.context
+    let here = item_is g.P.Meld.meld alone g.W.Words.alone only (over g.P.Packed.pack (g.W.Words.name c.args.words.now)) c.args.asked.now c.args.append c.args.context
     c.args.reach c.args.group.now.items old before c.args.self.now (g.W.Words.sight c.args.pass.now)
     c.requires.of s c.comm_of-comm.result c.comm_of-comm.ensures in
-    spawn_full g.P.Meld.meld alone g.W.Words.alone only (g.W.Words.name c.args.words.now) c.args.asked.now c.args.append c.args.context c.args.reach
+    spawn_full g.P.Meld.meld alone g.W.Words.alone only (over g.P.Packed.pack (g.W.Words.name c.args.words.now)) c.args.asked.now c.args.append c.args.context c.args.reach
     c.args.group.now.items old before c.args.self.now (g.W.Words.sight c.args.pass.now)
     c.requires.of s c.comm_of-comm.result c.comm_of-comm.ensures
     c.spawn.new.append c.spawn.new.self (g.W.Words.sight c.spawn.new.pass) c.close.new.self (c.in-Full.ensures.spawns s.at.1.round here) c.close.ensures)

@@ -1,11 +1,13 @@
 use Rattle.std.proofs.Common.{◌≡◌, ◌+◌, ◌<◌, ◌≤◌, ℕ, List, [], Some, true, false, refl, ap, sym, ◌∙◌, subst, arith}
+use Rattle.ulfm_words.proofs.Trails.{did_prefix}
+use Rattle.ulfm_comm.proofs.Wings.{turn_same}
 use Rattle.std.proofs.lemmas.Bool.{false≢true}
 use Rattle.ulfm_comm.specs.{Phase.{IsFurther, LeadsTo, Turns, next_step}, Step.{TakesTurn}, StepsLeft.{FewerLeft, MakesStep, Spends, group_of, steps_left}}
 use Rattle.ulfm_comm.specs.declared.{phases.phase.Next.{Next}, phases.phase.Phase.TheVariants.{Waiting}}
 use Rattle.ulfm_model.specs.Terms.{comm_of}
 use Rattle.ulfm_model.specs.Records.{Held, Record, held_at}
 use Rattle.ulfm_model.specs.declared.{call.Call.{Call}, limits.Limits.{Limits}, place.Place.TheVariants.{Arrival}}
-use Rattle.ulfm_words.specs.Steps.{view_of, Sight}
+use Rattle.ulfm_words.specs.Steps.{view_of, Sight, over}
 use Rattle.ulfm_steps.specs.{Arriving.{arrivals_left}, Turns.{IsOneStep}}
 use Rattle.ulfm_steps.specs.declared.arrivals.Arrivals.{Arrivals}
 use Rattle.ulfm_comm.specs.{AlsoLeft.{AlsoSpends, also_left}, Known.{KnowsNext}}
@@ -70,7 +72,7 @@ members g c = c.deref.ensures.value ∙ ap (λ (y : Held). y.group) c.x.view_is
 pub advance-requires-clause-round : goal.advance-requires-clause-round
 advance-requires-clause-round g c =
     let stands = c.requires.stands.1 in
-    waiting_may g.P.Meld.meld (g.W.Words.name c.args.words.now) c.args.asked.now c.args.arrivals c.requires.stands.0 c.args.self.now
+    waiting_may g.P.Meld.meld (over g.P.Packed.pack (g.W.Words.name c.args.words.now)) c.args.asked.now c.args.arrivals c.requires.stands.0 c.args.self.now
     (g.W.Words.sight c.args.pass.now) c.requires.of
     c.held_comm-x.result.now c.comm_of.result c.held_comm-x.ensures c.comm_of.ensures c.deref.result.now c.failures.result.now
     (members g (goal.at.advance-requires-clause-round g c).After-deref) c.failures.ensures false stands.0 stands.1 stands.2
@@ -80,7 +82,7 @@ returns-in-None-clause-checks g c = λ group. tt
 
 pub returns-in-Some-clause-checks : goal.returns-in-Some-clause-checks
 returns-in-Some-clause-checks g c = λ group alone only old before stands.
-    waiting_checks g.P.Meld.meld (g.W.Words.name c.args.words.now) c.args.asked.now c.args.arrivals group c.args.self.now
+    waiting_checks g.P.Meld.meld (over g.P.Packed.pack (g.W.Words.name c.args.words.now)) c.args.asked.now c.args.arrivals group c.args.self.now
     (g.W.Words.sight c.args.pass.now) c.requires.of
     c.held_comm-x.result.now c.comm_of.result c.held_comm-x.ensures c.comm_of.ensures c.deref.result.now c.failures.result.now
     (members g (goal.at.returns-in-Some-clause-checks g c).After-deref) c.failures.ensures alone old before stands
@@ -101,13 +103,13 @@ waits : (g : _) (c : After-advance g) (next : Next g.row.P.Denot) → (c.args.wh
     → (c.args.whole ≡ true → IsFurther (Waiting c.args.arrivals) next) → LeadsTo (Waiting c.args.arrivals) next
     → KnowsNext c.args.self.now c.args.asked.now (g.W.Words.sight c.advance.new.pass).cached next
     → AlsoSpends (also_left (g.W.Words.name c.args.words.now).limits c.args.self.now c.args.asked.now (Waiting c.args.arrivals)) (g.W.Words.name c.args.words.now).limits c.args.asked.now (stance c.args.self.now (g.W.Words.sight c.args.pass.now)) next (stance c.args.self.now (g.W.Words.sight c.advance.new.pass))
-    → ((group : List ℕ) → Turns g.P.Meld.meld g.W.Words.alone (under_way c.args.asked.now (Waiting c.args.arrivals) group) (local c.args.self.now (view_of (g.W.Words.name c.args.words.now) (g.W.Words.sight c.args.pass.now))) next group (local c.args.self.now (view_of (g.W.Words.name c.args.words.now) (g.W.Words.sight c.advance.new.pass))))
-    → (group : List ℕ) → TakesTurn g.P.Meld.meld g.W.Words.alone c.args.whole (under_way c.args.asked.now (Waiting c.args.arrivals) group) (local c.args.self.now (view_of (g.W.Words.name c.args.words.now) (g.W.Words.sight c.args.pass.now))) (coming next group) (local c.args.self.now (view_of (g.W.Words.name c.args.words.now) (g.W.Words.sight c.advance.new.pass)))
+    → ((group : List ℕ) → Turns g.P.Meld.meld g.W.Words.alone (under_way c.args.asked.now (Waiting c.args.arrivals) group) (local c.args.self.now (view_of g.P.Packed.pack (g.W.Words.name c.args.words.now) (g.W.Words.sight c.args.pass.now))) next group (local c.args.self.now (view_of g.P.Packed.pack (g.W.Words.name c.args.words.now) (g.W.Words.sight c.advance.new.pass))))
+    → (group : List ℕ) → TakesTurn g.P.Meld.meld g.W.Words.alone c.args.whole (under_way c.args.asked.now (Waiting c.args.arrivals) group) (local c.args.self.now (view_of g.P.Packed.pack (g.W.Words.name c.args.words.now) (g.W.Words.sight c.args.pass.now))) (coming next group) (local c.args.self.now (view_of g.P.Packed.pack (g.W.Words.name c.args.words.now) (g.W.Words.sight c.advance.new.pass)))
 waits g c next nearer spends further leads knows also turns = λ group.
     let goes = c.advance.ensures.goes in
     record {
       walks = record { of = goes.of; own = []; did = goes.did; onward = goes.onward; cached = goes.cached };
-      caches = λ none. goes.caches;
+      beside = turn_same _ _ _ _ _ (λ w. w) (did_prefix g.W.Words.alone _ _ _ goes.did) goes.caches;
       named = λ single. wait_named c.args.arrivals c.args.self.now.number (comm_of c.args.asked.now) _ (g.W.Words.sight c.args.pass.now)
           (g.W.Words.sight c.advance.new.pass) c.requires.stands.1.2.at.1 (c.advance.ensures.takes.one single);
       nearer = nearer;
@@ -136,7 +138,7 @@ returns-in-None-clause-turn g c =
     (steps_left limits c.args.self.now c.args.asked.now (Waiting c.args.arrivals)) spends takes.some) spends
     (λ whole. absurd (false≢true (sym c.in-None.ensures.done ∙ whole))) refl tt
     (also_waits limits c.args.asked.now c.args.self.now now after c.args.arrivals c.advance.new.self spends) (λ group alone only old before stands.
-    waiting_goes g.P.Meld.meld (g.W.Words.name c.args.words.now) c.args.asked.now c.args.arrivals group c.args.self.now
+    waiting_goes g.P.Meld.meld (over g.P.Packed.pack (g.W.Words.name c.args.words.now)) c.args.asked.now c.args.arrivals group c.args.self.now
     (g.W.Words.sight c.args.pass.now) c.requires.of
     c.held_comm-x.result.now c.comm_of.result c.held_comm-x.ensures c.comm_of.ensures c.deref.result.now c.failures.result.now
     (members g (goal.at.returns-in-None-clause-turn g c).After-deref) c.failures.ensures alone old before stands
@@ -155,7 +157,7 @@ returns-in-Some-clause-turn g c =
     waits g (goal.at.returns-in-Some-clause-turn g c).After-advance _ (λ single. fewer after.steps 1 now.steps
     (steps_left limits c.args.self.now c.args.asked.now (Waiting c.args.arrivals)) spends takes.some) spends (λ whole. nearest) refl tt
     (also_checks limits c.args.asked.now c.args.self.now now after c.args.arrivals c.in-Some.missing spends) (λ group alone only old before stands.
-    waiting_ends g.P.Meld.meld (g.W.Words.name c.args.words.now) c.args.asked.now c.args.arrivals group c.args.self.now
+    waiting_ends g.P.Meld.meld (over g.P.Packed.pack (g.W.Words.name c.args.words.now)) c.args.asked.now c.args.arrivals group c.args.self.now
     (g.W.Words.sight c.args.pass.now) c.requires.of
     c.held_comm-x.result.now c.comm_of.result c.held_comm-x.ensures c.comm_of.ensures c.deref.result.now c.failures.result.now
     (members g (goal.at.returns-in-Some-clause-turn g c).After-deref) c.failures.ensures alone old before stands

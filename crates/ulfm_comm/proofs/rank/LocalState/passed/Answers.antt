@@ -5,10 +5,10 @@ use Rattle.ulfm_model.specs.{Answers.{first_refusal}, History.{has}, Records.{He
 use Rattle.ulfm_model.specs.Terms.{comm_of, tests_of}
 use Rattle.ulfm_model.proofs.Marking.{failed_few}
 use Rattle.ulfm_model.specs.Records.{moment}
-use Rattle.ulfm_words.specs.Steps.{view_of, Sight}
+use Rattle.ulfm_words.specs.Steps.{view_of, Sight, over}
 use Rattle.ulfm_comm.specs.{Phase.{Answered}, Look.{HasLooked, JustLooked}, StepsLeft.{behind_look}}
 use Rattle.ulfm_comm.specs.AlsoLeft.{also_behind_look}
-use Rattle.ulfm_comm.proofs.{AlsoLeft.{follows_ends, follows_one}, StepsLeft.{one_left}}
+use Rattle.ulfm_comm.proofs.{AlsoLeft.{follows_behind, follows_ends}, StepsLeft.{behind_left}}
 use Rattle.ulfm_comm.proofs.Look.{just_acked, just_counted, just_fits, just_freed, just_passed, own_barrier, own_question, own_revoke, starts_agree}
 use Rattle.ulfm_comm.proofs.Look.{starts_shrink}
 use Rattle.ulfm_comm.proofs.Holding.{group_rises}
@@ -34,10 +34,10 @@ passes g c =
 
 -- so the call goes on after its look
 abbrev looked : (g : _) (c : After-held_comm-x g) (alone : Bool) (old : Record) (before : Sight g.row.P.Denot)
-    → JustLooked g.P.Meld.meld alone c.args.asked.now (local old (view_of (g.W.Words.name c.args.words.now) before)) (local c.args.self.now (view_of (g.W.Words.name c.args.words.now) (g.W.Words.sight c.args.pass.now)))
+    → JustLooked g.P.Meld.meld alone c.args.asked.now (local old (view_of g.P.Packed.pack (g.W.Words.name c.args.words.now) before)) (local c.args.self.now (view_of g.P.Packed.pack (g.W.Words.name c.args.words.now) (g.W.Words.sight c.args.pass.now)))
     → HasLooked (frame g.P.Meld.meld (g.W.Words.name c.args.words.now).limits alone) c.args.asked.now (moment old before.seen) (moment c.args.self.now (g.W.Words.sight c.args.pass.now).seen)
 looked g c alone old before j =
-    just_passed g.P.Meld.meld alone (g.W.Words.name c.args.words.now) c.args.asked.now old before c.args.self.now
+    just_passed g.P.Meld.meld alone (over g.P.Packed.pack (g.W.Words.name c.args.words.now)) c.args.asked.now old before c.args.self.now
     (g.W.Words.sight c.args.pass.now) j c.requires.of c.held_comm-x.result.now (held g c) (passes g c)
 
 rises : (g : _) (c : After-held_comm-x g) → IsStrictlyIncreasing c.held_comm-x.result.now.group
@@ -45,7 +45,7 @@ rises g c =
     let j = c.requires.just in
     group_rises g.P.Meld.meld (g.W.Words.name c.args.words.now).limits (g.W.Words.sight c.args.pass.now).seen c.args.self.now
     (comm_of c.args.asked.now) c.held_comm-x.result.now
-    (just_fits g.P.Meld.meld _ (g.W.Words.name c.args.words.now) c.args.asked.now j.0 j.1 c.args.self.now (g.W.Words.sight c.args.pass.now) j.2
+    (just_fits g.P.Meld.meld _ (over g.P.Packed.pack (g.W.Words.name c.args.words.now)) c.args.asked.now j.0 j.1 c.args.self.now (g.W.Words.sight c.args.pass.now) j.2
     c.requires.of) (held g c)
 
 pub count_in-count-requires : goal.count_in-count-requires
@@ -131,39 +131,39 @@ pub returns-in-GetFailed-clause-turns : goal.returns-in-GetFailed-clause-turns
 returns-in-GetFailed-clause-turns g c =
     let at = (goal.at.returns-in-GetFailed-clause-turns g c).After-held_comm-x in
     λ group alone old before j.
-    subst (λ a. Answered g.P.Meld.meld alone a (local old (view_of (g.W.Words.name c.args.words.now) before)) (FailedGroup c.count_in-count.result) (local c.args.self.now (view_of (g.W.Words.name c.args.words.now) (g.W.Words.sight c.args.pass.now)))) (sym c.in-GetFailed.is)
-    (just_counted g.P.Meld.meld alone (g.W.Words.name c.args.words.now) _ _ old before c.args.self.now (g.W.Words.sight c.args.pass.now) c.requires.of
+    subst (λ a. Answered g.P.Meld.meld alone a (local old (view_of g.P.Packed.pack (g.W.Words.name c.args.words.now) before)) (FailedGroup c.count_in-count.result) (local c.args.self.now (view_of g.P.Packed.pack (g.W.Words.name c.args.words.now) (g.W.Words.sight c.args.pass.now)))) (sym c.in-GetFailed.is)
+    (just_counted g.P.Meld.meld alone (over g.P.Packed.pack (g.W.Words.name c.args.words.now)) _ _ old before c.args.self.now (g.W.Words.sight c.args.pass.now) c.requires.of
     c.held_comm-x.result.now (held_for g at _ c.in-GetFailed.is) _ (c.count_in-count.ensures ∙ ap₂ (λ w v. length (filter (has w) v))
     (c.deref.ensures.value ∙ ap (λ (y : Held). y.group) c.x.view_is) c.failures.ensures)
-    (subst (λ a. JustLooked g.P.Meld.meld alone a (local old (view_of (g.W.Words.name c.args.words.now) before)) (local c.args.self.now (view_of (g.W.Words.name c.args.words.now) (g.W.Words.sight c.args.pass.now))))
+    (subst (λ a. JustLooked g.P.Meld.meld alone a (local old (view_of g.P.Packed.pack (g.W.Words.name c.args.words.now) before)) (local c.args.self.now (view_of g.P.Packed.pack (g.W.Words.name c.args.words.now) (g.W.Words.sight c.args.pass.now))))
     c.in-GetFailed.is j))
 
 pub returns-in-Ack-clause-turns : goal.returns-in-Ack-clause-turns
 returns-in-Ack-clause-turns g c =
     let at = (goal.at.returns-in-Ack-clause-turns g c).After-held_comm-x in
     λ group alone old before j.
-    subst (λ a. Answered g.P.Meld.meld alone a (local old (view_of (g.W.Words.name c.args.words.now) before)) (Acked c.acknowledged-count.result) (local c.acknowledge.new.self (view_of (g.W.Words.name c.args.words.now) (g.W.Words.sight c.args.pass.now)))) (sym c.in-Ack.is)
-    (just_acked g.P.Meld.meld alone (g.W.Words.name c.args.words.now) _ _ old before c.args.self.now (g.W.Words.sight c.args.pass.now) c.requires.of
+    subst (λ a. Answered g.P.Meld.meld alone a (local old (view_of g.P.Packed.pack (g.W.Words.name c.args.words.now) before)) (Acked c.acknowledged-count.result) (local c.acknowledge.new.self (view_of g.P.Packed.pack (g.W.Words.name c.args.words.now) (g.W.Words.sight c.args.pass.now)))) (sym c.in-Ack.is)
+    (just_acked g.P.Meld.meld alone (over g.P.Packed.pack (g.W.Words.name c.args.words.now)) _ _ old before c.args.self.now (g.W.Words.sight c.args.pass.now) c.requires.of
     c.held_comm-x.result.now (held_for g at _ c.in-Ack.is) _ _ _
     (c.acknowledged-count.ensures ∙ ap₂ (λ m n. max m (min c.in-Ack.count n)) (ap (λ (y : Held). y.acked) c.x.view_is)
     (c.count_in-known.ensures ∙ ap₂ (λ w v. length (filter (has w) v)) (c.deref-in-Ack.ensures.value ∙ ap (λ (y : Held). y.group) c.x.view_is)
-    c.failures-in-Ack.ensures)) c.acknowledge.ensures (subst (λ a. JustLooked g.P.Meld.meld alone a (local old (view_of (g.W.Words.name c.args.words.now) before)) (local c.args.self.now (view_of (g.W.Words.name c.args.words.now) (g.W.Words.sight c.args.pass.now)))) c.in-Ack.is j))
+    c.failures-in-Ack.ensures)) c.acknowledge.ensures (subst (λ a. JustLooked g.P.Meld.meld alone a (local old (view_of g.P.Packed.pack (g.W.Words.name c.args.words.now) before)) (local c.args.self.now (view_of g.P.Packed.pack (g.W.Words.name c.args.words.now) (g.W.Words.sight c.args.pass.now)))) c.in-Ack.is j))
 
 pub returns-in-Free-clause-turns : goal.returns-in-Free-clause-turns
 returns-in-Free-clause-turns g c =
     let at = (goal.at.returns-in-Free-clause-turns g c).After-held_comm-x in
     λ group alone old before j.
-    subst (λ a. Answered g.P.Meld.meld alone a (local old (view_of (g.W.Words.name c.args.words.now) before)) Freed (local c.release.new.self (view_of (g.W.Words.name c.args.words.now) (g.W.Words.sight c.args.pass.now))))
+    subst (λ a. Answered g.P.Meld.meld alone a (local old (view_of g.P.Packed.pack (g.W.Words.name c.args.words.now) before)) Freed (local c.release.new.self (view_of g.P.Packed.pack (g.W.Words.name c.args.words.now) (g.W.Words.sight c.args.pass.now))))
     (sym c.in-Free.is)
-    (just_freed g.P.Meld.meld alone (g.W.Words.name c.args.words.now) _ _ old before c.args.self.now (g.W.Words.sight c.args.pass.now) c.requires.of
+    (just_freed g.P.Meld.meld alone (over g.P.Packed.pack (g.W.Words.name c.args.words.now)) _ _ old before c.args.self.now (g.W.Words.sight c.args.pass.now) c.requires.of
     c.held_comm-x.result.now (held_for g at _ c.in-Free.is) _
     (subst (λ a. first_refusal (tests_of c.args.self.now c.held_comm-x.result.now a) ≡ None) c.in-Free.is (passes g at)) c.release.ensures
-    (subst (λ a. JustLooked g.P.Meld.meld alone a (local old (view_of (g.W.Words.name c.args.words.now) before)) (local c.args.self.now (view_of (g.W.Words.name c.args.words.now) (g.W.Words.sight c.args.pass.now))))
+    (subst (λ a. JustLooked g.P.Meld.meld alone a (local old (view_of g.P.Packed.pack (g.W.Words.name c.args.words.now) before)) (local c.args.self.now (view_of g.P.Packed.pack (g.W.Words.name c.args.words.now) (g.W.Words.sight c.args.pass.now))))
     c.in-Free.is j))
 
 pub overflow_cast-count : goal.overflow_cast-count
 overflow_cast-count g c =
-    let name = g.W.Words.name c.args.words.now in
+    let name = over g.P.Packed.pack (g.W.Words.name c.args.words.now) in
     let now = g.W.Words.sight c.args.pass.now in
     let few = failed_few g.P.Meld.meld name.limits now.seen c.deref.result.now c.requires.of.legal in
     let seen = c.failures.ensures ∙ ap (λ (w : Record). w.seen) c.requires.just.2.looked.record_is in
@@ -173,43 +173,43 @@ overflow_cast-count g c =
     search rules
 
 pub returns-in-Agree-clause-nearer : goal.returns-in-Agree-clause-nearer
-returns-in-Agree-clause-nearer g c = one_left (g.W.Words.name c.args.words.now).limits c.args.self.now c.args.asked.now c.requires.passes
+returns-in-Agree-clause-nearer g c = behind_left (g.W.Words.name c.args.words.now).limits c.args.self.now c.args.asked.now _ c.requires.passes
     (ap (behind_look (g.W.Words.name c.args.words.now).limits c.args.self.now) c.in-Agree.is)
 
 pub returns-in-Shrink-clause-nearer : goal.returns-in-Shrink-clause-nearer
-returns-in-Shrink-clause-nearer g c = one_left (g.W.Words.name c.args.words.now).limits c.args.self.now c.args.asked.now c.requires.passes
+returns-in-Shrink-clause-nearer g c = behind_left (g.W.Words.name c.args.words.now).limits c.args.self.now c.args.asked.now _ c.requires.passes
     (ap (behind_look (g.W.Words.name c.args.words.now).limits c.args.self.now) c.in-Shrink.is)
 
 pub returns-in-Barrier-clause-nearer : goal.returns-in-Barrier-clause-nearer
-returns-in-Barrier-clause-nearer g c = one_left (g.W.Words.name c.args.words.now).limits c.args.self.now c.args.asked.now c.requires.passes
+returns-in-Barrier-clause-nearer g c = behind_left (g.W.Words.name c.args.words.now).limits c.args.self.now c.args.asked.now _ c.requires.passes
     (ap (behind_look (g.W.Words.name c.args.words.now).limits c.args.self.now) c.in-Barrier.is)
 
 pub returns-in-Revoke-clause-nearer : goal.returns-in-Revoke-clause-nearer
-returns-in-Revoke-clause-nearer g c = one_left (g.W.Words.name c.args.words.now).limits c.args.self.now c.args.asked.now c.requires.passes
+returns-in-Revoke-clause-nearer g c = behind_left (g.W.Words.name c.args.words.now).limits c.args.self.now c.args.asked.now _ c.requires.passes
     (ap (behind_look (g.W.Words.name c.args.words.now).limits c.args.self.now) c.in-Revoke.is)
 
 pub returns-in-IsRevoked-clause-nearer : goal.returns-in-IsRevoked-clause-nearer
-returns-in-IsRevoked-clause-nearer g c = one_left (g.W.Words.name c.args.words.now).limits c.args.self.now c.args.asked.now c.requires.passes
+returns-in-IsRevoked-clause-nearer g c = behind_left (g.W.Words.name c.args.words.now).limits c.args.self.now c.args.asked.now _ c.requires.passes
     (ap (behind_look (g.W.Words.name c.args.words.now).limits c.args.self.now) c.in-IsRevoked.is)
 
 pub returns-in-Agree-clause-also : goal.returns-in-Agree-clause-also
-returns-in-Agree-clause-also g c = follows_one (g.W.Words.name c.args.words.now).limits c.args.self.now c.args.asked.now _ refl
+returns-in-Agree-clause-also g c = follows_behind (g.W.Words.name c.args.words.now).limits c.args.self.now c.args.asked.now _ _ refl
     (λ cached. tt) c.requires.passes (ap (also_behind_look (g.W.Words.name c.args.words.now).limits c.args.self.now) c.in-Agree.is)
 
 pub returns-in-Shrink-clause-also : goal.returns-in-Shrink-clause-also
-returns-in-Shrink-clause-also g c = follows_one (g.W.Words.name c.args.words.now).limits c.args.self.now c.args.asked.now _ refl
+returns-in-Shrink-clause-also g c = follows_behind (g.W.Words.name c.args.words.now).limits c.args.self.now c.args.asked.now _ _ refl
     (λ cached. tt) c.requires.passes (ap (also_behind_look (g.W.Words.name c.args.words.now).limits c.args.self.now) c.in-Shrink.is)
 
 pub returns-in-Barrier-clause-also : goal.returns-in-Barrier-clause-also
-returns-in-Barrier-clause-also g c = follows_one (g.W.Words.name c.args.words.now).limits c.args.self.now c.args.asked.now _ refl
+returns-in-Barrier-clause-also g c = follows_behind (g.W.Words.name c.args.words.now).limits c.args.self.now c.args.asked.now _ _ refl
     (λ cached. tt) c.requires.passes (ap (also_behind_look (g.W.Words.name c.args.words.now).limits c.args.self.now) c.in-Barrier.is)
 
 pub returns-in-Revoke-clause-also : goal.returns-in-Revoke-clause-also
-returns-in-Revoke-clause-also g c = follows_one (g.W.Words.name c.args.words.now).limits c.args.self.now c.args.asked.now _ refl
+returns-in-Revoke-clause-also g c = follows_behind (g.W.Words.name c.args.words.now).limits c.args.self.now c.args.asked.now _ _ refl
     (λ cached. tt) c.requires.passes (ap (also_behind_look (g.W.Words.name c.args.words.now).limits c.args.self.now) c.in-Revoke.is)
 
 pub returns-in-IsRevoked-clause-also : goal.returns-in-IsRevoked-clause-also
-returns-in-IsRevoked-clause-also g c = follows_one (g.W.Words.name c.args.words.now).limits c.args.self.now c.args.asked.now _ refl
+returns-in-IsRevoked-clause-also g c = follows_behind (g.W.Words.name c.args.words.now).limits c.args.self.now c.args.asked.now _ _ refl
     (λ cached. tt) c.requires.passes (ap (also_behind_look (g.W.Words.name c.args.words.now).limits c.args.self.now) c.in-IsRevoked.is)
 
 pub returns-in-GetFailed-clause-also : goal.returns-in-GetFailed-clause-also

@@ -1,4 +1,5 @@
 use Rattle.std.proofs.Common.{◌≡◌, ◌<◌, false, Some, take, sym, ap, ap₂, ◌∙◌, subst, arith}
+use Rattle.ulfm_words.specs.Steps.{over}
 use Rattle.std.specs.Prelude.{IfOk, Result, Ok, Err}
 use Rattle.std.specs.Result.{is_err}
 use Rattle.ulfm_model.specs.Answers.{closed, traits_of}
@@ -27,7 +28,7 @@ ok_of (Err e) Q q right = absurd (cc right)
 
 pub returns-then-has_rank-clause-turns : goal.returns-then-has_rank-clause-turns
 returns-then-has_rank-clause-turns g c = λ alone old before r.
-    ends_self_failed g.P.Meld.meld alone (g.W.Words.name c.args.words.now) c.args.asked.now c.args.made.round c.args.made.mask r.x c.args.made.count
+    ends_self_failed g.P.Meld.meld alone (over g.P.Packed.pack (g.W.Words.name c.args.words.now)) c.args.asked.now c.args.made.round c.args.made.mask r.x c.args.made.count
     c.args.reach old before c.args.self.now (g.W.Words.sight c.args.pass.now)
     c.requires.of r.onward r.fits r.polls r.decided r.reads c.refuse.new.self
     (sym (among g (goal.at.returns-then-has_rank-clause-turns g c).After-has_rank) ∙ c.if-has_rank.true) c.refuse.ensures
@@ -35,7 +36,7 @@ returns-then-has_rank-clause-turns g c = λ alone old before r.
 pub returns-then-is_err-clause-turns : goal.returns-then-is_err-clause-turns
 returns-then-is_err-clause-turns g c = λ alone old before r.
     let now = g.W.Words.sight c.args.pass.now in
-    let name = g.W.Words.name c.args.words.now in
+    let name = over g.P.Packed.pack (g.W.Words.name c.args.words.now) in
     ends_out g.P.Meld.meld alone name c.args.asked.now c.args.made.round c.args.made.mask r.x c.args.made.count c.args.reach old before c.args.self.now now
     c.requires.of r.onward r.fits r.polls r.decided r.reads
     (sym (among g (goal.at.returns-then-is_err-clause-turns g c).After-has_rank) ∙ c.if-has_rank.false)
@@ -43,7 +44,7 @@ returns-then-is_err-clause-turns g c = λ alone old before r.
 pub returns-then-limits-eq1-clause-turns : goal.returns-then-limits-eq1-clause-turns
 returns-then-limits-eq1-clause-turns g c = λ alone old before r.
     let now = g.W.Words.sight c.args.pass.now in
-    let name = g.W.Words.name c.args.words.now in
+    let name = over g.P.Packed.pack (g.W.Words.name c.args.words.now) in
     let one : name.limits.comms ≡ 1 = ap (λ (l : Limits). l.comms) (sym c.limits.ensures.limits) ∙ c.if-limits-eq1.true in
     let there = among g (goal.at.returns-then-limits-eq1-clause-turns g c).After-has_rank in
     ends_full g.P.Meld.meld alone name c.args.asked.now c.args.made.round c.args.made.mask r.x c.args.made.count c.args.reach old before c.args.self.now now
@@ -61,7 +62,7 @@ returns-then-limits-eq1-clause-memory g c = λ is x held.
 pub returns-clause-turns : goal.returns-clause-turns
 returns-clause-turns g c = λ alone old before r.
     let now = g.W.Words.sight c.args.pass.now in
-    let name = g.W.Words.name c.args.words.now in
+    let name = over g.P.Packed.pack (g.W.Words.name c.args.words.now) in
     let there = among g (goal.at.returns-clause-turns g c).After-has_rank in
     let held = held_is g.P.Meld.meld name.limits alone (comm_of c.args.asked.now) c.args.made.round c.args.made.mask r.x c.args.made.count old before.seen
     c.args.self.now now.seen r.decided in

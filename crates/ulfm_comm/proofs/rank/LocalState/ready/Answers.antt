@@ -1,4 +1,5 @@
 use Rattle.std.proofs.Common.{◌≡◌, ◌<◌, false, length, ap, sym, ◌∙◌, subst}
+use Rattle.ulfm_words.specs.Steps.{over}
 use Rattle.std.specs.List.Sorted.{IsStrictlyIncreasing}
 use Rattle.ulfm_model.specs.Records.{Fits, Held, held_at}
 use Rattle.ulfm_comm.proofs.{AlsoLeft.{follows_peeks, follows_waits}, Known.{knows_none}, StepsLeft.{passes_none, peeking_after, waiting_after}}
@@ -11,7 +12,7 @@ fits : (g : _) (c : After-held_comm-x g) → Fits g.P.Meld.meld (g.W.Words.name 
     c.args.self.now
 fits g c =
     let just = c.requires.just in
-    just_fits g.P.Meld.meld false (g.W.Words.name c.args.words.now) c.args.asked.now just.0 just.1 c.args.self.now
+    just_fits g.P.Meld.meld false (over g.P.Packed.pack (g.W.Words.name c.args.words.now)) c.args.asked.now just.0 just.1 c.args.self.now
     (g.W.Words.sight c.args.pass.now) just.2 c.requires.of
 
 -- the members that the code reads
@@ -35,7 +36,7 @@ new-arrivals-requires-clause-rises g c =
 pub returns-in-Some-clause-turns : goal.returns-in-Some-clause-turns
 returns-in-Some-clause-turns g c = λ here alone old before just.
     let polls = c.requires.polls in
-    ready_waiting g.P.Meld.meld alone (g.W.Words.name c.args.words.now) c.args.asked.now old before c.args.self.now
+    ready_waiting g.P.Meld.meld alone (over g.P.Packed.pack (g.W.Words.name c.args.words.now)) c.args.asked.now old before c.args.self.now
     (g.W.Words.sight c.args.pass.now) just c.requires.of here c.held_comm-x.result.now c.comm_of-comm.result c.held_comm-x.ensures c.comm_of-comm.ensures
     polls.0 polls.1 polls.2
     c.deref.result.now c.failures.result.now (group g (goal.at.returns-in-Some-clause-turns g c).After-deref) c.failures.ensures c.new-arrivals.result
@@ -45,15 +46,15 @@ returns-in-Some-clause-turns g c = λ here alone old before just.
 pub returns-clause-turns : goal.returns-clause-turns
 returns-clause-turns g c = λ here alone old before just.
     let polls = c.requires.polls in
-    ready_peeking g.P.Meld.meld alone (g.W.Words.name c.args.words.now) c.args.asked.now old before c.args.self.now
+    ready_peeking g.P.Meld.meld alone (over g.P.Packed.pack (g.W.Words.name c.args.words.now)) c.args.asked.now old before c.args.self.now
     (g.W.Words.sight c.args.pass.now) just c.requires.of here c.held_comm-x.result.now c.comm_of-comm.result c.held_comm-x.ensures c.comm_of-comm.ensures
     polls.0 polls.1 polls.2
     c.new-peek.result c.in-Some-agreement.shrinks c.in-Some-agreement.round (sym (ap (λ (y : Held). y.request) c.x.view_is) ∙ c.in-Some-agreement.ensures)
-    c.new-peek.ensures.comm c.new-peek.ensures.round c.new-peek.ensures.side c.new-peek.ensures.none
+    c.new-peek.ensures.comm c.new-peek.ensures.round c.new-peek.ensures.side c.new-peek.ensures.none c.new-peek.ensures.first
 
 pub returns-in-Some-clause-nearer : goal.returns-in-Some-clause-nearer
 returns-in-Some-clause-nearer g c =
-    let name = g.W.Words.name c.args.words.now in
+    let name = over g.P.Packed.pack (g.W.Words.name c.args.words.now) in
     let polls = c.requires.polls in
     let held = ap (held_at c.args.self.now) (sym c.comm_of-comm.ensures) ∙ c.held_comm-x.ensures in
     waiting_after name.limits c.args.self.now c.args.asked.now g.P.Meld.meld (g.W.Words.sight c.args.pass.now).seen c.requires.of.legal
@@ -64,7 +65,7 @@ returns-in-Some-clause-nearer g c =
 
 pub returns-clause-nearer : goal.returns-clause-nearer
 returns-clause-nearer g c =
-    let name = g.W.Words.name c.args.words.now in
+    let name = over g.P.Packed.pack (g.W.Words.name c.args.words.now) in
     let polls = c.requires.polls in
     let here = fits g (goal.at.returns-clause-nearer g c).After-held_comm-x in
     let held = ap (held_at c.args.self.now) (sym c.comm_of-comm.ensures) ∙ c.held_comm-x.ensures in
@@ -77,7 +78,7 @@ returns-clause-nearer g c =
 
 pub returns-in-Some-clause-also : goal.returns-in-Some-clause-also
 returns-in-Some-clause-also g c =
-    let name = g.W.Words.name c.args.words.now in
+    let name = over g.P.Packed.pack (g.W.Words.name c.args.words.now) in
     let polls = c.requires.polls in
     let held = ap (held_at c.args.self.now) (sym c.comm_of-comm.ensures) ∙ c.held_comm-x.ensures in
     follows_waits name.limits c.args.self.now c.args.asked.now polls.0 polls.1 polls.2 (passes_none c.args.self.now c.args.asked.now c.requires.passes)
@@ -87,7 +88,7 @@ returns-in-Some-clause-also g c =
 
 pub returns-clause-also : goal.returns-clause-also
 returns-clause-also g c =
-    let name = g.W.Words.name c.args.words.now in
+    let name = over g.P.Packed.pack (g.W.Words.name c.args.words.now) in
     let polls = c.requires.polls in
     let here = fits g (goal.at.returns-clause-also g c).After-held_comm-x in
     let held = ap (held_at c.args.self.now) (sym c.comm_of-comm.ensures) ∙ c.held_comm-x.ensures in

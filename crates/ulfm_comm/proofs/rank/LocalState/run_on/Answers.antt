@@ -1,11 +1,15 @@
 use Rattle.std.proofs.Common.{rules, ◌≡◌, ◌⊎◌, ◌≤◌, inl, ℕ, false, [], arith, refl, append-nil, ap, subst, sym, ◌∙◌}
+use Rattle.ulfm_comm.specs.Phase.{under_way}
+use Rattle.ulfm_words.proofs.Tried.{tries_none}
+use Rattle.ulfm_comm.proofs.Wings.{turns_then}
+use Rattle.ulfm_words.specs.Steps.{over}
 use Rattle.std.proofs.lemmas.Bool.{false≢true}
 use Rattle.ulfm_model.specs.{Answers.{polled_by}, Records.{Record, held_at, is_shrink}}
 use Rattle.ulfm_model.proofs.Lists.{prefix_trans}
 use Rattle.ulfm_words.proofs.Trails.{did_prefix}
-use Rattle.ulfm_words.specs.Steps.{view_of}
-use Rattle.ulfm_comm.specs.{AlsoLeft.{AlsoSpends, also_left}, Known.{KnowsIn, KnowsNext}, Phase.{IsPast, NextBelow, NextIs, left}, Requests.{may_cache}}
-use Rattle.ulfm_comm.specs.{Step.{HasReadOn}, StepsLeft.{Spends, steps_left}}
+use Rattle.ulfm_words.specs.Steps.{view_at}
+use Rattle.ulfm_comm.specs.{AlsoLeft.{AlsoSpends, also_left}, Known.{KnowsIn, KnowsNext}, Phase.{IsPast, NextBelow, NextIs, left}}
+use Rattle.ulfm_comm.specs.{Step.{HasReadOn, TriesTurn}, StepsLeft.{Spends, steps_left}}
 use Rattle.ulfm_comm.proofs.{AlsoLeft.{also_behind, also_first, also_on}, Known.{knows_same, leads_past, next_same, sees_next}}
 use Rattle.ulfm_comm.proofs.Stands.{stands_own, stands_shrinks}
 use Rattle.ulfm_comm.proofs.rank.LocalState.run_on.Goals as goal
@@ -33,14 +37,10 @@ knows g c known =
     (c.go.ensures.turn.knows (knows_same own mid c.args.asked.now (g.W.Words.sight c.loop-next.pass).cached (held g c) c.loop-next.phase
     (c.loop-next.invariant.knows known)))
 
--- no block was cached that may not be
-caches : (g : _) (c : After-go g) → may_cache c.args.self.now c.args.asked.now ≡ false
-    → (g.W.Words.sight c.go.new.pass).caches ≡ (g.W.Words.sight c.args.pass.now).caches
-caches g c none =
-    let inv = c.loop-next.invariant in
-    let same : may_cache c.loop-next.self c.args.asked.now ≡ may_cache c.args.self.now c.args.asked.now = ap (λ (w : Record). may_cache w c.args.asked.now)
-    inv.kept in
-    c.go.ensures.turn.caches (same ∙ none) ∙ inv.caches none
+-- no word beside was tried that may not be
+beside : (g : _) (c : After-go g) → TriesTurn g.W.Words.alone (under_way c.args.asked.now c.args.phase []) (local c.args.self.now (view_at (over g.P.Packed.pack (g.W.Words.name c.args.words.now)) (g.W.Words.sight c.args.pass.now))) c.go.result
+    (local c.go.new.self (view_at (over g.P.Packed.pack (g.W.Words.name c.args.words.now)) (g.W.Words.sight c.go.new.pass)))
+beside g c = turns_then _ _ _ _ _ _ _ _ _ c.loop-next.invariant.kept c.loop-next.invariant.beside c.go.ensures.turn.beside
 
 -- what was seen
 sees : (g : _) (c : After-go g) → KnowsIn c.args.self.now c.args.asked.now (g.W.Words.sight c.args.pass.now).cached c.args.phase
@@ -50,7 +50,7 @@ sees g c known =
     let own = c.args.self.now in
     let inv = c.loop-next.invariant in
     let still = inv.still in
-    let name = g.W.Words.name c.args.words.now in
+    let name = over g.P.Packed.pack (g.W.Words.name c.args.words.now) in
     let now = g.W.Words.sight c.loop-next.pass in
     let same : polled_by {P = g.row.P.Denot} c.loop-next.self c.args.asked.now ≡ polled_by own c.args.asked.now =
     ap (λ (w : Record). polled_by w c.args.asked.now) inv.kept in
@@ -66,7 +66,7 @@ loop-next-init g c =
       of = c.requires.of;
       begins = ([], append-nil now.seen);
       cached = ([], append-nil now.cached);
-      caches = λ none. refl;
+      beside = record { caches = tries_none now.caches now.caches refl; wings = λ here wings. wings };
       onward = omega arith;
       past = c.requires.past;
       stands = search rules;
@@ -87,7 +87,7 @@ keeps own mid old new first second last = last ∙ (sym (ap (λ (w : Record). re
 pub loop-next-preserved : goal.loop-next-preserved
 loop-next-preserved g c =
     let at = (goal.at.loop-next-preserved g c).After-go in
-    let name = g.W.Words.name c.args.words.now in
+    let name = over g.P.Packed.pack (g.W.Words.name c.args.words.now) in
     let asked = c.args.asked.now in
     let own = c.args.self.now in
     let mid = c.loop-next.self in
@@ -99,15 +99,15 @@ loop-next-preserved g c =
     let inv = c.loop-next.invariant in
     let still = inv.still in
     let stands = turn.turns false (λ here. absurd (false≢true here)) still.0 still.1 still.2 in
-    let goes = subst (λ next. NextIs g.P.Meld.meld false asked (local still.0 (view_of name still.1)) next c.go.new.group.items (local new (view_of name after))) c.in-Goes.is stands in
+    let goes = subst (λ next. NextIs g.P.Meld.meld false asked (local still.0 (view_at name still.1)) next c.go.new.group.items (local new (view_at name after))) c.in-Goes.is stands in
     record {
       of = turn.walks.of;
       begins = prefix_trans start.seen now.seen after.seen inv.begins (did_prefix g.W.Words.alone _ now.seen after.seen turn.walks.did);
       cached = prefix_trans start.cached now.cached after.cached inv.cached turn.walks.cached;
-      caches = caches g at;
+      beside = subst (λ next. TriesTurn g.W.Words.alone (under_way asked c.args.phase []) (local own (view_at name start)) next (local new (view_at name after))) c.in-Goes.is (beside g at);
       onward = within _ _ _ inv.onward turn.walks.onward;
       past = subst (λ next. IsPast next) c.in-Goes.is (leads_past c.loop-next.phase c.go.result inv.past turn.leads);
-      stands = λ old before u. subst (λ next. NextIs g.P.Meld.meld g.W.Words.alone asked (local old (view_of name before)) next c.go.new.group.items (local new (view_of name after))) c.in-Goes.is
+      stands = λ old before u. subst (λ next. NextIs g.P.Meld.meld g.W.Words.alone asked (local old (view_at name before)) next c.go.new.group.items (local new (view_at name after))) c.in-Goes.is
           (turn.turns g.W.Words.alone (λ here. here) old before (inv.stands old before u));
       still = (still.0, still.1, goes);
       kept = keeps own mid still.0 new inv.kept (stands_own g.P.Meld.meld false name asked still.0 still.1 c.loop-next.group.items mid now c.loop-next.phase
@@ -129,7 +129,7 @@ loop-next-smaller g c = subst (λ next. NextBelow (left c.loop-next.phase) next)
 pub returns-in-Ends : goal.returns-in-Ends
 returns-in-Ends g c =
     let at = (goal.at.returns-in-Ends g c).After-go in
-    let name = g.W.Words.name c.args.words.now in
+    let name = over g.P.Packed.pack (g.W.Words.name c.args.words.now) in
     let asked = c.args.asked.now in
     let own = c.args.self.now in
     let mid = c.loop-next.self in
@@ -145,7 +145,7 @@ returns-in-Ends g c =
       of = walks.of;
       begins = prefix_trans start.seen now.seen after.seen inv.begins (did_prefix g.W.Words.alone _ now.seen after.seen walks.did);
       cached = prefix_trans start.cached now.cached after.cached inv.cached walks.cached;
-      caches = caches g at;
+      beside = subst (λ next. TriesTurn g.W.Words.alone (under_way asked c.args.phase []) (local own (view_at name start)) next (local new (view_at name after))) c.in-Ends.is (beside g at);
       onward = within _ _ _ inv.onward walks.onward;
       spends = omega (arith, spends, inv.spent);
       also = λ all.
@@ -156,6 +156,6 @@ returns-in-Ends g c =
           omega (arith, few);
       sees = sees g at;
       knows = λ known. subst (λ next. KnowsNext own asked after.cached next) c.in-Ends.is (knows g at known);
-      turns = λ old before u. subst (λ next. NextIs g.P.Meld.meld g.W.Words.alone asked (local old (view_of name before)) next c.go.new.group.items (local new (view_of name after))) c.in-Ends.is
+      turns = λ old before u. subst (λ next. NextIs g.P.Meld.meld g.W.Words.alone asked (local old (view_at name before)) next c.go.new.group.items (local new (view_at name after))) c.in-Ends.is
           (turn.turns g.W.Words.alone (λ here. here) old before (inv.stands old before u));
     }

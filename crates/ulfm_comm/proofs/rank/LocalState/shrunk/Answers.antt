@@ -1,4 +1,5 @@
 use Rattle.std.proofs.Common.{◌≡◌, Some, ap, sym, ◌∙◌, subst, false, arith}
+use Rattle.ulfm_words.specs.Steps.{over}
 use Rattle.std.specs.List.Sorted.{IsStrictlyIncreasing}
 use Rattle.ulfm_model.specs.Answers.{closed, traits_of}
 use Rattle.ulfm_model.specs.Records.{Held, Record, held_at}
@@ -19,14 +20,14 @@ returns-in_default g c =
       sees = ap (λ (w : Record). w.seen) c.close.ensures;
       past = tt;
       turns = λ alone old before r.
-          ends_mismatch g.P.Meld.meld alone (g.W.Words.name c.args.words.now) c.args.asked.now c.args.round c.args.all old before c.args.self.now
+          ends_mismatch g.P.Meld.meld alone (over g.P.Packed.pack (g.W.Words.name c.args.words.now)) c.args.asked.now c.args.round c.args.all old before c.args.self.now
           (g.W.Words.sight c.args.pass.now) c.requires.of r
           c.close.new.self c.in_default.not-Ctx (c.close.ensures ∙ ap (closed c.args.self.now) c.comm_of-comm.ensures);
     }
 
 pub returns-then-mask-eq0-clause-turns : goal.returns-then-mask-eq0-clause-turns
 returns-then-mask-eq0-clause-turns g c = λ alone old before r.
-    ends_no_context g.P.Meld.meld alone (g.W.Words.name c.args.words.now) c.args.asked.now c.args.round c.args.all old before c.args.self.now
+    ends_no_context g.P.Meld.meld alone (over g.P.Packed.pack (g.W.Words.name c.args.words.now)) c.args.asked.now c.args.round c.args.all old before c.args.self.now
     (g.W.Words.sight c.args.pass.now) c.requires.of r
     c.in-Ctx.mask c.close-then-mask-eq0.new.self c.in-Ctx.is c.if-mask-eq0.true (c.close-then-mask-eq0.ensures ∙ ap (closed c.args.self.now)
     c.comm_of-comm.ensures)
@@ -42,7 +43,7 @@ pub new-on-requires : goal.new-on-requires
 new-on-requires g c =
     let read = c.requires.read in
     let r = read.2 in
-    let rises = group_goes_up g.P.Meld.meld false (g.W.Words.name c.args.words.now) c.args.asked.now c.args.round c.args.all read.0 read.1 c.args.self.now
+    let rises = group_goes_up g.P.Meld.meld false (over g.P.Packed.pack (g.W.Words.name c.args.words.now)) c.args.asked.now c.args.round c.args.all read.0 read.1 c.args.self.now
     (g.W.Words.sight c.args.pass.now) c.requires.of r in
     subst IsStrictlyIncreasing (sym (group_is g (goal.at.new-on-requires g c).After-deref r.x r.marked.held)) rises
 
@@ -63,7 +64,7 @@ returns-then-on-count-clause-turns g c = λ alone old before r.
       at = (
         r.polls,
         r.x,
-        decided_first g.P.Meld.meld alone (g.W.Words.name c.args.words.now) c.args.asked.now c.args.round c.args.all old before c.args.self.now
+        decided_first g.P.Meld.meld alone (over g.P.Packed.pack (g.W.Words.name c.args.words.now)) c.args.asked.now c.args.round c.args.all old before c.args.self.now
             (g.W.Words.sight c.args.pass.now) c.requires.of r c.in-Ctx.mask c.in-Ctx.is (omega (arith, some)),
         at_failure g (goal.at.returns-then-on-count-clause-turns g c).After-new-on r.x
             (group_is g (goal.at.returns-then-on-count-clause-turns g c).After-deref r.x r.marked.held),
@@ -78,7 +79,7 @@ reached-requires-clause-reached g c =
     let some = c.if-mask-eq0.false in (
       read.0,
       read.1,
-      reached_first g.P.Meld.meld false (g.W.Words.name c.args.words.now) c.args.asked.now c.args.round c.args.all read.0 read.1 c.args.self.now
+      reached_first g.P.Meld.meld false (over g.P.Packed.pack (g.W.Words.name c.args.words.now)) c.args.asked.now c.args.round c.args.all read.0 read.1 c.args.self.now
           (g.W.Words.sight c.args.pass.now) c.requires.of r c.in-Ctx.mask c.new-on.result
           c.in-Ctx.is (omega (arith, some)) (at_failure g (goal.at.reached-requires-clause-reached g c).After-new-on r.x
           (group_is g (goal.at.reached-requires-clause-reached g c).After-deref r.x r.marked.held)) c.if-on-count.false,
@@ -88,7 +89,7 @@ pub returns-clause-turns : goal.returns-clause-turns
 returns-clause-turns g c = λ alone old before r.
     let some = c.if-mask-eq0.false in
     c.reached.ensures.turns alone old before
-    (reached_first g.P.Meld.meld alone (g.W.Words.name c.args.words.now) c.args.asked.now c.args.round c.args.all old before c.args.self.now
+    (reached_first g.P.Meld.meld alone (over g.P.Packed.pack (g.W.Words.name c.args.words.now)) c.args.asked.now c.args.round c.args.all old before c.args.self.now
     (g.W.Words.sight c.args.pass.now) c.requires.of r c.in-Ctx.mask c.new-on.result
     c.in-Ctx.is (omega (arith, some)) (at_failure g (goal.at.returns-clause-turns g c).After-new-on r.x
     (group_is g (goal.at.returns-clause-turns g c).After-deref r.x r.marked.held)) c.if-on-count.false)

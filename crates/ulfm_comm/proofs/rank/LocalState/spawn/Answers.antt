@@ -12,7 +12,7 @@ use Rattle.ulfm_comm.proofs.Helds.{room_left, room_pushed}
 use Rattle.ulfm_comm.proofs.Spawn.{full_of, makes, number_fits}
 use Rattle.ulfm_comm.proofs.rank.LocalState.spawn.Goals as goal
 use Rattle.ulfm_comm.proofs.rank.LocalState.spawn.Goals.{In-Some-place_in, After-take_in}
-use Rattle.ulfm_words.specs.Steps.{view_of}
+use Rattle.ulfm_words.specs.Steps.{view_of, over}
 
 pub advance-requires-clause-passed : goal.advance-requires-clause-passed
 advance-requires-clause-passed g c =
@@ -38,7 +38,7 @@ returns-in_default-clause-spawns g c = λ k is.
 
 pub returns-in_default-place_in-clause-spawns : goal.returns-in_default-place_in-clause-spawns
 returns-in_default-place_in-clause-spawns g c = λ k is.
-    let name = g.W.Words.name c.args.words.now in
+    let name = over g.P.Packed.pack (g.W.Words.name c.args.words.now) in
     let at = g.W.Words.sight c.args.pass.now in
     let after = g.W.Words.sight c.advance.new.pass in (
       full_of g.P.Meld.meld g.W.Words.alone name c.args.append.now.by c.args.comm k at after _
@@ -48,16 +48,16 @@ returns-in_default-place_in-clause-spawns g c = λ k is.
 
 -- the round's communicator is there
 made : (g : _) (c : In-Some-place_in g) → (k : ℕ) → c.args.append.now.item ≡ OfComm c.args.comm k
-    → IsMadeBy g.P.Meld.meld g.W.Words.alone c.args.append.now.by (round_on c.args.comm k) (view_of (g.W.Words.name c.args.words.now) (g.W.Words.sight c.args.pass.now)) (c.in-Some-place_in.index + 1) (view_of (g.W.Words.name c.args.words.now) (g.W.Words.sight c.advance.new.pass))
+    → IsMadeBy g.P.Meld.meld g.W.Words.alone c.args.append.now.by (round_on c.args.comm k) (view_of g.P.Packed.pack (g.W.Words.name c.args.words.now) (g.W.Words.sight c.args.pass.now)) (c.in-Some-place_in.index + 1) (view_of g.P.Packed.pack (g.W.Words.name c.args.words.now) (g.W.Words.sight c.advance.new.pass))
 made g c k is =
-    makes g.P.Meld.meld g.W.Words.alone (g.W.Words.name c.args.words.now) c.args.append.now.by c.args.comm k (g.W.Words.sight c.args.pass.now)
+    makes g.P.Meld.meld g.W.Words.alone (over g.P.Packed.pack (g.W.Words.name c.args.words.now)) c.args.append.now.by c.args.comm k (g.W.Words.sight c.args.pass.now)
     (g.W.Words.sight c.advance.new.pass) _ c.in-Some-place_in.index c.in-Some.end
     c.in-Some-place_in.ensures (rw is at c.in-Some.ensures.goes)
 
 pub overflow_add-number : goal.overflow_add-number
 overflow_add-number g c =
     let may = c.requires.may in
-    let below = number_fits g.P.Meld.meld g.W.Words.alone (g.W.Words.name c.args.words.now) c.args.append.now.by c.args.comm may.0
+    let below = number_fits g.P.Meld.meld g.W.Words.alone (over g.P.Packed.pack (g.W.Words.name c.args.words.now)) c.args.append.now.by c.args.comm may.0
     (g.W.Words.sight c.args.pass.now) (g.W.Words.sight c.advance.new.pass) _ (made g (goal.at.overflow_add-number g c).In-Some-place_in may.0 may.1.item) in
     omega (arith, below)
 

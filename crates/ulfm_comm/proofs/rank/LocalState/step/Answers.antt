@@ -1,7 +1,7 @@
 use Rattle.std.proofs.Common.{◌≡◌, Bool, IsTrue, ap, refl, sym, ◌∙◌, subst, false}
 use Rattle.ulfm_model.specs.declared.call.Call.{Call}
 use Rattle.ulfm_model.specs.Records.{Record}
-use Rattle.ulfm_words.specs.Steps.{view_of, Sight}
+use Rattle.ulfm_words.specs.Steps.{view_of, Sight, view_at, over}
 use Rattle.ulfm_comm.specs.{Phase.{Answered, NextIs, Stands, UnderWay, Waits}, Step.{Stepped}, StepsLeft.{Spends, steps_left}}
 use Rattle.ulfm_comm.proofs.Stands.{stands_lasts}
 use Rattle.ulfm_comm.proofs.rank.LocalState.step.Goals as goal
@@ -23,54 +23,54 @@ same g c = sym c.doing.view_is ∙ ap (λ phase. record {
 pub go-requires-clause-stands : goal.go-requires-clause-stands
 go-requires-clause-stands g c =
     let p = c.requires.stood in
-    let name = g.W.Words.name c.args.words.now in
+    let name = over g.P.Packed.pack (g.W.Words.name c.args.words.now) in
     let now = g.W.Words.sight c.args.pass.now in (
       p.0,
       p.1,
-      subst (λ (doing : UnderWay g.row.P.Denot). Stands g.P.Meld.meld false (local p.0 (view_of name p.1)) doing (local c.args.self.now (view_of name now))) (same g c)
+      subst (λ (doing : UnderWay g.row.P.Denot). Stands g.P.Meld.meld false (local p.0 (view_at name p.1)) doing (local c.args.self.now (view_at name now))) (same g c)
           (stands_lasts g.P.Meld.meld false name p.0 p.1 c.args.doing.now c.args.self.now p.2 now p.3 p.4 c.requires.of),
     )
 
 -- what came of it
 pub turned : (g : _) (c : After-go g) → (alone : Bool) → (IsTrue alone → IsTrue g.W.Words.alone) → (old : Record) → (before stood : Sight g.row.P.Denot)
-    → Stands g.P.Meld.meld alone (local old (view_of (g.W.Words.name c.args.words.now) before)) c.args.doing.now (local c.args.self.now (view_of (g.W.Words.name c.args.words.now) stood))
+    → Stands g.P.Meld.meld alone (local old (view_of g.P.Packed.pack (g.W.Words.name c.args.words.now) before)) c.args.doing.now (local c.args.self.now (view_of g.P.Packed.pack (g.W.Words.name c.args.words.now) stood))
     → Waits alone stood (g.W.Words.sight c.args.pass.now)
-    → NextIs g.P.Meld.meld alone c.doing.inside.asked (local old (view_of (g.W.Words.name c.args.words.now) before)) c.go.result c.go.new.group.items (local c.go.new.self (view_of (g.W.Words.name c.args.words.now) (g.W.Words.sight c.go.new.pass)))
+    → NextIs g.P.Meld.meld alone c.doing.inside.asked (local old (view_of g.P.Packed.pack (g.W.Words.name c.args.words.now) before)) c.go.result c.go.new.group.items (local c.go.new.self (view_of g.P.Packed.pack (g.W.Words.name c.args.words.now) (g.W.Words.sight c.go.new.pass)))
 turned g c alone only old before stood u waits =
-    let name = g.W.Words.name c.args.words.now in
+    let name = over g.P.Packed.pack (g.W.Words.name c.args.words.now) in
     let now = g.W.Words.sight c.args.pass.now in
     c.go.ensures.turn.turns alone only old before
-    (subst (λ (doing : UnderWay g.row.P.Denot). Stands g.P.Meld.meld alone (local old (view_of name before)) doing (local c.args.self.now (view_of name now)))
+    (subst (λ (doing : UnderWay g.row.P.Denot). Stands g.P.Meld.meld alone (local old (view_at name before)) doing (local c.args.self.now (view_at name now)))
     (same g (goal.at.After-go g c).After-go-arg-4-1)
     (stands_lasts g.P.Meld.meld alone name old before c.args.doing.now c.args.self.now stood now u waits c.requires.of))
 
 pub returns-in-Goes-clause-stands : goal.returns-in-Goes-clause-stands
 returns-in-Goes-clause-stands g c =
     λ alone only old before stood u waits.
-    subst (λ next. NextIs g.P.Meld.meld alone c.doing.inside.asked (local old (view_of (g.W.Words.name c.args.words.now) before)) next c.go.new.group.items (local c.go.new.self (view_of (g.W.Words.name c.args.words.now) (g.W.Words.sight c.go.new.pass)))) c.in-Goes.is
+    subst (λ next. NextIs g.P.Meld.meld alone c.doing.inside.asked (local old (view_of g.P.Packed.pack (g.W.Words.name c.args.words.now) before)) next c.go.new.group.items (local c.go.new.self (view_of g.P.Packed.pack (g.W.Words.name c.args.words.now) (g.W.Words.sight c.go.new.pass)))) c.in-Goes.is
     (turned g (goal.at.returns-in-Goes-clause-stands g c).After-go alone only old before stood u waits)
 
 pub returns-in-Ends-clause-stands : goal.returns-in-Ends-clause-stands
 returns-in-Ends-clause-stands g c =
     λ alone only old before stood u waits.
-    let name = g.W.Words.name c.args.words.now in
+    let name = over g.P.Packed.pack (g.W.Words.name c.args.words.now) in
     let after = g.W.Words.sight c.go.new.pass in
-    subst (λ (a : Call g.row.P.Denot). Answered g.P.Meld.meld alone a (local old (view_of name before)) c.in-Ends.reply (local c.go.new.self (view_of name after)))
+    subst (λ (a : Call g.row.P.Denot). Answered g.P.Meld.meld alone a (local old (view_at name before)) c.in-Ends.reply (local c.go.new.self (view_at name after)))
     (ap (λ (doing : UnderWay g.row.P.Denot). doing.asked) c.doing.view_is)
-    (subst (λ next. NextIs g.P.Meld.meld alone c.doing.inside.asked (local old (view_of name before)) next c.go.new.group.items (local c.go.new.self (view_of name after))) c.in-Ends.is
+    (subst (λ next. NextIs g.P.Meld.meld alone c.doing.inside.asked (local old (view_at name before)) next c.go.new.group.items (local c.go.new.self (view_at name after))) c.in-Ends.is
     (turned g (goal.at.returns-in-Ends-clause-stands g c).After-go alone only old before stood u waits))
 
 -- what the step did
 stepped : (g : _) (c : After-go g)
-    → Stepped g.P.Meld.meld g.W.Words.alone c.args.doing.now (local c.args.self.now (view_of (g.W.Words.name c.args.words.now) (g.W.Words.sight c.args.pass.now))) c.go.result (local c.go.new.self (view_of (g.W.Words.name c.args.words.now) (g.W.Words.sight c.go.new.pass)))
+    → Stepped g.P.Meld.meld g.W.Words.alone c.args.doing.now (local c.args.self.now (view_of g.P.Packed.pack (g.W.Words.name c.args.words.now) (g.W.Words.sight c.args.pass.now))) c.go.result (local c.go.new.self (view_of g.P.Packed.pack (g.W.Words.name c.args.words.now) (g.W.Words.sight c.go.new.pass)))
 stepped g c =
     let at = (goal.at.After-go g c).After-go-arg-4-1 in
-    subst (λ (was : UnderWay g.row.P.Denot). Stepped g.P.Meld.meld g.W.Words.alone was (local c.args.self.now (view_of (g.W.Words.name c.args.words.now) (g.W.Words.sight c.args.pass.now))) c.go.result (local c.go.new.self (view_of (g.W.Words.name c.args.words.now) (g.W.Words.sight c.go.new.pass))))
+    subst (λ (was : UnderWay g.row.P.Denot). Stepped g.P.Meld.meld g.W.Words.alone was (local c.args.self.now (view_of g.P.Packed.pack (g.W.Words.name c.args.words.now) (g.W.Words.sight c.args.pass.now))) c.go.result (local c.go.new.self (view_of g.P.Packed.pack (g.W.Words.name c.args.words.now) (g.W.Words.sight c.go.new.pass))))
     (sym (same g at)) (record {
       of = c.go.ensures.turn.walks.of;
       onward = c.go.ensures.turn.walks.onward;
       cached = c.go.ensures.turn.walks.cached;
-      caches = c.go.ensures.turn.caches;
+      caches = c.go.ensures.turn.beside.caches;
       named = c.go.ensures.turn.named refl;
       nearer = c.go.ensures.turn.nearer refl;
       also = c.go.ensures.turn.also;
@@ -86,12 +86,12 @@ stepped g c =
 
 pub returns-in-Goes-clause-stepped : goal.returns-in-Goes-clause-stepped
 returns-in-Goes-clause-stepped g c =
-    subst (λ next. Stepped g.P.Meld.meld g.W.Words.alone c.args.doing.now (local c.args.self.now (view_of (g.W.Words.name c.args.words.now) (g.W.Words.sight c.args.pass.now))) next (local c.go.new.self (view_of (g.W.Words.name c.args.words.now) (g.W.Words.sight c.go.new.pass)))) c.in-Goes.is
+    subst (λ next. Stepped g.P.Meld.meld g.W.Words.alone c.args.doing.now (local c.args.self.now (view_of g.P.Packed.pack (g.W.Words.name c.args.words.now) (g.W.Words.sight c.args.pass.now))) next (local c.go.new.self (view_of g.P.Packed.pack (g.W.Words.name c.args.words.now) (g.W.Words.sight c.go.new.pass)))) c.in-Goes.is
     (stepped g (goal.at.returns-in-Goes-clause-stepped g c).After-go)
 
 pub returns-in-Ends-clause-stepped : goal.returns-in-Ends-clause-stepped
 returns-in-Ends-clause-stepped g c =
-    subst (λ next. Stepped g.P.Meld.meld g.W.Words.alone c.args.doing.now (local c.args.self.now (view_of (g.W.Words.name c.args.words.now) (g.W.Words.sight c.args.pass.now))) next (local c.go.new.self (view_of (g.W.Words.name c.args.words.now) (g.W.Words.sight c.go.new.pass)))) c.in-Ends.is
+    subst (λ next. Stepped g.P.Meld.meld g.W.Words.alone c.args.doing.now (local c.args.self.now (view_of g.P.Packed.pack (g.W.Words.name c.args.words.now) (g.W.Words.sight c.args.pass.now))) next (local c.go.new.self (view_of g.P.Packed.pack (g.W.Words.name c.args.words.now) (g.W.Words.sight c.go.new.pass)))) c.in-Ends.is
     (stepped g (goal.at.returns-in-Ends-clause-stepped g c).After-go)
 
 -- what it spent

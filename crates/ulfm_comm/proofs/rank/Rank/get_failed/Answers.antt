@@ -1,4 +1,5 @@
 use Rattle.std.proofs.Common.{◌≡◌, ◌<◌, length, filter, true, Some, ap, ap₂, ◌∙◌, sym, subst, vec_capacity}
+use Rattle.ulfm_words.specs.Steps.{over}
 use Rattle.std.specs.Prelude.{Result, Ok, Err, OnErr}
 use Rattle.std.specs.Result.{is_err}
 use Rattle.std.specs.List.Sorted.{IsStrictlyIncreasing}
@@ -10,32 +11,32 @@ use Rattle.ulfm_comm.proofs.{Holding.{group_rises}, Typed.{HasCounted, has_count
 use Rattle.ulfm_comm.proofs.rank.Rank.get_failed.Goals as goal
 use Rattle.ulfm_comm.proofs.rank.Rank.get_failed.Goals.{After-failures, After-put_in}
 use Rattle.ulfm_comm.specs.Local.{local}
-use Rattle.ulfm_words.specs.Steps.{view_of}
+use Rattle.ulfm_words.specs.Steps.{view_of, view_at}
 
 -- the call has counted so many
 calls : (g : _) (c : After-failures g)
-    → Calls g.P.Meld.meld g.W.Words.alone (call.GetFailed c.args.self.now.own.number c.args.comm) (local c.args.self.now.own (view_of c.args.world.now (g.W.Words.sight c.args.pass.now))) (FailedGroup c.in_ok-counted.field-0) (local c.call.new.self.own (view_of c.args.world.now (g.W.Words.sight c.call.new.pass)))
+    → Calls g.P.Meld.meld g.W.Words.alone (call.GetFailed c.args.self.now.own.number c.args.comm) (local c.args.self.now.own (view_of g.P.Packed.pack c.args.world.now (g.W.Words.sight c.args.pass.now))) (FailedGroup c.in_ok-counted.field-0) (local c.call.new.self.own (view_of g.P.Packed.pack c.args.world.now (g.W.Words.sight c.call.new.pass)))
 calls g c =
-    let name = c.args.world.now in
-    subst (λ r. EndsReply g.P.Meld.meld g.W.Words.alone (call.GetFailed c.args.self.now.own.number c.args.comm) (local c.args.self.now.own (view_of name (g.W.Words.sight c.args.pass.now))) r (local c.call.new.self.own (view_of name (g.W.Words.sight c.call.new.pass)))) (sym c.in_ok-counted.ensures)
-    (subst (λ n. EndsReply g.P.Meld.meld g.W.Words.alone (call.GetFailed n c.args.comm) (local c.args.self.now.own (view_of name (g.W.Words.sight c.args.pass.now))) c.call.result (local c.call.new.self.own (view_of name (g.W.Words.sight c.call.new.pass)))) c.number-rank.ensures c.call.ensures.ends)
+    let name = over g.P.Packed.pack c.args.world.now in
+    subst (λ r. EndsReply g.P.Meld.meld g.W.Words.alone (call.GetFailed c.args.self.now.own.number c.args.comm) (local c.args.self.now.own (view_at name (g.W.Words.sight c.args.pass.now))) r (local c.call.new.self.own (view_at name (g.W.Words.sight c.call.new.pass)))) (sym c.in_ok-counted.ensures)
+    (subst (λ n. EndsReply g.P.Meld.meld g.W.Words.alone (call.GetFailed n c.args.comm) (local c.args.self.now.own (view_at name (g.W.Words.sight c.args.pass.now))) c.call.result (local c.call.new.self.own (view_at name (g.W.Words.sight c.call.new.pass)))) c.number-rank.ensures c.call.ensures.ends)
 
 counts : (g : _) (c : After-failures g)
-    → HasCounted g.P.Meld.meld g.W.Words.alone c.args.world.now c.args.self.now.own.number c.args.comm c.in_ok-counted.field-0
+    → HasCounted g.P.Meld.meld g.W.Words.alone (over g.P.Packed.pack c.args.world.now) c.args.self.now.own.number c.args.comm c.in_ok-counted.field-0
     c.args.self.now.own (g.W.Words.sight c.args.pass.now) c.call.new.self.own (g.W.Words.sight c.call.new.pass)
 counts g c =
-    has_counted g.P.Meld.meld g.W.Words.alone c.args.world.now c.args.self.now.own.number c.args.comm c.in_ok-counted.field-0
+    has_counted g.P.Meld.meld g.W.Words.alone (over g.P.Packed.pack c.args.world.now) c.args.self.now.own.number c.args.comm c.in_ok-counted.field-0
     c.args.self.now.own (g.W.Words.sight c.args.pass.now) c.call.new.self.own (g.W.Words.sight c.call.new.pass)
     c.requires.fits (calls g c)
 
 -- the communicator is held, since its failed group was counted
 pub held_comm-x-requires : goal.held_comm-x-requires
 held_comm-x-requires g c =
-    let called : Calls g.P.Meld.meld g.W.Words.alone (call.GetFailed c.args.self.now.own.number c.args.comm) (local c.args.self.now.own (view_of c.args.world.now (g.W.Words.sight c.args.pass.now))) (FailedGroup c.in_ok-counted.field-0) (local c.call.new.self.own (view_of c.args.world.now (g.W.Words.sight c.call.new.pass))) =
-    let name = c.args.world.now in
-    subst (λ r. EndsReply g.P.Meld.meld g.W.Words.alone (call.GetFailed c.args.self.now.own.number c.args.comm) (local c.args.self.now.own (view_of name (g.W.Words.sight c.args.pass.now))) r (local c.call.new.self.own (view_of name (g.W.Words.sight c.call.new.pass)))) (sym c.in_ok-counted.ensures)
-    (subst (λ n. EndsReply g.P.Meld.meld g.W.Words.alone (call.GetFailed n c.args.comm) (local c.args.self.now.own (view_of name (g.W.Words.sight c.args.pass.now))) c.call.result (local c.call.new.self.own (view_of name (g.W.Words.sight c.call.new.pass)))) c.number-rank.ensures c.call.ensures.ends) in
-    let h = has_counted g.P.Meld.meld g.W.Words.alone c.args.world.now c.args.self.now.own.number c.args.comm c.in_ok-counted.field-0
+    let called : Calls g.P.Meld.meld g.W.Words.alone (call.GetFailed c.args.self.now.own.number c.args.comm) (local c.args.self.now.own (view_of g.P.Packed.pack c.args.world.now (g.W.Words.sight c.args.pass.now))) (FailedGroup c.in_ok-counted.field-0) (local c.call.new.self.own (view_of g.P.Packed.pack c.args.world.now (g.W.Words.sight c.call.new.pass))) =
+    let name = over g.P.Packed.pack c.args.world.now in
+    subst (λ r. EndsReply g.P.Meld.meld g.W.Words.alone (call.GetFailed c.args.self.now.own.number c.args.comm) (local c.args.self.now.own (view_at name (g.W.Words.sight c.args.pass.now))) r (local c.call.new.self.own (view_at name (g.W.Words.sight c.call.new.pass)))) (sym c.in_ok-counted.ensures)
+    (subst (λ n. EndsReply g.P.Meld.meld g.W.Words.alone (call.GetFailed n c.args.comm) (local c.args.self.now.own (view_at name (g.W.Words.sight c.args.pass.now))) c.call.result (local c.call.new.self.own (view_at name (g.W.Words.sight c.call.new.pass)))) c.number-rank.ensures c.call.ensures.ends) in
+    let h = has_counted g.P.Meld.meld g.W.Words.alone (over g.P.Packed.pack c.args.world.now) c.args.self.now.own.number c.args.comm c.in_ok-counted.field-0
     c.args.self.now.own (g.W.Words.sight c.args.pass.now) c.call.new.self.own (g.W.Words.sight c.call.new.pass) c.requires.fits called in
     (h.x, ap (λ (r : Ranked). held_at r.own c.args.comm) c.self.view_is ∙ h.held)
 
@@ -76,7 +77,7 @@ returns-then-is_err-clause-memory g c = λ _.
     subst (λ n. vec_capacity c.args.found.now < n) number lacks
 
 -- the vector has the failures in the group that the look found
-found : (g : _) (c : After-put_in g) (h : HasCounted g.P.Meld.meld g.W.Words.alone c.args.world.now c.args.self.now.own.number
+found : (g : _) (c : After-put_in g) (h : HasCounted g.P.Meld.meld g.W.Words.alone (over g.P.Packed.pack c.args.world.now) c.args.self.now.own.number
     c.args.comm c.in_ok-counted.field-0 c.args.self.now.own (g.W.Words.sight c.args.pass.now) c.call.new.self.own (g.W.Words.sight c.call.new.pass))
     → c.put_in.new.found.items ≡ filter (has h.x.group) c.call.new.self.own.seen
 found g c h =
@@ -91,7 +92,7 @@ returns-clause-gets g c =
     let at = goal.at.returns-clause-gets g c in
     let h = counts g at.After-failures in
     let number = h.counted ∙ ap length (sym (found g at.After-put_in h)) in
-    subst (λ n. Calls g.P.Meld.meld g.W.Words.alone (call.GetFailed c.args.self.now.own.number c.args.comm) (local c.args.self.now.own (view_of c.args.world.now (g.W.Words.sight c.args.pass.now))) (FailedGroup n) (local c.call.new.self.own (view_of c.args.world.now (g.W.Words.sight c.call.new.pass)))) number
+    subst (λ n. Calls g.P.Meld.meld g.W.Words.alone (call.GetFailed c.args.self.now.own.number c.args.comm) (local c.args.self.now.own (view_of g.P.Packed.pack c.args.world.now (g.W.Words.sight c.args.pass.now))) (FailedGroup n) (local c.call.new.self.own (view_of g.P.Packed.pack c.args.world.now (g.W.Words.sight c.call.new.pass)))) number
     (calls g at.After-failures)
 
 pub returns-clause-group : goal.returns-clause-group

@@ -1,7 +1,7 @@
 use Rattle.std.proofs.Common.{◌≡◌, [], Some, ap, sym, ◌∙◌, subst}
+use Rattle.ulfm_words.specs.Steps.{Name}
 use Rattle.ulfm_model.specs.{History.{IsLegal}, Records.{Held, held_at}}
 use Rattle.ulfm_model.proofs.Stable.{fits_stays}
-use Rattle.ulfm_words.specs.Steps.{Name}
 use Rattle.ulfm_words.proofs.Trails.{did_prefix}
 use Rattle.ulfm_steps.specs.Rounds.{IsRoundOf}
 use Rattle.ulfm_comm.specs.{Counts.{Ranked}, Misses.{round_in}}

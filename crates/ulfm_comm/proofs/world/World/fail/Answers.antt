@@ -1,5 +1,6 @@
 use Rattle.std.proofs.Common.{◌≡◌, ◌<◌, refl, ap, sym, subst, arith}
-use Rattle.ulfm_words.specs.Steps.{view_of, Name}
+use Rattle.ulfm_words.specs.Steps.{Name, over}
+use Rattle.ulfm_words.specs.Steps.{Over, view_at, over}
 use Rattle.ulfm_steps.specs.{Appends.{MayAppend}}
 use Rattle.ulfm_steps.proofs.Coming.{may_fail}
 use Rattle.ulfm_comm.specs.Fails.{Fails}
@@ -12,7 +13,7 @@ returns-then-rank-limits g c =
     let pass = g.W.Words.sight c.args.pass.now in
     let ranks : c.limits.result.ranks ≡ (g.W.Words.name c.self.inside.words).limits.ranks = ap (λ l. l.ranks) c.limits.ensures.limits in
     let limits = ap (λ (n : Name). n.limits.ranks) c.self.view_is in
-    fail_missing g.P.Meld.meld g.W.Words.alone c.args.self.now c.args.rank pass pass c.requires.of (omega (arith, limits, ranks, c.if-rank-limits.true)) refl
+    fail_missing g.P.Meld.meld g.W.Words.alone (over g.P.Packed.pack c.args.self.now) c.args.rank pass pass c.requires.of (omega (arith, limits, ranks, c.if-rank-limits.true)) refl
 
 pub finish-requires-clause-may : goal.finish-requires-clause-may
 finish-requires-clause-may g c =
@@ -32,22 +33,22 @@ pub returns-in-Won : goal.returns-in-Won
 returns-in-Won g c =
     let before = g.W.Words.sight c.args.pass.now in
     let after = g.W.Words.sight c.finish.new.pass in
-    subst (λ (n : Name). Fails g.P.Meld.meld g.W.Words.alone c.args.rank (view_of n before) _ (view_of n after)) c.self.view_is
-    (fail_won g.P.Meld.meld g.W.Words.alone (g.W.Words.name c.self.inside.words) c.args.rank before after c.in-Won.field-0
+    subst (λ (n : Name). Fails g.P.Meld.meld g.W.Words.alone c.args.rank (view_at (over g.P.Packed.pack n) before) _ (view_at (over g.P.Packed.pack n) after)) c.self.view_is
+    (fail_won g.P.Meld.meld g.W.Words.alone (over g.P.Packed.pack (g.W.Words.name c.self.inside.words)) c.args.rank before after c.in-Won.field-0
     (below g (goal.at.returns-in-Won g c).After-finish) (rw c.new-append.ensures at c.in-Won.ensures))
 
 pub returns-in-Found : goal.returns-in-Found
 returns-in-Found g c =
     let before = g.W.Words.sight c.args.pass.now in
     let after = g.W.Words.sight c.finish.new.pass in
-    subst (λ (n : Name). Fails g.P.Meld.meld g.W.Words.alone c.args.rank (view_of n before) _ (view_of n after)) c.self.view_is
-    (fail_found g.P.Meld.meld g.W.Words.alone (g.W.Words.name c.self.inside.words) c.args.rank before after c.in-Found.field-0
+    subst (λ (n : Name). Fails g.P.Meld.meld g.W.Words.alone c.args.rank (view_at (over g.P.Packed.pack n) before) _ (view_at (over g.P.Packed.pack n) after)) c.self.view_is
+    (fail_found g.P.Meld.meld g.W.Words.alone (over g.P.Packed.pack (g.W.Words.name c.self.inside.words)) c.args.rank before after c.in-Found.field-0
     (below g (goal.at.returns-in-Found g c).After-finish) (rw c.new-append.ensures at c.in-Found.ensures))
 
 pub returns-in-Full : goal.returns-in-Full
 returns-in-Full g c =
     let before = g.W.Words.sight c.args.pass.now in
     let after = g.W.Words.sight c.finish.new.pass in
-    subst (λ (n : Name). Fails g.P.Meld.meld g.W.Words.alone c.args.rank (view_of n before) _ (view_of n after)) c.self.view_is
-    (fail_full g.P.Meld.meld g.W.Words.alone (g.W.Words.name c.self.inside.words) c.args.rank before after
+    subst (λ (n : Name). Fails g.P.Meld.meld g.W.Words.alone c.args.rank (view_at (over g.P.Packed.pack n) before) _ (view_at (over g.P.Packed.pack n) after)) c.self.view_is
+    (fail_full g.P.Meld.meld g.W.Words.alone (over g.P.Packed.pack (g.W.Words.name c.self.inside.words)) c.args.rank before after
     (below g (goal.at.returns-in-Full g c).After-finish) (rw c.new-append.ensures at c.in-Full.ensures))

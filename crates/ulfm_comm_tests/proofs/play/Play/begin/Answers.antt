@@ -1,4 +1,5 @@
 use Rattle.std.proofs.Common.{arith}
+use Rattle.ulfm_words.specs.Steps.{over}
 use Rattle.ulfm_comm.proofs.AmongOthers.{waits_none}
 use Rattle.ulfm_comm_tests.specs.Playing.{Plays}
 use Rattle.ulfm_comm_tests.proofs.Seats.{each_at, play_next}
@@ -6,12 +7,12 @@ use Rattle.ulfm_comm_tests.proofs.play.Play.begin.Goals as goal
 
 pub begin-requires-clause-sits : goal.begin-requires-clause-sits
 begin-requires-clause-sits g c =
-    let name = c.self.inside.world in
+    let name = over g.P.Packed.pack c.self.inside.world in
     rw c.index_mut.ensures.value
     (each_at (Plays g.P.Meld.meld name (g.W.Words.sight c.self.inside.pass)) c.self.inside.seats.items c.args.rank _ c.self.invariant.sits (omega (arith, c.if-rank-len.false, c.len.ensures)))
 
 pub invariant_of-self : goal.invariant_of-self
 invariant_of-self g c =
-    let name = c.self.inside.world in
+    let name = over g.P.Packed.pack c.self.inside.world in
     let pass = g.W.Words.sight c.self.inside.pass in
     play_next g.P.Meld.meld name pass pass c.self.inside.seats.items c.args.rank c.begin.new.self c.self.invariant c.self.invariant.of (waits_none pass) c.begin.ensures.sits

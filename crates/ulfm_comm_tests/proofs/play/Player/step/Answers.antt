@@ -1,11 +1,12 @@
 use Rattle.std.proofs.Common.{false, sym}
+use Rattle.ulfm_words.specs.Steps.{over}
 use Rattle.ulfm_comm_tests.proofs.Seats.{answered_fits, stood_next, step_waits}
 use Rattle.ulfm_comm_tests.proofs.play.Player.step.Goals as goal
 
 pub returns-in-None-clause-sits : goal.returns-in-None-clause-sits
 returns-in-None-clause-sits g c =
     let meld = g.P.Meld.meld in
-    let name = c.args.world.now in
+    let name = over g.P.Packed.pack c.args.world.now in
     let now = g.W.Words.sight c.args.pass.now in
     let after = g.W.Words.sight c.step.new.pass in
     let waits = step_waits meld name g.W.Words.alone c.in-Some.doing.way c.self.inside.own.own now c.step.result c.step.new.doing.way c.step.new.self.own after c.step.ensures.stepped in
@@ -16,7 +17,7 @@ returns-in-None-clause-sits g c =
 pub returns-in-Some-step-clause-sits : goal.returns-in-Some-step-clause-sits
 returns-in-Some-step-clause-sits g c =
     let meld = g.P.Meld.meld in
-    let name = c.args.world.now in
+    let name = over g.P.Packed.pack c.args.world.now in
     let now = g.W.Words.sight c.args.pass.now in
     let after = g.W.Words.sight c.step.new.pass in
     let waits = step_waits meld name g.W.Words.alone c.in-Some.doing.way c.self.inside.own.own now c.step.result c.step.new.doing.way c.step.new.self.own after c.step.ensures.stepped in
@@ -26,8 +27,8 @@ returns-in-Some-step-clause-sits g c =
 
 pub returns-in-None-clause-waits : goal.returns-in-None-clause-waits
 returns-in-None-clause-waits g c =
-    step_waits g.P.Meld.meld c.args.world.now g.W.Words.alone c.in-Some.doing.way c.self.inside.own.own (g.W.Words.sight c.args.pass.now) c.step.result c.step.new.doing.way c.step.new.self.own (g.W.Words.sight c.step.new.pass) c.step.ensures.stepped
+    step_waits g.P.Meld.meld (over g.P.Packed.pack c.args.world.now) g.W.Words.alone c.in-Some.doing.way c.self.inside.own.own (g.W.Words.sight c.args.pass.now) c.step.result c.step.new.doing.way c.step.new.self.own (g.W.Words.sight c.step.new.pass) c.step.ensures.stepped
 
 pub returns-in-Some-step-clause-waits : goal.returns-in-Some-step-clause-waits
 returns-in-Some-step-clause-waits g c =
-    step_waits g.P.Meld.meld c.args.world.now g.W.Words.alone c.in-Some.doing.way c.self.inside.own.own (g.W.Words.sight c.args.pass.now) c.step.result c.step.new.doing.way c.step.new.self.own (g.W.Words.sight c.step.new.pass) c.step.ensures.stepped
+    step_waits g.P.Meld.meld (over g.P.Packed.pack c.args.world.now) g.W.Words.alone c.in-Some.doing.way c.self.inside.own.own (g.W.Words.sight c.args.pass.now) c.step.result c.step.new.doing.way c.step.new.self.own (g.W.Words.sight c.step.new.pass) c.step.ensures.stepped

@@ -1,17 +1,19 @@
-use Rattle.std.proofs.Common.{sym, ◌++◌}
+use Rattle.std.proofs.Common.{ap, sym, ◌++◌}
 use Rattle.ulfm_model.specs.Runs.{new_state}
+use Rattle.ulfm_echo.specs.Echoes.{Asked, with_line}
 use Rattle.ulfm_echo.proofs.Echoing.{echoes_on}
 use Rattle.ulfm_echo.proofs.echo.EchoLinesInterpreter.run.Goals as goal
 
 pub returns-in_ok-answer-in-Ok : goal.returns-in_ok-answer-in-Ok
 returns-in_ok-answer-in-Ok g c =
     let told = c.in_ok-answer-in-Ok.ensures in
+    let asked : Asked = record { line = c.args.line.now; call = c.in-Ok.call } in
     λ plan before ran. (
-      c.in-Ok.call,
-      sym c.in-Ok.ensures.exact,
+      asked,
+      ap (with_line c.args.line.now) (sym c.in-Ok.ensures.exact),
       (
         ran.0 ++ told.0,
-        echoes_on (new_state before.limits) (g.M.Machine.state c.args.self.now.machine) (g.M.Machine.state c.answer.new.machine) before.items c.in-Ok.call before.out
+        echoes_on (new_state before.limits) (g.M.Machine.state c.args.self.now.machine) (g.M.Machine.state c.answer.new.machine) before.items asked before.out
             ran.0 told.0 c.answer.new.text.items ran.1 told.1 told.2,
       ),
     )

@@ -13,6 +13,7 @@ finish-requires-clause-may g c =
       of = c.requires.of;
       round = rw (c.new.ensures, c.requires.world, c.deref.ensures.value, c.in-Ok.ensures) (world_round c.args.self.now.plain.limits h c.args.round c.requires.round);
       read = rw c.new.ensures (summed_none g.P.Meld.meld h c.args.parent c.args.round);
+      first = rw c.new.ensures tt;
     }
 
 pub finish-requires-then-mask-ne0-clause-may : goal.finish-requires-then-mask-ne0-clause-may
@@ -45,7 +46,7 @@ returns-in_default-finish-clause-did g c = unalone true [] c.args.pass.now.plain
 pub returns-in_default-body : goal.returns-in_default-body
 returns-in_default-body g c =
     let went = c.finish.ensures.goes in
-    record { of = went.of; did = unalone true [] c.args.pass.now.plain.seen c.finish.new.pass.seen went.did; cached = went.cached; caches = went.caches; trail = refl }
+    record { of = went.of; did = unalone true [] c.args.pass.now.plain.seen c.finish.new.pass.seen went.did; cached = went.cached; trail = refl }
 
 pub returns-clause-did : goal.returns-clause-did
 returns-clause-did g c = unalone true [] c.args.pass.now.plain.seen c.finish.new.pass.seen c.finish.ensures.goes.did
@@ -59,6 +60,3 @@ returns-then-mask-ne0-clause-did g c =
 
 pub returns-then-mask-ne0-clause-cached : goal.returns-then-mask-ne0-clause-cached
 returns-then-mask-ne0-clause-cached g c = prefix_trans _ _ _ c.finish.ensures.goes.cached c.finish-then-mask-ne0.ensures.cached
-
-pub returns-then-mask-ne0-clause-caches : goal.returns-then-mask-ne0-clause-caches
-returns-then-mask-ne0-clause-caches g c = c.finish-then-mask-ne0.ensures.caches ∙ c.finish.ensures.goes.caches

@@ -1,4 +1,5 @@
 use Rattle.std.proofs.Common.{refl, vec_capacity, ◌∙◌}
+use Rattle.ulfm_words.specs.Steps.{over}
 use Rattle.ulfm_model.specs.Answers.{rank_of}
 use Rattle.ulfm_model.specs.declared.call.Call.TheVariants as call
 use Rattle.ulfm_job.proofs.{Applying.{applied_begins, applied_job, applied_step, at_value, on_error}, Lacking.{applied_keeps, applied_polls, lacks_poll}}
@@ -20,16 +21,16 @@ pub returns-in-GetFailed : goal.returns-in-GetFailed
 returns-in-GetFailed g c =
     record {
       about = rw c.in-GetFailed.is c.get_by.ensures.about;
-      step = at_value c.get_by.result (applied_step g.P.Meld.meld g.W.Words.alone c.self.inside.world
+      step = at_value c.get_by.result (applied_step g.P.Meld.meld g.W.Words.alone (over g.P.Packed.pack c.self.inside.world)
           (g.W.Words.sight c.self.inside.pass) c.args.self.now (g.W.Words.sight c.get_by.new.pass) c.self.inside.ranks c.deref_mut.result.now c.get_by.new.ranks
           c.deref_mut.ensures.value (c.get_by.auto.ranks ∙ c.deref_mut.ensures.len) c.self.view_is (call.GetFailed c.in-GetFailed.rank c.in-GetFailed.comm)
           c.args.asked.now c.in-GetFailed.is) c.get_by.ensures.step;
       memory = on_error c.get_by.result (λ few. rw c.in-GetFailed.is few) c.get_by.ensures.memory;
-      kept = on_error c.get_by.result (applied_keeps c.self.inside.world (g.W.Words.sight c.self.inside.pass) c.args.self.now
+      kept = on_error c.get_by.result (applied_keeps (over g.P.Packed.pack c.self.inside.world) (g.W.Words.sight c.self.inside.pass) c.args.self.now
           c.self.inside.ranks c.deref_mut.result.now c.get_by.new.ranks c.deref_mut.ensures.value (c.get_by.auto.ranks ∙ c.deref_mut.ensures.len)
           c.self.view_is) c.get_by.ensures.kept;
       group = c.get_by.ensures.group;
-      begins = applied_begins g.P.Meld.meld g.W.Words.alone c.self.inside.world (g.W.Words.sight c.self.inside.pass) c.args.self.now
+      begins = applied_begins g.P.Meld.meld g.W.Words.alone (over g.P.Packed.pack c.self.inside.world) (g.W.Words.sight c.self.inside.pass) c.args.self.now
           (g.W.Words.sight c.get_by.new.pass) c.self.inside.ranks c.deref_mut.result.now c.get_by.new.ranks c.deref_mut.ensures.value
           (c.get_by.auto.ranks ∙ c.deref_mut.ensures.len) c.self.view_is c.get_by.ensures.begins;
     }
@@ -41,32 +42,32 @@ pub returns-in_default : goal.returns-in_default
 returns-in_default g c =
     record {
       about = c.call_by.ensures.about;
-      step = at_value c.call_by.result (applied_step g.P.Meld.meld g.W.Words.alone c.self.inside.world
+      step = at_value c.call_by.result (applied_step g.P.Meld.meld g.W.Words.alone (over g.P.Packed.pack c.self.inside.world)
           (g.W.Words.sight c.self.inside.pass) c.args.self.now (g.W.Words.sight c.call_by.new.pass) c.self.inside.ranks c.deref_mut-in_default.result.now
           c.call_by.new.ranks c.deref_mut-in_default.ensures.value (c.call_by.auto.ranks ∙ c.deref_mut-in_default.ensures.len) c.self.view_is c.args.asked.now
           c.args.asked.now refl) c.call_by.ensures.step;
       memory = on_error c.call_by.result (λ polls.
           lacks_poll (vec_capacity c.args.group.now) c.args.self.now _ c.args.asked.now
           (is_other c.args.asked.now c.in_default.not-Fail c.in_default.not-GetFailed)
-          (applied_polls c.self.inside.world (g.W.Words.sight c.self.inside.pass) c.args.self.now c.self.inside.ranks
+          (applied_polls (over g.P.Packed.pack c.self.inside.world) (g.W.Words.sight c.self.inside.pass) c.args.self.now c.self.inside.ranks
           c.deref_mut-in_default.result.now c.deref_mut-in_default.ensures.value c.self.view_is (rank_of c.args.asked.now) c.args.asked.now polls))
           c.call_by.ensures.memory;
-      kept = on_error c.call_by.result (applied_keeps c.self.inside.world (g.W.Words.sight c.self.inside.pass) c.args.self.now
+      kept = on_error c.call_by.result (applied_keeps (over g.P.Packed.pack c.self.inside.world) (g.W.Words.sight c.self.inside.pass) c.args.self.now
           c.self.inside.ranks c.deref_mut-in_default.result.now c.call_by.new.ranks c.deref_mut-in_default.ensures.value
           (c.call_by.auto.ranks ∙ c.deref_mut-in_default.ensures.len) c.self.view_is) c.call_by.ensures.kept;
       group = c.call_by.ensures.group;
-      begins = applied_begins g.P.Meld.meld g.W.Words.alone c.self.inside.world (g.W.Words.sight c.self.inside.pass) c.args.self.now
+      begins = applied_begins g.P.Meld.meld g.W.Words.alone (over g.P.Packed.pack c.self.inside.world) (g.W.Words.sight c.self.inside.pass) c.args.self.now
           (g.W.Words.sight c.call_by.new.pass) c.self.inside.ranks c.deref_mut-in_default.result.now c.call_by.new.ranks c.deref_mut-in_default.ensures.value
           (c.call_by.auto.ranks ∙ c.deref_mut-in_default.ensures.len) c.self.view_is c.call_by.ensures.begins;
     }
 
 pub invariant_of-self-in-GetFailed : goal.invariant_of-self-in-GetFailed
-invariant_of-self-in-GetFailed g c = applied_job g.P.Meld.meld g.W.Words.alone c.self.inside.world
+invariant_of-self-in-GetFailed g c = applied_job g.P.Meld.meld g.W.Words.alone (over g.P.Packed.pack c.self.inside.world)
     (g.W.Words.sight c.self.inside.pass) c.args.self.now (g.W.Words.sight c.get_by.new.pass) c.self.inside.ranks c.deref_mut.result.now c.get_by.new.ranks
     c.deref_mut.ensures.value (c.get_by.auto.ranks ∙ c.deref_mut.ensures.len) c.self.view_is c.get_by.ensures.job
 
 pub invariant_of-self-in_default : goal.invariant_of-self-in_default
-invariant_of-self-in_default g c = applied_job g.P.Meld.meld g.W.Words.alone c.self.inside.world
+invariant_of-self-in_default g c = applied_job g.P.Meld.meld g.W.Words.alone (over g.P.Packed.pack c.self.inside.world)
     (g.W.Words.sight c.self.inside.pass) c.args.self.now (g.W.Words.sight c.call_by.new.pass) c.self.inside.ranks c.deref_mut-in_default.result.now
     c.call_by.new.ranks c.deref_mut-in_default.ensures.value (c.call_by.auto.ranks ∙ c.deref_mut-in_default.ensures.len) c.self.view_is c.call_by.ensures.job
 

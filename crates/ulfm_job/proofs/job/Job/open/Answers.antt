@@ -1,11 +1,19 @@
 use Rattle.std.proofs.Common.{[], List, ap, ◌∙◌}
+use Rattle.std.proofs.Common.{◌≡◌, length}
+use Rattle.std.specs.List.{Contains}
+use Rattle.ulfm_words.specs.Steps.{Name}
+use Rattle.std.proofs.Common.{arith}
 use Rattle.ulfm_model.specs.declared.limits.Limits.{Limits}
 use Rattle.ulfm_model.specs.{History.{History, first_ranks}, Records.{Record}, Runs.{State}}
 use Rattle.ulfm_model.proofs.LeftSound.{new_sound}
-use Rattle.ulfm_words.specs.Steps.{Name}
+use Rattle.ulfm_words.specs.Steps.{over, view_of}
 use Rattle.ulfm_comm.specs.Counts.{records_of}
 use Rattle.ulfm_comm.proofs.Opening.{records_are}
 use Rattle.ulfm_job.proofs.job.Job.open.Goals as goal
+
+-- nothing is among none
+none_tried : {X : Type 0} (xs : List X) (x : X) → xs ≡ [] → Contains xs x → ⊥
+none_tried xs x none has = let below = has.1 in let few : length xs ≡ 0 = ap length none in omega (arith, below, few)
 
 pub invariant_of-result : goal.invariant_of-result
 invariant_of-result g c =
@@ -13,6 +21,7 @@ invariant_of-result g c =
     rw (c.in_ok-world.ensures.world, c.in_ok-world.ensures.ranks, records_are limits (first_ranks limits.ranks)) (record {
       of = rw c.in_ok-world.ensures.world at c.in-Ok.ensures.of;
       sound = rw c.in-Ok.ensures.seen (new_sound g.P.Meld.meld limits);
+      wings = λ here i k r tried. absurd (none_tried (g.W.Words.sight c.in-Ok.pass).caches _ c.in-Ok.ensures.caches tried);
     })
 
 pub returns : goal.returns

@@ -1,8 +1,7 @@
 use Rattle.std.proofs.Common.{subst, sym}
 use Rattle.ulfm_model.specs.Records.{Fits}
 use Rattle.ulfm_model.proofs.LeftRuns.{fail_fits}
-use Rattle.ulfm_words.specs.Steps.{view_of}
-use Rattle.ulfm_member.specs.Members.{IsMember}
+use Rattle.ulfm_member.specs.Members.{IsMember, viewing}
 use Rattle.ulfm_member.proofs.member.Member.fail.Goals as goal
 
 pub invariant_of-self : goal.invariant_of-self
@@ -14,5 +13,5 @@ invariant_of-self g c =
     let pass = g.W.Words.sight c.fail.new.pass in
     let fits = subst (λ world. Fits meld world.limits before own) (sym c.deref.ensures) c.self.invariant.fits in
     let after = fail_fits meld limits g.W.Words.alone before pass.seen own c.args.rank _ c.fail.ensures.run fits in
-    subst (λ world. IsMember meld (record { own = own; last = c.self.inside.rank.last; view = view_of world pass })) c.deref.ensures
+    subst (λ world. IsMember meld g.P.Packed.pack (record { own = own; last = c.self.inside.rank.last; view = viewing world pass })) c.deref.ensures
     (record { of = c.fail.ensures.of; fits = after })

@@ -2,8 +2,7 @@ use Rattle.std.proofs.Common.{[], subst, sym}
 use Rattle.ulfm_model.specs.Records.{Fits}
 use Rattle.ulfm_model.proofs.Stable.{fits_stays}
 use Rattle.ulfm_words.proofs.Trails.{did_prefix}
-use Rattle.ulfm_words.specs.Steps.{view_of}
-use Rattle.ulfm_member.specs.Members.{IsMember}
+use Rattle.ulfm_member.specs.Members.{IsMember, viewing}
 use Rattle.ulfm_member.proofs.member.Member.learn.Goals as goal
 
 pub invariant_of-self : goal.invariant_of-self
@@ -16,5 +15,5 @@ invariant_of-self g c =
     let fits = subst (λ world. Fits meld world.limits before own) (sym c.deref.ensures) c.self.invariant.fits in
     let begins = did_prefix g.W.Words.alone [] before pass.seen c.learn.ensures.did in
     let after = fits_stays meld limits before pass.seen own begins c.learn.ensures.of.legal fits in
-    subst (λ world. IsMember meld (record { own = own; last = c.self.inside.rank.last; view = view_of world pass })) c.deref.ensures
+    subst (λ world. IsMember meld g.P.Packed.pack (record { own = own; last = c.self.inside.rank.last; view = viewing world pass })) c.deref.ensures
     (record { of = c.learn.ensures.of; fits = after })

@@ -1,6 +1,6 @@
-use Rattle.std.proofs.Common.{◌≡◌, ◌+◌, ◌++◌, ◌≤◌, ◌<◌, [], length, ◌∷◌, sym, ap, ◌∙◌, arith, take, refl, ℕ}
+use Rattle.std.proofs.Common.{arith, take}
 use Rattle.std.proofs.lemmas.Bool.{eqb-true}
-use Rattle.ulfm_script.specs.Buffers.{pending, KeepsFirst, HasNoNewline}
+use Rattle.ulfm_script.specs.Buffers.{pending}
 use Rattle.ulfm_script.proofs.ByteLemmas.{none_pending}
 use Rattle.ulfm_script.proofs.LineParts.{none_before, none_found, split_at}
 use Rattle.ulfm_script.proofs.buffers.Input.take_part.Goals as goal

@@ -11,7 +11,7 @@ pub returns-in-Called-clause-told : goal.returns-in-Called-clause-told
 returns-in-Called-clause-told g c = λ limits trace rest at.
     let m = g.M.StepMachine.Stands in
     took_other (state_of m c.args.self.now) (m c.run.new.self) limits trace rest at c.args.step.now
-    (rw c.in-Called.is (λ piece is. called_events (said_by (nothing limits) trace) c.in-Called.field-0 piece is)) c.run.new.teller.text.items c.run.result
+    (rw c.in-Called.is (λ piece is. called_events (said_by (nothing limits) trace) c.in-Called.call c.in-Called.padded piece is)) c.run.new.teller.text.items c.run.result
     (c.run.ensures.tells (said_by (nothing limits) trace) at.stands.says)
 
 pub returns-in-Failed-clause-told : goal.returns-in-Failed-clause-told
@@ -68,7 +68,7 @@ returns-in-Called-clause-counts g c = λ same.
     let m = g.M.StepMachine.Has in
     let was = c.args.self.now in
     rw c.in-Called.is
-    (counts_called (m was.machine) (m c.run.new.self) was.made c.in-Called.field-0 c.run.result (rw c.in-Called.is at c.run.ensures.goes))
+    (counts_called (m was.machine) (m c.run.new.self) was.made c.in-Called.call c.in-Called.padded c.run.result (rw c.in-Called.is at c.run.ensures.goes))
 
 pub returns-in-Failed-clause-counts : goal.returns-in-Failed-clause-counts
 returns-in-Failed-clause-counts g c = λ same.

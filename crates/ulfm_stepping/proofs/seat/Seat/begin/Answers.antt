@@ -1,6 +1,7 @@
 use Rattle.std.proofs.Common.{◌≡◌, Bool, true, false, None, Some, is_some, not, ap, refl, sym, ◌∙◌, subst, if◌then◌else◌}
 use Rattle.ulfm_model.specs.declared.{event.Caller.TheVariants.{Rank}, refusal.Refusal.TheVariants.{SelfFailed}, reply.Reply.TheVariants.{Refused}}
 use Rattle.ulfm_model.specs.Answers.{traits_of}
+use Rattle.ulfm_words.specs.Steps.{over}
 use Rattle.ulfm_comm.specs.Phase.{next_step}
 use Rattle.ulfm_comm.specs.declared.phases.phase.{Phase.{Phase}, Phase.TheVariants.{Begun, Over}}
 use Rattle.ulfm_stepping.specs.Seats.{Seated, TellsBegin, way_in}
@@ -38,12 +39,12 @@ mine g c = c.requires.mine ∙ ap (λ (s : Seated g.row.P.Denot). Rank s.own.num
 pub returns-then-is_none : goal.returns-then-is_none
 returns-then-is_none g c =
     let at = (goal.at.returns-then-is_none g c).After-is_none in
-    subst (λ (s : Seated g.row.P.Denot). TellsBegin g.P.Meld.meld c.args.world.now s c.args.pass.now c.args.asked (Some (record { point = c.count.result; reply = Refused SelfFailed })) s) (seat_is g at)
-    (begins_over g.P.Meld.meld c.args.world.now c.self.inside.rank.own c.self.inside.found c.args.pass.now c.args.asked (mine g at) (refused g at ∙ c.if-is_none.true) c.count.result c.count.ensures)
+    subst (λ (s : Seated g.row.P.Denot). TellsBegin g.P.Meld.meld (over g.P.Packed.pack c.args.world.now) s c.args.pass.now c.args.asked (Some (record { point = c.count.result; reply = Refused SelfFailed })) s) (seat_is g at)
+    (begins_over g.P.Meld.meld (over g.P.Packed.pack c.args.world.now) c.self.inside.rank.own c.self.inside.found c.args.pass.now c.args.asked (mine g at) (refused g at ∙ c.if-is_none.true) c.count.result c.count.ensures)
 
 pub returns : goal.returns
 returns g c =
     let at = (goal.at.returns g c).After-is_none in
-    subst (λ (s : Seated g.row.P.Denot). TellsBegin g.P.Meld.meld c.args.world.now s c.args.pass.now c.args.asked None (record { own = c.self.inside.rank.own; call = Some c.begin-doing.result.way; found = c.self.inside.found })) (seat_is g at)
-    (begins_open g.P.Meld.meld c.args.world.now c.self.inside.rank.own c.self.inside.found c.args.pass.now c.args.asked (mine g at) c.begin-doing.result.way c.begin-doing.ensures.asked (refused g at ∙ c.if-is_none.false)
+    subst (λ (s : Seated g.row.P.Denot). TellsBegin g.P.Meld.meld (over g.P.Packed.pack c.args.world.now) s c.args.pass.now c.args.asked None (record { own = c.self.inside.rank.own; call = Some c.begin-doing.result.way; found = c.self.inside.found })) (seat_is g at)
+    (begins_open g.P.Meld.meld (over g.P.Packed.pack c.args.world.now) c.self.inside.rank.own c.self.inside.found c.args.pass.now c.args.asked (mine g at) c.begin-doing.result.way c.begin-doing.ensures.asked (refused g at ∙ c.if-is_none.false)
     (c.begin-doing.ensures.first ∙ ap (λ (b : Bool). if b then Over else Begun) (refused g at ∙ c.if-is_none.false)) c.requires.of c.begin-doing.ensures.stands)

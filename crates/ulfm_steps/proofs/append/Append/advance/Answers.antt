@@ -1,6 +1,6 @@
 use Rattle.std.proofs.Common.{◌≡◌, ◌*◌, not, false, None, [], subst, ap, sym, ◌∙◌, arith}
 use Rattle.ulfm_model.proofs.Lists.{none_of, prefix_trans}
-use Rattle.ulfm_words.specs.Steps.{view_of, Goes}
+use Rattle.ulfm_words.specs.Steps.{over, view_at, Goes}
 use Rattle.ulfm_words.proofs.Trails.{did_prefix, did_wait}
 use Rattle.ulfm_steps.specs.{Appends.{place_at, room, turns_left}, Turns.{TakesFirst, left_without}, declared.append.Append.{Append}}
 use Rattle.ulfm_steps.proofs.{Appending.{append_stays, appends_next, turns_most, turns_some}, Turning.{takes_on}}
@@ -9,7 +9,7 @@ use Rattle.ulfm_steps.proofs.append.Append.advance.Goals.{After-step-end}
 
 pub returns-then-not-whole-clause-goes : goal.returns-then-not-whole-clause-goes
 returns-then-not-whole-clause-goes g c =
-    let name = g.W.Words.name c.args.words.now in
+    let name = over g.P.Packed.pack (g.W.Words.name c.args.words.now) in
     let inv = c.loop-end.invariant in
     let places = room c.args.self.now.item name.limits in
     let some = turns_some (room c.loop-end.self.item name.limits) c.loop-end.self inv.within in
@@ -22,14 +22,14 @@ returns-then-not-whole-clause-passed g c = rw (← c.loop-end.invariant.item) c.
 
 pub loop-end-preserved : goal.loop-end-preserved
 loop-end-preserved g c =
-    let name = g.W.Words.name c.args.words.now in
+    let name = over g.P.Packed.pack (g.W.Words.name c.args.words.now) in
     let first = (g.W.Words.sight c.args.pass.now).seen in
     let now = (g.W.Words.sight c.loop-end.pass).seen in
     let after = (g.W.Words.sight c.step-end.new.pass).seen in
     let inv = c.loop-end.invariant in
     let e = c.step-end.ensures in
     let going : c.step-end.result ≡ None = none_of c.step-end.result (sym c.is_some.ensures ∙ c.if-is_some.false) in
-    let went : Goes g.P.Meld.meld g.W.Words.alone false 1 (view_of name (g.W.Words.sight c.loop-end.pass)) (view_of name (g.W.Words.sight c.step-end.new.pass)) = rw going at e.goes in
+    let went : Goes g.P.Meld.meld g.W.Words.alone false 1 (view_at name (g.W.Words.sight c.loop-end.pass)) (view_at name (g.W.Words.sight c.step-end.new.pass)) = rw going at e.goes in
     let passed = rw going at e.passed in
     let within = rw going at e.within in
     let turns = (rw going at e.takes).turns in

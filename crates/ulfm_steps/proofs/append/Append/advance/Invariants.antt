@@ -9,7 +9,7 @@ abbrev pub invariant-loop-end : goal.invariant-loop-end
 invariant-loop-end g l = record {
   item : l.self.item ≡ l.initial.self.item;
   by : l.self.by ≡ l.initial.self.by;
-  of : IsView g.P.Meld.meld (view_of (g.W.Words.name l.words) (g.W.Words.sight l.pass));
+  of : IsView g.P.Meld.meld (view_of g.P.Packed.pack (g.W.Words.name l.words) (g.W.Words.sight l.pass));
   did : Did g.W.Words.alone [] (g.W.Words.sight l.initial.pass).seen (g.W.Words.sight l.pass).seen;
   cached : IsPrefix (g.W.Words.sight l.initial.pass).cached (g.W.Words.sight l.pass).cached;
   caches : (g.W.Words.sight l.pass).caches ≡ (g.W.Words.sight l.initial.pass).caches;

@@ -1,5 +1,5 @@
 use Rattle.std.proofs.Common.{◌≡◌, ◌≢◌, ℕ, ◌+◌, ◌≤◌, not, false, Some, slice_get, refl, subst, ap, sym, ◌∙◌, arith, rules}
-use Rattle.ulfm_words.specs.Steps.{view_of, Goes}
+use Rattle.ulfm_words.specs.Steps.{over, view_of, Goes}
 use Rattle.ulfm_words.proofs.Trails.{did_prefix}
 use Rattle.ulfm_steps.specs.{Appends.{Passed, items, place_at, room, turns_left}, Turns.{TakesFirst}}
 use Rattle.ulfm_steps.proofs.{Appending.{may_add, passed_stays, passed_push, turns_fall, turns_some}, Turning.{takes_exchange, takes_load}}
@@ -17,7 +17,7 @@ returns-in-None-clause-passed g c =
     passed_stays c.args.self.now.item c.args.self.now.index old new (did_prefix g.W.Words.alone _ old new c.load_item.ensures.loads.did) c.requires.passed
 
 -- whichever step it was, another item stands at the place
-goes : (g : _) (c : After-eq g) → Goes g.P.Meld.meld g.W.Words.alone false 1 (view_of (g.W.Words.name c.args.words.now) (g.W.Words.sight c.args.pass.now)) (view_of (g.W.Words.name c.args.words.now) (g.W.Words.sight c.if-self.pass))
+goes : (g : _) (c : After-eq g) → Goes g.P.Meld.meld g.W.Words.alone false 1 (view_of g.P.Packed.pack (g.W.Words.name c.args.words.now) (g.W.Words.sight c.args.pass.now)) (view_of g.P.Packed.pack (g.W.Words.name c.args.words.now) (g.W.Words.sight c.if-self.pass))
 goes g c = elim c.if-self.branch [
   | then-self+in-Err w ↦ let t = w.in-Err.ensures.tries in rw w.pass-is (record { of = t.of; did = t.outcome; cached = t.cached; caches = t.caches; onward = omega (arith, t.steps); steps = omega (arith, t.steps) })
   | else-self+in-Some w ↦ let l = w.load_item.ensures.loads in rw w.pass-is (record { of = l.of; did = l.did; cached = l.cached; caches = l.caches; onward = omega (arith, l.steps); steps = omega (arith, l.steps) })
@@ -28,7 +28,7 @@ took : (g : _) (c : After-eq g) (after : ℕ) → after + 1 ≤ turns_left (room
     → TakesFirst false (place_at c.args.self.now.item c.args.self.now.index) (not c.args.self.now.empty) (turns_left (room c.args.self.now.item (g.W.Words.name c.args.words.now).limits) c.args.self.now) after (g.W.Words.sight c.args.pass.now) (g.W.Words.sight c.if-self.pass)
 took g c after fewer =
     let a = c.args.self.now in
-    let name = g.W.Words.name c.args.words.now in
+    let name = over g.P.Packed.pack (g.W.Words.name c.args.words.now) in
     let before = turns_left (room a.item name.limits) a in
     let place = place_at a.item a.index in
     let old = g.W.Words.sight c.args.pass.now in

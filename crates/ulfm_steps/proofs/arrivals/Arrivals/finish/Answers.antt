@@ -1,7 +1,7 @@
 use Rattle.std.proofs.Common.{◌≡◌, ◌⊎◌, inl, inr, ℕ, ◌-◌, ◌<◌, ◌≤◌, true, false, [], filter, length, ap, sym, ◌∙◌, subst, arith}
 use Rattle.std.specs.List.{list_all}
 use Rattle.ulfm_model.specs.History.{has, has_arrived}
-use Rattle.ulfm_words.specs.Steps.{view_of, Goes}
+use Rattle.ulfm_words.specs.Steps.{over, view_of, Goes}
 use Rattle.ulfm_words.proofs.Trails.{did_prefix}
 use Rattle.ulfm_steps.specs.Arriving.{IsAsked, IsPosition, asked_before, asked_members, in_order}
 use Rattle.ulfm_steps.proofs.{Arriving.{arrivals_stay, asked_fewer, asked_left, asked_within, declared_came, declared_missing, listed_few, nobody_is, others_first, others_missing, turned_off, turned_on}, Reading.{round_stays}, Turning.{goes_none, goes_then}}
@@ -109,7 +109,7 @@ left g c =
 
 -- one load was made for each in between, at most
 went : (g : _) (c : Joined-not-self g)
-    → Goes g.P.Meld.meld g.W.Words.alone false (length (asked_before c.args.group.now c.args.declared.now true c.if-not-self.start) - length (asked_before c.args.group.now c.args.declared.now c.args.self.others c.args.self.next)) (view_of (g.W.Words.name c.args.words.now) (g.W.Words.sight c.args.pass.now)) (view_of (g.W.Words.name c.args.words.now) (g.W.Words.sight c.if-not-self.pass))
+    → Goes g.P.Meld.meld g.W.Words.alone false (length (asked_before c.args.group.now c.args.declared.now true c.if-not-self.start) - length (asked_before c.args.group.now c.args.declared.now c.args.self.others c.args.self.next)) (view_of g.P.Packed.pack (g.W.Words.name c.args.words.now) (g.W.Words.sight c.args.pass.now)) (view_of g.P.Packed.pack (g.W.Words.name c.args.words.now) (g.W.Words.sight c.if-not-self.pass))
 went g c =
     let a = c.args.self in
     let group = c.args.group.now in
@@ -119,7 +119,7 @@ went g c =
           let e = w.arrived_from.ensures.goes in
           let same = ap (λ b. length (asked_before group declared b a.next)) (turned_off a.others w.if-not-self.true) in
           rw (w.pass-is, w.start-is) (record { of = e.of; did = e.did; cached = e.cached; caches = e.caches; onward = e.onward; steps = omega (arith, e.steps, same, ap length (others_first group declared)) })
-      | else-not-self w ↦ rw w.pass-is (goes_none g.P.Meld.meld g.W.Words.alone (g.W.Words.name c.args.words.now) _ (g.W.Words.sight c.args.pass.now) c.requires.of)
+      | else-not-self w ↦ rw w.pass-is (goes_none g.P.Meld.meld g.W.Words.alone (over g.P.Packed.pack (g.W.Words.name c.args.words.now)) _ (g.W.Words.sight c.args.pass.now) c.requires.of)
     ]
 
 -- a load was made, or somebody is asked about
@@ -149,7 +149,7 @@ arrived_from-requires-2-clause-before g c = before g (goal.at.arrived_from-requi
 pub returns-then-not-arrived_from-2-clause-goes : goal.returns-then-not-arrived_from-2-clause-goes
 returns-then-not-arrived_from-2-clause-goes g c =
     let at = (goal.at.returns-then-not-arrived_from-2-clause-goes g c).Joined-not-self in
-    goes_then g.P.Meld.meld g.W.Words.alone (g.W.Words.name c.args.words.now) _ _ _ (g.W.Words.sight c.args.pass.now) (g.W.Words.sight c.if-not-self.pass) (g.W.Words.sight c.arrived_from-2.new.pass) (passed g at) (left g at) (went g at)
+    goes_then g.P.Meld.meld g.W.Words.alone (over g.P.Packed.pack (g.W.Words.name c.args.words.now)) _ _ _ (g.W.Words.sight c.args.pass.now) (g.W.Words.sight c.if-not-self.pass) (g.W.Words.sight c.arrived_from-2.new.pass) (passed g at) (left g at) (went g at)
     c.arrived_from-2.ensures.goes
 
 pub returns-then-not-arrived_from-2-clause-more : goal.returns-then-not-arrived_from-2-clause-more
@@ -160,7 +160,7 @@ returns-then-not-arrived_from-2-clause-more g c =
 pub returns-clause-goes : goal.returns-clause-goes
 returns-clause-goes g c =
     let at = (goal.at.returns-clause-goes g c).Joined-not-self in
-    goes_then g.P.Meld.meld g.W.Words.alone (g.W.Words.name c.args.words.now) _ _ _ (g.W.Words.sight c.args.pass.now) (g.W.Words.sight c.if-not-self.pass) (g.W.Words.sight c.arrived_from-2.new.pass) (passed g at) (left g at) (went g at)
+    goes_then g.P.Meld.meld g.W.Words.alone (over g.P.Packed.pack (g.W.Words.name c.args.words.now)) _ _ _ (g.W.Words.sight c.args.pass.now) (g.W.Words.sight c.if-not-self.pass) (g.W.Words.sight c.arrived_from-2.new.pass) (passed g at) (left g at) (went g at)
     c.arrived_from-2.ensures.goes
 
 pub returns-clause-more : goal.returns-clause-more

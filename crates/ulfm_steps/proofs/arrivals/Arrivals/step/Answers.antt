@@ -1,4 +1,5 @@
 use Rattle.std.proofs.Common.{◌≡◌, ℕ, ◌+◌, ◌≤◌, true, false, cond, [], ◌∷◌, length, length-append, subst, ap, sym, ◌∙◌, arith}
+use Rattle.ulfm_words.specs.Steps.{over}
 use Rattle.std.specs.List.{list_all}
 use Rattle.ulfm_model.specs.History.{has_arrived}
 use Rattle.ulfm_model.specs.declared.place.Place.TheVariants.{Arrival as ArrivalAt}
@@ -85,7 +86,7 @@ took : (g : _) (c : After-load_arrival g) (after : ℕ) → after + 1 ≤ arriva
     → TakesFirst false (ArrivalAt c.args.self.now.comm c.args.self.now.round (rank_at c.args.group.now c.args.declared.now c.args.self.now.others c.args.self.now.next)) true (arrivals_left c.args.group.now c.args.declared.now c.args.self.now) after (g.W.Words.sight c.args.pass.now) (g.W.Words.sight c.load_arrival.new.pass)
 took g c after fewer =
     let a = c.args.self.now in
-    takes_load g.P.Meld.meld g.P.Packed.pack g.W.Words.alone (g.W.Words.name c.args.words.now) (ArrivalAt a.comm a.round c.if-self.rank) (g.W.Words.sight c.args.pass.now) (g.W.Words.sight c.load_arrival.new.pass)
+    takes_load g.P.Meld.meld g.P.Packed.pack g.W.Words.alone (over g.P.Packed.pack (g.W.Words.name c.args.words.now)) (ArrivalAt a.comm a.round c.if-self.rank) (g.W.Words.sight c.args.pass.now) (g.W.Words.sight c.load_arrival.new.pass)
     (ArrivalAt a.comm a.round (rank_at c.args.group.now c.args.declared.now a.others a.next)) (arrivals_left c.args.group.now c.args.declared.now a) after c.load_arrival.ensures.loads
     (ap (λ r. ArrivalAt a.comm a.round r) (rank_is g (goal.at.After-load_arrival g c).Joined-self)) fewer
 

@@ -1,50 +1,76 @@
-use Rattle.std.proofs.Common.{[], ◌∙◌, arith, refl, rules}
-use Rattle.ulfm_model.specs.declared.block.Side.TheVariants.{Back}
+use Rattle.std.proofs.Common.{◌≡◌, [], refl, ap, sym, ◌∙◌, arith, true, false, rules, length}
+use Rattle.ulfm_model.specs.declared.block.Side.TheVariants.{Back, Front}
 use Rattle.ulfm_model.proofs.{Blocks.{has_block_stays}, Lists.{prefix_trans}}
 use Rattle.ulfm_words.proofs.Trails.{did_prefix, did_wait}
-use Rattle.ulfm_steps.specs.Blocks.{block_at}
-use Rattle.ulfm_steps.proofs.Reading.{round_stays}
+use Rattle.ulfm_steps.specs.Blocks.{block_at, peek_site, peeks_after, peeks_left}
+use Rattle.ulfm_steps.proofs.{InBlocks.{peeks_most}, Peeking.{finds_front}, Reading.{round_stays}, Turning.{takes_on_at}}
 use Rattle.ulfm_steps.proofs.blocks.Peek.advance.Goals as goal
 
-pub step-requires-2 : goal.step-requires-2
-step-requires-2 g c =
-    let old = (g.W.Words.sight c.args.pass.now).seen in
-    let new = (g.W.Words.sight c.step.new.pass).seen in
-    let first = c.step.ensures.peeks in
-    record {
-      of = first.goes.of;
-      round = rw (first.comm, first.round) (round_stays (g.W.Words.name c.args.words.now).limits old new c.args.self.now.comm c.args.self.now.round c.args.group.now (did_prefix g.W.Words.alone _ old new first.goes.did) c.requires.round);
-      some = first.some c.if-step.false;
-      are = rw (first.comm, first.round) first.are;
-    }
-
-pub returns : goal.returns
-returns g c =
+pub returns-then-not-whole : goal.returns-then-not-whole
+returns-then-not-whole g c =
+    let inv = c.loop-whole.invariant in
+    let e = c.step-done.ensures in
+    let group = c.args.group.now in
+    let r = c.loop-whole.self in
+    let first = c.args.self.now in
     let x = g.W.Words.sight c.args.pass.now in
-    let y = g.W.Words.sight c.step.new.pass in
-    let z = g.W.Words.sight c.step-2.new.pass in
-    let first = c.step.ensures.peeks in
-    let then = c.step-2.ensures.peeks in
+    let y = g.W.Words.sight c.loop-whole.pass in
+    let z = g.W.Words.sight c.step-done.new.pass in
+    let most = peeks_most (length group) first in
     record {
       goes = record {
-        of = then.goes.of;
-        did = did_wait g.W.Words.alone [] x.seen y.seen z.seen first.goes.did then.goes.did;
-        cached = prefix_trans _ _ _ first.goes.cached then.goes.cached;
-        caches = then.goes.caches ∙ first.goes.caches;
-        onward = omega (arith, first.goes.onward, then.goes.onward);
-        steps = omega (arith, (first.takes.one refl).steps, (then.takes.one refl).steps);
+        of = e.goes.of;
+        did = did_wait g.W.Words.alone [] x.seen y.seen z.seen inv.did e.goes.did;
+        cached = prefix_trans _ _ _ inv.cached e.goes.cached;
+        caches = e.goes.caches ∙ inv.caches;
+        onward = omega (arith, inv.steps, e.goes.onward);
+        steps = omega (arith, inv.left, e.takes.turns, most);
       };
-      takes = search rules;
-      comm = search rules;
-      round = search rules;
-      are = search rules;
-      some = search rules;
+      takes =
+          takes_on_at c.args.whole (peek_site first) (peek_site r) true true (peeks_left (length group) first) (peeks_left (length group) r)
+          (peeks_after c.step-done.result (length group) c.step-done.new.self) x y z
+          (λ single. let same = inv.turn single in (sym (inv.first single), ap peek_site same, refl)) inv.steps inv.left e.takes;
+      comm = e.comm ∙ inv.comm;
+      round = e.round ∙ inv.round;
+      are = rw (inv.comm, inv.round) at e.are;
+      some = e.some;
+      first = e.first;
       ends = search rules;
-      front = search rules;
-      back = λ done apart has.
-          let here = (c.step.ensures.next c.if-step.false).1 in
-          let still = has_block_stays x.cached y.cached (block_at c.step-2.new.self.comm c.step-2.new.self.round Back) first.goes.cached has in
-          c.step-2.ensures.back here still;
-      kept = search rules;
-      sets = λ are. (rw (first.comm, first.round) at then.sets) (first.sets are);
+      front = λ front back. finds_front x.cached y.cached first r c.step-done.new.self inv.comm inv.round inv.cached front back inv.front e.front e.kept e.comm e.round;
+      onward = λ back. e.onward (inv.onward back);
+      last = e.last;
+      back = λ whole apart has. e.back whole apart (has_block_stays x.cached y.cached (block_at c.step-done.new.self.comm c.step-done.new.self.round Back) inv.cached has);
+      kept = λ back. e.kept (inv.onward back) ∙ inv.kept back;
+      sets = λ are. (rw (inv.comm, inv.round) at e.sets) (inv.sets are);
+    }
+
+pub loop-whole-preserved : goal.loop-whole-preserved
+loop-whole-preserved g c =
+    let inv = c.loop-whole.invariant in
+    let e = c.step-done.ensures in
+    let group = c.args.group.now in
+    let r = c.loop-whole.self in
+    let first = c.args.self.now in
+    let x = g.W.Words.sight c.args.pass.now in
+    let y = g.W.Words.sight c.loop-whole.pass in
+    let z = g.W.Words.sight c.step-done.new.pass in
+    record {
+      of = e.goes.of;
+      did = did_wait g.W.Words.alone [] x.seen y.seen z.seen inv.did e.goes.did;
+      cached = prefix_trans _ _ _ inv.cached e.goes.cached;
+      caches = e.goes.caches ∙ inv.caches;
+      comm = e.comm ∙ inv.comm;
+      round = e.round ∙ inv.round;
+      round_of = rw (e.comm, e.round) (round_stays (g.W.Words.name c.args.words.now).limits y.seen z.seen r.comm r.round group (did_prefix g.W.Words.alone [] y.seen z.seen e.goes.did) inv.round_of);
+      some = e.some c.if-done.false;
+      half = e.first c.if-done.false;
+      are = rw (e.comm, e.round) e.are;
+      front = λ front back. finds_front x.cached y.cached first r c.step-done.new.self inv.comm inv.round inv.cached front back inv.front e.front e.kept e.comm e.round;
+      onward = λ back. e.onward (inv.onward back);
+      kept = λ back. e.kept (inv.onward back) ∙ inv.kept back;
+      sets = λ are. (rw (inv.comm, inv.round) at e.sets) (inv.sets are);
+      first = λ not. absurd (cc (not, c.if-not-whole.false));
+      turn = λ not. absurd (cc (not, c.if-not-whole.false));
+      steps = omega (arith, inv.steps, e.goes.onward);
+      left = let turns = (rw c.if-done.false at e.takes).turns in omega (arith, inv.left, turns);
     }

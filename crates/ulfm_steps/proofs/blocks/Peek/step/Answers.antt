@@ -1,14 +1,17 @@
-use Rattle.std.proofs.Common.{◌≡◌, ◌∙◌, subst, sym, arith, true, is_some, rules}
-use Rattle.ulfm_model.specs.{Blocks.{block_of, has_block}, declared.block.Side.{Side}, declared.block.Side.TheVariants.{Front, Back}}
-use Rattle.ulfm_model.proofs.Blocks.{has_block_stays}
-use Rattle.ulfm_words.proofs.Trails.{did_prefix}
-use Rattle.ulfm_steps.specs.Blocks.{BothTell, MembersTell, block_at}
-use Rattle.ulfm_steps.proofs.{InBlocks.{are_later, few_members, told_of, within_of}, KnownBlocks.{set_back, set_front}, Reading.{round_stays}}
+use Rattle.std.proofs.Common.{◌≡◌, ◌∙◌, subst, sym, ap, refl, arith, true, false, is_some, Some, None, IfSome, if◌then◌else◌}
+use Rattle.ulfm_model.specs.{Blocks.{has_block}, declared.block.Wing.{Wing}}
+use Rattle.ulfm_model.proofs.{Blocks.{has_block_stays}, Lists.{none_of}}
+use Rattle.ulfm_words.specs.{Blocks.{IsBlockIn}, Steps.{over, view_of}, declared.step.Site.{Site}}
+use Rattle.ulfm_steps.specs.{Blocks.{block_at, peek_site}, Turns.{IsStepAt}}
+use Rattle.ulfm_steps.proofs.{InBlocks.{few_members, within_of}, Peeking.{held_on, told_on}}
 use Rattle.ulfm_steps.proofs.blocks.Peek.step.Goals as goal
-use Rattle.ulfm_steps.proofs.blocks.Peek.step.Goals.{After-load_said-said}
 
-pub load_said-said-requires-clause-within : goal.load_said-said-requires-clause-within
-load_said-said-requires-clause-within g c =
+pub load_block_rest-said-requires-clause-within : goal.load_block_rest-said-requires-clause-within
+load_block_rest-said-requires-clause-within g c =
+    within_of g.P.Meld.meld (g.W.Words.name c.args.words.now).limits (g.W.Words.sight c.args.pass.now).seen c.args.self.now.comm c.args.self.now.round c.args.self.now.side c.args.group.now c.requires.of.legal c.requires.of.may_open c.requires.round
+
+pub load_block-requires-clause-within : goal.load_block-requires-clause-within
+load_block-requires-clause-within g c =
     within_of g.P.Meld.meld (g.W.Words.name c.args.words.now).limits (g.W.Words.sight c.args.pass.now).seen c.args.self.now.comm c.args.self.now.round c.args.self.now.side c.args.group.now c.requires.of.legal c.requires.of.may_open c.requires.round
 
 pub overflow_cast-group : goal.overflow_cast-group
@@ -16,77 +19,51 @@ overflow_cast-group g c =
     let few = few_members (g.W.Words.name c.args.words.now).limits (g.W.Words.sight c.args.pass.now).seen c.args.self.now.comm c.args.self.now.round c.args.group.now c.requires.of.may_open c.requires.round in
     omega (arith, few)
 
--- what the block says, whichever it is
-told : (g : _) (c : After-load_said-said g) (side : Side) → c.args.self.now.side ≡ side
-    → MembersTell g.P.Meld.meld (g.W.Words.sight c.load_said-said.new.pass).seen c.args.self.now.comm c.args.self.now.round (block_of side c.args.group.now) c.load_said-said.result
-told g c side is =
-    let limits = (g.W.Words.name c.args.words.now).limits in
-    let old = (g.W.Words.sight c.args.pass.now).seen in
-    let new = (g.W.Words.sight c.load_said-said.new.pass).seen in
+pub overflow_cast-group-in_default-load_block : goal.overflow_cast-group-in_default-load_block
+overflow_cast-group-in_default-load_block g c =
+    let few = few_members (g.W.Words.name c.args.words.now).limits (g.W.Words.sight c.args.pass.now).seen c.args.self.now.comm c.args.self.now.round c.args.group.now c.requires.of.may_open c.requires.round in
+    omega (arith, few)
+
+pub returns-in-Some : goal.returns-in-Some
+returns-in-Some g c =
     let r = c.args.self.now in
-    let round = round_stays limits old new r.comm r.round c.args.group.now (did_prefix g.W.Words.alone _ old new c.load_said-said.ensures.peeks.did) c.requires.round in
-    subst (λ s. MembersTell g.P.Meld.meld new r.comm r.round (block_of s c.args.group.now) c.load_said-said.result) is
-    (told_of g.P.Meld.meld limits new r.comm r.round r.side c.args.group.now c.load_said-said.result round c.load_said-said.ensures.said)
+    let b = block_at r.comm r.round r.side in
+    let old = g.W.Words.sight c.args.pass.now in
+    let new = g.W.Words.sight c.load_block_rest-said.new.pass in
+    let said = c.load_block_rest-said.ensures in
+    let l = said.loads.1 in
+    let site : peek_site r ≡ Site.Wing (Wing.Block b) = ap (λ f. if is_some f then Site.Wing (Wing.Block b) else Site.Block b) c.in-Some.is in
+    let held = subst (λ o. IfSome o (λ w. IsBlockIn g.P.Meld.meld g.P.Packed.pack (view_of g.P.Packed.pack (g.W.Words.name c.args.words.now) old) b w × (has_block old.cached b ≡ true))) c.in-Some.is c.requires.first in
+    rw (c.tells.ensures.done, c.tells.ensures.told)
+    (told_on g.P.Meld.meld g.W.Words.alone c.args.group.now (over g.P.Packed.pack (g.W.Words.name c.args.words.now)) r old new c.requires
+    (record { of = l.of; did = l.did; cached = l.cached; caches = l.caches; onward = omega (arith, l.steps); steps = omega (arith, l.steps) })
+    (subst (λ s. IsStepAt s true old new) (sym site) (record { steps = l.steps; word = said.loads.0; last = l.last }))
+    (Some c.load_block_rest-said.result) said.said (λ _. refl) (λ _. has_block_stays old.cached new.cached b l.cached held.1))
 
--- .. and what was known before is known
-later : (g : _) (c : After-load_said-said g) → BothTell g.P.Meld.meld (g.W.Words.sight c.load_said-said.new.pass).seen c.args.self.now.comm c.args.self.now.round c.args.group.now c.args.self.now.blocks
-later g c =
-    let old = (g.W.Words.sight c.args.pass.now).seen in
-    let new = (g.W.Words.sight c.load_said-said.new.pass).seen in
-    are_later g.P.Meld.meld old new c.args.self.now.comm c.args.self.now.round c.args.group.now c.args.self.now.blocks (did_prefix g.W.Words.alone _ old new c.load_said-said.ensures.peeks.did) c.requires.are
-
--- a block that was set is found set
-finds : (g : _) (c : After-load_said-said g) (side : Side) → c.args.self.now.side ≡ side → has_block (g.W.Words.sight c.args.pass.now).cached (block_at c.args.self.now.comm c.args.self.now.round side) ≡ true → is_some c.load_said-said.result ≡ true
-finds g c side is has =
-    let e = c.load_said-said.ensures.peeks in
+pub returns-in_default-load_block : goal.returns-in_default-load_block
+returns-in_default-load_block g c =
     let r = c.args.self.now in
-    let new = (g.W.Words.sight c.load_said-said.new.pass).cached in
-    let still = has_block_stays (g.W.Words.sight c.args.pass.now).cached new (block_at r.comm r.round side) e.cached has in
-    sym e.known ∙ subst (λ s. has_block new (block_at r.comm r.round s) ≡ true) (sym is) still
+    let b = block_at r.comm r.round r.side in
+    let old = g.W.Words.sight c.args.pass.now in
+    let new = g.W.Words.sight c.load_block.new.pass in
+    let l = c.load_block.ensures.peeks in
+    let site : peek_site r ≡ Site.Block b = ap (λ f. if is_some f then Site.Wing (Wing.Block b) else Site.Block b) c.in_default.is in
+    rw (c.tells-in_default-load_block.ensures.done, c.tells-in_default-load_block.ensures.told)
+    (told_on g.P.Meld.meld g.W.Words.alone c.args.group.now (over g.P.Packed.pack (g.W.Words.name c.args.words.now)) r old new c.requires
+    (record { of = l.of; did = l.did; cached = l.cached; caches = l.caches; onward = omega (arith, l.steps); steps = omega (arith, l.steps) })
+    (subst (λ s. IsStepAt s true old new) (sym site) (record { steps = l.steps; word = l.word; last = l.last }))
+    None tt (λ has. sym (ap is_some c.in_default-load_block.is) ∙ (sym l.known ∙ has_block_stays old.cached new.cached b l.cached has)) (λ some. absurd (cc some)))
 
--- a block that was found set is known to be
-known : (g : _) (c : After-load_said-said g) (side : Side) → c.args.self.now.side ≡ side → is_some c.load_said-said.result ≡ true → has_block (g.W.Words.sight c.load_said-said.new.pass).cached (block_at c.args.self.now.comm c.args.self.now.round side) ≡ true
-known g c side is some =
+pub returns : goal.returns
+returns g c =
     let r = c.args.self.now in
-    subst (λ s. has_block (g.W.Words.sight c.load_said-said.new.pass).cached (block_at r.comm r.round s) ≡ true) is (c.load_said-said.ensures.peeks.known ∙ some)
-
-pub returns-in-Front-clause-peeks : goal.returns-in-Front-clause-peeks
-returns-in-Front-clause-peeks g c =
-    let at = (goal.at.returns-in-Front-clause-peeks g c).After-load_said-said in
-    record {
-      goes = search rules;
-      takes = search rules;
-      comm = search rules;
-      round = search rules;
-      are = record { front = told g at Front c.in-Front.is; back = (later g at).back };
-      some = search rules;
-      ends = search rules;
-      front = finds g at Front;
-      back = search rules;
-      kept = search rules;
-      sets = λ are.
-          let r = c.args.self.now in
-          set_front (g.W.Words.sight c.args.pass.now).cached (g.W.Words.sight c.load_said-said.new.pass).cached r.comm r.round r.blocks c.load_said-said.ensures.peeks.cached are c.load_said-said.result (known g at Front c.in-Front.is);
-    }
-
-pub returns-in-Back-clause-peeks : goal.returns-in-Back-clause-peeks
-returns-in-Back-clause-peeks g c =
-    let at = (goal.at.returns-in-Back-clause-peeks g c).After-load_said-said in
-    record {
-      goes = search rules;
-      takes = search rules;
-      comm = search rules;
-      round = search rules;
-      are = record { front = (later g at).front; back = told g at Back c.in-Back.is };
-      some = search rules;
-      ends = search rules;
-      front = search rules;
-      back = λ _ _. finds g at Back c.in-Back.is;
-      kept = search rules;
-      sets = λ are.
-          let r = c.args.self.now in
-          set_back (g.W.Words.sight c.args.pass.now).cached (g.W.Words.sight c.load_said-said.new.pass).cached r.comm r.round r.blocks c.load_said-said.ensures.peeks.cached are c.load_said-said.result (known g at Back c.in-Back.is);
-    }
-
-pub returns-in-Back-clause-back : goal.returns-in-Back-clause-back
-returns-in-Back-clause-back g c side has = finds g (goal.at.returns-in-Back-clause-back g c).After-load_said-said Back side has
+    let b = block_at r.comm r.round r.side in
+    let old = g.W.Words.sight c.args.pass.now in
+    let new = g.W.Words.sight c.load_block.new.pass in
+    let l = c.load_block.ensures.peeks in
+    let none : r.first ≡ None = c.in_default.is in
+    let site : peek_site r ≡ Site.Block b = ap (λ f. if is_some f then Site.Wing (Wing.Block b) else Site.Block b) none in
+    held_on g.P.Meld.meld g.W.Words.alone c.args.group.now (over g.P.Packed.pack (g.W.Words.name c.args.words.now)) r old new c.requires
+    (record { of = l.of; did = l.did; cached = l.cached; caches = l.caches; onward = omega (arith, l.steps); steps = omega (arith, l.steps) })
+    (subst (λ s. IsStepAt s true old new) (sym site) (record { steps = l.steps; word = l.word; last = l.last }))
+    c.in-Some-load_block.word none c.in-Some-load_block.ensures.first (l.known ∙ ap is_some c.in-Some-load_block.is)

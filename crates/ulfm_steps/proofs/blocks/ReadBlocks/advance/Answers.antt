@@ -1,6 +1,6 @@
 use Rattle.std.proofs.Common.{◌≡◌, None, [], length, refl, ap, sym, ◌∙◌, arith, nat_lt, rules}
 use Rattle.ulfm_model.proofs.Lists.{none_of, prefix_trans}
-use Rattle.ulfm_words.proofs.Trails.{did_prefix, did_wait}
+use Rattle.ulfm_words.proofs.{Trails.{did_prefix, did_wait}, Tried.{tries_then}}
 use Rattle.ulfm_steps.specs.Blocks.{blocks_left, site_of}
 use Rattle.ulfm_steps.specs.Turns.{left_without}
 use Rattle.ulfm_steps.proofs.{InBlocks.{blocks_most}, Reading.{round_stays}, Turning.{takes_on_at}}
@@ -20,7 +20,7 @@ returns-then-not-whole g c =
         of = e.goes.of;
         did = did_wait g.W.Words.alone [] (g.W.Words.sight c.args.pass.now).seen (g.W.Words.sight c.loop-found.pass).seen (g.W.Words.sight c.step-found.new.pass).seen inv.did e.goes.did;
         cached = prefix_trans _ _ _ inv.cached e.goes.cached;
-        caches = refl;
+        caches = tries_then _ _ _ inv.caches e.goes.caches;
         onward = omega (arith, inv.onward, e.goes.onward);
         steps = omega (arith, inv.steps, e.takes.turns, most);
       };
@@ -31,6 +31,7 @@ returns-then-not-whole g c =
       comm = e.comm ∙ inv.comm;
       round = e.round ∙ inv.round;
       tells = e.tells;
+      half = e.half;
       sets = λ are. e.sets (inv.sets are);
       ends = search rules;
     }
@@ -49,10 +50,12 @@ loop-found-preserved g c =
       of = e.goes.of;
       did = did_wait g.W.Words.alone [] first now after inv.did e.goes.did;
       cached = prefix_trans _ _ _ inv.cached e.goes.cached;
+      caches = tries_then _ _ _ inv.caches e.goes.caches;
       comm = e.comm ∙ inv.comm;
       round = e.round ∙ inv.round;
       round_of = rw (e.comm, e.round) (round_stays (g.W.Words.name c.args.words.now).limits now after c.loop-found.self.comm c.loop-found.self.round c.args.group.now (did_prefix g.W.Words.alone [] now after e.goes.did) inv.round_of);
       at = tells;
+      half = e.half going;
       sets = λ are. (rw going at e.sets) (inv.sets are);
       first = λ not. absurd (cc (not, c.if-not-whole.false));
       turn = λ not. absurd (cc (not, c.if-not-whole.false));

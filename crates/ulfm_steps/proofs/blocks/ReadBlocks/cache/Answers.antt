@@ -1,10 +1,11 @@
-use Rattle.std.proofs.Common.{◌≡◌, ℕ, ◌+◌, ◌-◌, ◌≤◌, ◌∙◌, refl, length, ap, subst, sym, arith, false, true, is_some, nat_lt}
+use Rattle.std.proofs.Common.{◌≡◌, None, ℕ, ◌+◌, ◌-◌, ◌≤◌, ◌∙◌, refl, length, ap, subst, sym, arith, false, true, is_some, nat_lt}
+use Rattle.ulfm_model.specs.Blocks.{block_word}
 use Rattle.ulfm_model.proofs.Summed.{summed_none}
-use Rattle.ulfm_words.specs.Steps.{view_of, Goes}
-use Rattle.ulfm_words.proofs.Trails.{did_prefix}
+use Rattle.ulfm_words.specs.Steps.{over, view_of, Goes}
+use Rattle.ulfm_words.proofs.{Trails.{did_prefix}, Tried.{tries_one}}
 use Rattle.ulfm_steps.specs.Blocks.{reads_most}
 use Rattle.ulfm_steps.specs.{Blocks.{BothTell, AreSet, MembersTell, blocks_left, is_whole, site_of}, Turns.{TakesAt}}
-use Rattle.ulfm_steps.proofs.InBlocks.{apart_lt, are_with, few_members, is_block, known_with, next_by, next_cost, takes_cache, within_of}
+use Rattle.ulfm_steps.proofs.InBlocks.{apart_lt, are_with, few_members, is_written, nothing_held, known_with, next_by, next_cost, takes_cache, within_of}
 use Rattle.ulfm_steps.proofs.KnownBlocks.{all_known, set_known}
 use Rattle.ulfm_steps.proofs.blocks.ReadBlocks.cache.Goals as goal
 use Rattle.ulfm_steps.proofs.blocks.ReadBlocks.cache.Goals.{Joined-self, in-Front, in-Back}
@@ -16,12 +17,16 @@ cache-requires-clause-within g c =
 pub cache-requires-clause-may : goal.cache-requires-clause-may
 cache-requires-clause-may g c =
     let r = c.args.self.now in
-    is_block g.P.Meld.meld g.P.Packed.pack (g.W.Words.name c.args.words.now).limits (g.W.Words.sight c.args.pass.now).seen r.comm r.round r.side c.args.group.now r.read c.block_word.result r.all c.requires.may.round c.requires.may.at.side c.requires.all c.requires.may.at.read c.block_word.ensures
+    is_written g.P.Meld.meld (block_word g.P.Packed.pack) (g.W.Words.name c.args.words.now).limits (g.W.Words.sight c.args.pass.now).seen r.comm r.round r.side c.args.group.now r.read c.block_word.result r.all c.requires.may.round c.requires.may.at.side c.requires.all c.requires.may.at.read c.block_word.ensures
 
 pub overflow_cast-members : goal.overflow_cast-members
 overflow_cast-members g c =
     let few = few_members (g.W.Words.name c.args.words.now).limits (g.W.Words.sight c.args.pass.now).seen c.args.self.now.comm c.args.self.now.round c.args.group.now c.requires.may.of.may_open c.requires.may.round in
     omega (arith, few)
+
+-- nothing is held of a member
+none_held : (g : _) (c : Joined-self g) → c.args.self.now.first ≡ None
+none_held g c = nothing_held (view_of g.P.Packed.pack (g.W.Words.name c.args.words.now) (g.W.Words.sight c.args.pass.now)) c.args.group.now c.args.self.now c.requires.may.half (omega (arith, c.requires.all))
 
 -- what is known after it
 blocks_are : (g : _) (c : Joined-self g) → c.match-self.self ≡ record c.args.self.now { blocks = known_with c.args.self.now.blocks c.args.self.now.side c.args.self.now.all }
@@ -39,15 +44,15 @@ known g c =
     are_with g.P.Meld.meld old new c.args.group.now c.args.self.now (did_prefix g.W.Words.alone _ old new c.cache.ensures.did) c.requires.may.at c.requires.all
 
 -- it is one step, which makes no event
-went : (g : _) (c : Joined-self g) → Goes g.P.Meld.meld g.W.Words.alone true (reads_most (length c.args.group.now)) (view_of (g.W.Words.name c.args.words.now) (g.W.Words.sight c.args.pass.now)) (view_of (g.W.Words.name c.args.words.now) (g.W.Words.sight c.cache.new.pass))
-went g c = let e = c.cache.ensures in record { of = e.of; did = e.did; cached = e.cached; caches = refl; onward = omega (arith, e.steps); steps = omega (arith, e.steps) }
+went : (g : _) (c : Joined-self g) → Goes g.P.Meld.meld g.W.Words.alone true (reads_most (length c.args.group.now)) (view_of g.P.Packed.pack (g.W.Words.name c.args.words.now) (g.W.Words.sight c.args.pass.now)) (view_of g.P.Packed.pack (g.W.Words.name c.args.words.now) (g.W.Words.sight c.cache.new.pass))
+went g c = let e = c.cache.ensures in record { of = e.of; did = e.did; cached = e.cached; caches = tries_one _ _ _ e.caches tt; onward = omega (arith, e.steps); steps = omega (arith, e.steps) }
 
 took : (g : _) (c : Joined-self g) (after : ℕ) → after + 1 ≤ blocks_left (length c.args.group.now) c.args.self.now
     → TakesAt false (site_of c.args.group.now c.args.self.now) (nat_lt c.args.self.now.read c.args.self.now.width) (blocks_left (length c.args.group.now) c.args.self.now) after (g.W.Words.sight c.args.pass.now) (g.W.Words.sight c.cache.new.pass)
 took g c after fewer =
     let r = c.args.self.now in
-    takes_cache g.P.Meld.meld g.W.Words.alone (g.W.Words.name c.args.words.now) c.args.group.now r _ (blocks_left (length c.args.group.now) r) after (g.W.Words.sight c.args.pass.now) _ (g.W.Words.sight c.cache.new.pass)
-    (omega (arith, c.requires.all, c.requires.may.at.wide)) fewer c.cache.ensures
+    takes_cache c.args.group.now r (blocks_left (length c.args.group.now) r) after (g.W.Words.sight c.args.pass.now) (g.W.Words.sight c.cache.new.pass) g.P.Meld.meld g.W.Words.alone (over g.P.Packed.pack (g.W.Words.name c.args.words.now)) _ _
+    (omega (arith, c.requires.all, c.requires.may.at.wide)) c.requires.winged fewer c.cache.ensures
 
 -- it was put into its block, or stood there
 known_set : (g : _) (c : Joined-self g) → AreSet (g.W.Words.sight c.args.pass.now).cached c.args.self.now.comm c.args.self.now.round c.args.self.now.blocks
@@ -67,10 +72,11 @@ returns-in-Some g c =
     let tells = c.all.ensures.tells new r.comm r.round group refl (rw is (known g at)) in
     record {
       goes = went g at;
-      takes = took g at 0 (omega arith);
+      takes = took g at 0 (rw (c.requires.winged, none_held g at) (omega arith));
       comm = ap (λ x. x.comm) is;
       round = ap (λ x. x.round) is;
       tells = rw is (subst (MembersTell meld new r.comm r.round group) c.in-Some.is tells);
+      half = λ no. absurd (cc no);
       sets = λ are.
           let whole : is_whole (known_with r.blocks r.side r.all) (length group) ≡ true = subst (λ b. is_whole b (length group) ≡ true) (ap (λ x. x.blocks) is) (sym c.all.ensures.whole ∙ ap is_some c.in-Some.is) in
           rw is (all_known (g.W.Words.sight c.cache.new.pass).cached r.comm r.round group (known_with r.blocks r.side r.all) (known_set g at are) whole);
@@ -90,7 +96,7 @@ returns g c =
     let behind = next_cost r.side r.blocks r.all (length group) c.requires.may.at.front whole in
     record {
       goes = went g at;
-      takes = took g at _ (omega (arith, behind));
+      takes = took g at _ (rw (c.requires.winged, none_held g at) (omega (arith, behind, c.requires.all)));
       comm = ap (λ x. x.comm) is;
       round = ap (λ x. x.round) is;
       tells = rw (is, c.unit-self.ensures) (record {
@@ -103,6 +109,7 @@ returns g c =
         within = omega arith;
         read = summed_none meld new r.comm r.round;
       });
+      half = λ _. rw (is, c.unit-self.ensures) (rw (none_held g at) (record { first = tt; more = λ some. absurd (cc some); winged = λ set. absurd (cc set) }));
       sets = λ are. rw is (known_set g at are);
       ends = λ no. absurd (cc no);
     }

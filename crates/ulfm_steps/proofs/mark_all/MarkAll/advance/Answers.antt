@@ -1,6 +1,6 @@
 use Rattle.std.proofs.Common.{◌≡◌, false, refl, ◌∙◌, arith}
 use Rattle.ulfm_words.proofs.Trails.{did_prefix}
-use Rattle.ulfm_words.specs.Steps.{view_of}
+use Rattle.ulfm_words.specs.Steps.{over, view_of}
 use Rattle.ulfm_model.specs.declared.place.Place.TheVariants.{Slot as SlotAt}
 use Rattle.std.specs.List.{slice_index}
 use Rattle.ulfm_steps.specs.{Marks.{HasMarked}, Turns.{IsOneStep}}
@@ -22,15 +22,15 @@ loop-self-init g c =
       first = λ _. refl;
       none = λ _. refl;
       same = λ _. (refl, refl);
-      marked = marked_none g.P.Meld.meld g.W.Words.alone (g.W.Words.name c.args.words.now) c.args.self.now c.args.group.now c.args.declared.now (g.W.Words.sight c.args.pass.now) c.requires.of;
+      marked = marked_none g.P.Meld.meld g.W.Words.alone (over g.P.Packed.pack (g.W.Words.name c.args.words.now)) c.args.self.now c.args.group.now c.args.declared.now (g.W.Words.sight c.args.pass.now) c.requires.of;
     }
 
 -- one more was marked
-marked : (g : _) (c : After-step g) → HasMarked g.P.Meld.meld g.W.Words.alone c.args.self.now (among c.args.group.now c.args.declared.now) c.step.new.self.next (view_of (g.W.Words.name c.args.words.now) (g.W.Words.sight c.args.pass.now)) (view_of (g.W.Words.name c.args.words.now) (g.W.Words.sight c.step.new.pass))
+marked : (g : _) (c : After-step g) → HasMarked g.P.Meld.meld g.W.Words.alone c.args.self.now (among c.args.group.now c.args.declared.now) c.step.new.self.next (view_of g.P.Packed.pack (g.W.Words.name c.args.words.now) (g.W.Words.sight c.args.pass.now)) (view_of g.P.Packed.pack (g.W.Words.name c.args.words.now) (g.W.Words.sight c.step.new.pass))
 marked g c =
     let inv = c.loop-self.invariant in
     let e = c.step.ensures in
-    marked_push g.P.Meld.meld g.W.Words.alone (g.W.Words.name c.args.words.now) c.args.self.now c.loop-self.self c.step.new.self c.args.group.now c.args.declared.now (g.W.Words.sight c.args.pass.now) (g.W.Words.sight c.loop-self.pass) (g.W.Words.sight c.step.new.pass)
+    marked_push g.P.Meld.meld g.W.Words.alone (over g.P.Packed.pack (g.W.Words.name c.args.words.now)) c.args.self.now c.loop-self.self c.step.new.self c.args.group.now c.args.declared.now (g.W.Words.sight c.args.pass.now) (g.W.Words.sight c.loop-self.pass) (g.W.Words.sight c.step.new.pass)
     inv.rank inv.comm inv.round inv.may.begins c.loop-self-test.true e.further inv.marked e.marks
 
 pub loop-self-preserved : goal.loop-self-preserved
@@ -76,7 +76,7 @@ returns-then-not-whole-clause-takes g c =
       one = first g at;
       some = omega (arith, inv.marked.marks.onward, c.step.ensures.takes.some);
       turns =
-          marks_turn g.P.Meld.meld g.W.Words.alone (g.W.Words.name c.args.words.now) c.args.self.now c.args.group.now c.args.declared.now c.step.new.self.next (g.W.Words.sight c.args.pass.now) (g.W.Words.sight c.step.new.pass) (marked g at);
+          marks_turn g.P.Meld.meld g.W.Words.alone (over g.P.Packed.pack (g.W.Words.name c.args.words.now)) c.args.self.now c.args.group.now c.args.declared.now c.step.new.self.next (g.W.Words.sight c.args.pass.now) (g.W.Words.sight c.step.new.pass) (marked g at);
     }
 
 pub returns-clause-takes : goal.returns-clause-takes
@@ -86,5 +86,5 @@ returns-clause-takes g c =
       one = λ not. absurd (omega (arith, c.requires.more, c.loop-self-test.false, inv.first not));
       some = inv.more (omega (arith, c.requires.more, c.loop-self-test.false));
       turns =
-          marks_turn g.P.Meld.meld g.W.Words.alone (g.W.Words.name c.args.words.now) c.args.self.now c.args.group.now c.args.declared.now c.loop-self.self.next (g.W.Words.sight c.args.pass.now) (g.W.Words.sight c.loop-self.pass) inv.marked;
+          marks_turn g.P.Meld.meld g.W.Words.alone (over g.P.Packed.pack (g.W.Words.name c.args.words.now)) c.args.self.now c.args.group.now c.args.declared.now c.loop-self.self.next (g.W.Words.sight c.args.pass.now) (g.W.Words.sight c.loop-self.pass) inv.marked;
     }

@@ -16,7 +16,7 @@ invariant-loop-self g l = record {
   first : l.whole ≡ false → l.self.next ≡ l.initial.self.next;
   none : l.whole ≡ false → (g.W.Words.sight l.pass).steps ≡ (g.W.Words.sight l.initial.pass).steps;
   same : l.whole ≡ false → (l.self ≡ l.initial.self) × (g.W.Words.sight l.pass ≡ g.W.Words.sight l.initial.pass);
-  marked : HasMarked g.P.Meld.meld g.W.Words.alone l.initial.self (among l.group l.declared) l.self.next (view_of (g.W.Words.name l.words) (g.W.Words.sight l.initial.pass)) (view_of (g.W.Words.name l.words) (g.W.Words.sight l.pass));
+  marked : HasMarked g.P.Meld.meld g.W.Words.alone l.initial.self (among l.group l.declared) l.self.next (view_of g.P.Packed.pack (g.W.Words.name l.words) (g.W.Words.sight l.initial.pass)) (view_of g.P.Packed.pack (g.W.Words.name l.words) (g.W.Words.sight l.pass));
 }
 
 abbrev pub decreases-loop-self : goal.decreases-loop-self

@@ -1,4 +1,5 @@
 use Rattle.std.proofs.Common.{◌≡◌, ◌+◌, length, ap, ◌∙◌, arith}
+use Rattle.ulfm_words.specs.Steps.{over}
 use Rattle.std.specs.List.{slice_index}
 use Rattle.ulfm_model.specs.declared.contribution.MarkCount.{MarkCount}
 use Rattle.ulfm_steps.specs.Marks.{members_in}
@@ -49,7 +50,7 @@ returns-clause-at g c =
 
 pub returns-clause-marks : goal.returns-clause-marks
 returns-clause-marks g c =
-    marks_try g.W.Words.alone c.args.self.now.rank c.args.self.now.comm c.args.self.now.round g.P.Meld.meld g.P.Packed.pack (g.W.Words.name c.args.words.now) (slice_index c.args.declared.now c.args.self.now.next) _ c.put_slot.result (g.W.Words.sight c.args.pass.now) (g.W.Words.sight c.put_slot.new.pass)
+    marks_try g.W.Words.alone c.args.self.now.rank c.args.self.now.comm c.args.self.now.round g.P.Meld.meld g.P.Packed.pack (over g.P.Packed.pack (g.W.Words.name c.args.words.now)) (slice_index c.args.declared.now c.args.self.now.next) _ c.put_slot.result (g.W.Words.sight c.args.pass.now) (g.W.Words.sight c.put_slot.new.pass)
     c.put_slot.ensures.tries c.put_slot.ensures.stands
 
 pub next_member-self-requires-clause-rises : goal.next_member-self-requires-clause-rises
@@ -62,5 +63,5 @@ returns-clause-once g c =
 
 pub returns-clause-takes : goal.returns-clause-takes
 returns-clause-takes g c =
-    takes_exchange g.P.Meld.meld g.P.Packed.pack g.W.Words.alone (g.W.Words.name c.args.words.now) _ (g.W.Words.sight c.args.pass.now) (g.W.Words.sight c.put_slot.new.pass) _ c.put_slot.result _ _ c.put_slot.ensures.tries
+    takes_exchange g.P.Meld.meld g.P.Packed.pack g.W.Words.alone (over g.P.Packed.pack (g.W.Words.name c.args.words.now)) _ (g.W.Words.sight c.args.pass.now) (g.W.Words.sight c.put_slot.new.pass) _ c.put_slot.result _ _ c.put_slot.ensures.tries
     (marks_fall c.args.group.now c.args.declared.now c.args.self.now.next c.next_member-self.result c.requires.more (c.requires.at.member c.requires.more) c.next_member-self.ensures.none_between)

@@ -1,4 +1,5 @@
 use Rattle.std.proofs.Common.{◌≡◌, ◌<◌, ◌+◌, ◌-◌, cond, [], ◌∷◌, ◌++◌, length, slice_get, refl, ap, sym, ◌∙◌, arith, rules, length-append}
+use Rattle.ulfm_words.specs.Steps.{over}
 use mathlib.Core.List.{IsPrefix}
 use Rattle.ulfm_model.specs.History.{failures, has}
 use Rattle.ulfm_model.specs.declared.place.Place.TheVariants.{List as ListAt}
@@ -80,6 +81,6 @@ returns-clause-takes g c =
     let left = room_left g all.After-len in
     let size : c.len.result ≡ length c.args.seen.now.items = omega (arith, c.len.ensures, c.args.seen.now.ok.0) in
     let longer = ap length (pushed g all.After-push) ∙ length-append c.args.seen.now.items (c.in-Some.rank ∷ []) in
-    takes_load g.P.Meld.meld g.P.Packed.pack g.W.Words.alone (g.W.Words.name c.args.words.now) (ListAt c.len.result) (g.W.Words.sight c.args.pass.now) (g.W.Words.sight c.load_failure.new.pass)
+    takes_load g.P.Meld.meld g.P.Packed.pack g.W.Words.alone (over g.P.Packed.pack (g.W.Words.name c.args.words.now)) (ListAt c.len.result) (g.W.Words.sight c.args.pass.now) (g.W.Words.sight c.load_failure.new.pass)
     (ListAt (length c.args.seen.now.items)) (limits.ranks - length c.args.seen.now.items) (limits.ranks - length c.push.new.self.items) c.load_failure.ensures.loads (ap (λ i. ListAt i) size)
     (omega (arith, left, size, longer))

@@ -6,11 +6,11 @@ use Rattle.ulfm_wait.proofs.future.AgreeFutureFuture.poll.Goals as goal
 
 -- what holds after a pending turn
 after : (g : Over) (c : goal.After-yield_now-then-is_pending g)
-    → IsPending g.P.Meld.meld g.W.Words.alone c.self.inside.comm c.self.inside.value c.args.self.now
+    → IsPending g.P.Meld.meld g.P.Packed.pack g.W.Words.alone c.self.inside.comm c.self.inside.value c.args.self.now
     (member_of c.self.inside.world.now c.step-reply.new.rank (g.W.Words.sight c.step-reply.new.pass))
 after g c =
     let name = c.self.inside.world.now in
-    opened_pends g.P.Meld.meld g.W.Words.alone c.self.inside.comm c.self.inside.value c.self.inside.held
+    opened_pends g.P.Meld.meld g.P.Packed.pack g.W.Words.alone c.self.inside.comm c.self.inside.value c.self.inside.held
     (λ s. member_of name s.1 (g.W.Words.sight s.0)) (c.in-Some.pass, c.in-Some.rank) c.self.inside.started c.args.self.now
     (member_of name c.step-reply.new.rank (g.W.Words.sight c.step-reply.new.pass)) c.step-reply.result c.self.view_is c.self.invariant
     (sym c.take.ensures.value ∙ c.in-Some.is) (c.is_pending.ensures.yes c.if-is_pending.true) c.step-reply.ensures
@@ -29,7 +29,7 @@ returns-then-is_pending-clause-same g c =
 pub returns-clause-value : goal.returns-clause-value
 returns-clause-value g c =
     let name = c.self.inside.world.now in
-    (opened_ends g.P.Meld.meld g.W.Words.alone c.self.inside.comm c.self.inside.value c.self.inside.held
+    (opened_ends g.P.Meld.meld g.P.Packed.pack g.W.Words.alone c.self.inside.comm c.self.inside.value c.self.inside.held
     (λ s. member_of name s.1 (g.W.Words.sight s.0)) (c.in-Some.pass, c.in-Some.rank) c.self.inside.started c.args.self.now
     c.step-reply.result c.step-reply.new.rank (g.W.Words.sight c.step-reply.new.pass) c.self.view_is
     (sym c.take.ensures.value ∙ c.in-Some.is) (c.is_pending.ensures.no c.if-is_pending.false) c.step-reply.ensures).gives

@@ -1,6 +1,6 @@
 use Rattle.std.proofs.Common.{true, vec_capacity, ap, ◌∙◌}
 use Rattle.ulfm_words.specs.Pass.{cached_by, entries}
-use Rattle.ulfm_words.proofs.{Growing.{prefix_self}, Standing.{cached_place, stood_later}, Telling.{loads_from}}
+use Rattle.ulfm_words.proofs.{Caching.{knows_as}, Standing.{cached_place}, Telling.{loads_from}, Tried.{tried_same}}
 use Rattle.ulfm_words.proofs.plain.PlainPass.load.Goals as goal
 
 pub returns-clause-loads : goal.returns-clause-loads
@@ -20,6 +20,8 @@ returns-clause-word g c =
 pub invariant_of-self : goal.invariant_of-self
 invariant_of-self g c = (
   c.self.invariant.0,
-  stood_later g.P.Meld.meld g.P.Packed.pack c.self.inside.row.limits (entries g.P.Packed.unpack c.self.inside.row.limits c.self.inside.row.words c.self.inside.journal.items) (entries g.P.Packed.unpack c.self.inside.row.limits c.self.inside.row.words c.self.inside.journal.items)
-      c.self.inside.blocks.items c.self.inside.trail.log.items c.and-self-inside.result.log.items (prefix_self _) (ap cached_by c.and-self-inside.ensures ∙ cached_place c.self.inside.trail.log.items c.args.place c.get-word.result true) c.self.invariant.1,
+  c.self.invariant.1,
+  knows_as g.P.Meld.meld g.P.Packed.pack (entries g.P.Packed.unpack c.self.inside.row.limits c.self.inside.row.words c.self.inside.journal.items) c.self.inside.sides c.self.inside.trail.log.items c.and-self-inside.result.log.items
+      (ap cached_by c.and-self-inside.ensures ∙ cached_place c.self.inside.trail.log.items c.args.place c.get-word.result true) c.self.invariant.2,
+  tried_same c.self.inside.sides c.self.inside.trail.log.items c.and-self-inside.result.log.items _ c.and-self-inside.ensures c.self.invariant.3,
 )

@@ -31,8 +31,8 @@ returns g c =
     let found = setting_found c.deref.result.now js c.args.i m c.deref.ensures.value e.3.0 e.1 in
     let made = made-get unpack limits ws js c.args.i m inv.made found in
     let word : c.get-word.result ≡ slice_index ws (key_in limits m.place) = c.get-word.ensures in
-    let step : Step = record { place = m.place; word = c.get-word.result; by = m.by } in
-    let is : entry_of unpack step ≡ Some made.entry = ap (λ n. entry_of unpack (record { place = m.place; word = n; by = m.by })) word ∙ made.is_entry in
+    let step : Step = record { place = m.place; word = c.get-word.result; half = m.half; by = m.by } in
+    let is : entry_of unpack step ≡ Some made.entry = ap (λ n. entry_of unpack (record { place = m.place; word = n; half = m.half; by = m.by })) word ∙ made.is_entry in
     rw (← c.self.view_is)
     (nth_step g.P.Meld.meld g.P.Packed.pack unpack limits (entries unpack limits ws js) inv.legal c.args.i step made.entry (entries-get unpack limits ws js c.args.i m inv.made found ∙ made.is_entry) is
     (λ zero. made.set (sym word ∙ zero)) (sym (inv.same m.place made.within) ∙ sym word))

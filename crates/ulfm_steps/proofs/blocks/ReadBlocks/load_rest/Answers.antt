@@ -1,0 +1,91 @@
+use Rattle.std.proofs.Common.{◌≡◌, ℕ, ◌+◌, ◌≤◌, false, true, slice_index_or, nat_lt, is_some, refl, ap, sym, subst, arith, rules, Some, None, IfSome}
+use Rattle.std.specs.Prelude.{length}
+use Rattle.ulfm_model.specs.{Laws.{summary_of}, History.{slot}, declared.{block.Side.{Side}, block.Wing.{Wing}, contribution.Slot.{Slot}, place.Place.TheVariants.{Slot as SlotAt}}}
+use Rattle.ulfm_words.specs.{Blocks.{IsFirstOf}, Steps.{over, view_of, Goes}, declared.step.Site.{Site}}
+use Rattle.ulfm_words.proofs.{Trails.{did_prefix}, Tried.{tries_none}}
+use Rattle.ulfm_steps.specs.{Blocks.{block_at, blocks_left, next_in_block, reads_most, site_of}, Turns.{TakesAt}}
+use Rattle.ulfm_steps.proofs.{InBlocks.{are_later, at_block_later, few_members, rank_is, rank_within, takes_member, takes_member_wing}, KnownBlocks.{set_later, spread_later}, OneMore.{one_more}, Reading.{has_at, member_within, missing_at}, Turning.{takes_load}}
+use Rattle.ulfm_steps.proofs.blocks.ReadBlocks.load_rest.Goals as goal
+use Rattle.ulfm_steps.proofs.blocks.ReadBlocks.load_rest.Goals.{After-load_rest-said}
+
+pub overflow_add-rank : goal.overflow_add-rank
+overflow_add-rank g c =
+    let lt = rank_within g.P.Meld.meld (g.W.Words.sight c.args.pass.now).seen c.args.group.now c.args.self.now c.requires.may.at c.requires.more in
+    let most = few_members (g.W.Words.name c.args.words.now).limits (g.W.Words.sight c.args.pass.now).seen c.args.self.now.comm c.args.self.now.round c.args.group.now c.requires.may.of.may_open c.requires.may.round in
+    omega (arith, lt, most)
+
+pub bounds-group-self : goal.bounds-group-self
+bounds-group-self g c = rank_within g.P.Meld.meld (g.W.Words.sight c.args.pass.now).seen c.args.group.now c.args.self.now c.requires.may.at c.requires.more
+
+pub load_rest-said-requires-clause-within : goal.load_rest-said-requires-clause-within
+load_rest-said-requires-clause-within g c =
+    let r = c.args.self.now in
+    let lt = rank_within g.P.Meld.meld (g.W.Words.sight c.args.pass.now).seen c.args.group.now c.args.self.now c.requires.may.at c.requires.more in
+    member_within (g.W.Words.name c.args.words.now).limits g.P.Meld.meld (g.W.Words.sight c.args.pass.now).seen r.comm r.round (slice_index_or c.args.group.now (r.begin + r.read) 0) c.args.group.now
+    c.requires.may.of.legal c.requires.may.of.may_open c.requires.may.round (has_at c.args.group.now (r.begin + r.read) 0 lt)
+
+pub overflow_add-self : goal.overflow_add-self
+overflow_add-self g c =
+    let lt = rank_within g.P.Meld.meld (g.W.Words.sight c.args.pass.now).seen c.args.group.now c.args.self.now c.requires.may.at c.requires.more in
+    let most = few_members (g.W.Words.name c.args.words.now).limits (g.W.Words.sight c.args.pass.now).seen c.args.self.now.comm c.args.self.now.round c.args.group.now c.requires.may.of.may_open c.requires.may.round in
+    omega (arith, lt, most)
+
+pub load_rest-said-requires-clause-first : goal.load_rest-said-requires-clause-first
+load_rest-said-requires-clause-first g c =
+    let r = c.args.self.now in
+    let group = c.args.group.now in
+    let seen = (g.W.Words.sight c.args.pass.now).seen in
+    let held = subst (λ o. IfSome o (IsFirstOf g.P.Packed.pack (slot seen r.comm r.round (next_in_block group r)))) c.requires.some c.requires.may.half.first in
+    subst (λ x. IsFirstOf g.P.Packed.pack (slot seen r.comm r.round x) c.args.first) (sym (rank_is g.P.Meld.meld seen group r c.requires.may.at)) held
+
+-- the load is a step of the reading
+takes : (g : _) (c : After-load_rest-said g) (after : ℕ) → after + 1 ≤ blocks_left (length c.args.group.now) c.args.self.now
+    → TakesAt false (site_of c.args.group.now c.args.self.now) (nat_lt c.args.self.now.read c.args.self.now.width) (blocks_left (length c.args.group.now) c.args.self.now) after (g.W.Words.sight c.args.pass.now) (g.W.Words.sight c.load_rest-said.new.pass)
+takes g c after fewer =
+    let r = c.args.self.now in
+    let group = c.args.group.now in
+    let old = g.W.Words.sight c.args.pass.now in
+    let new = g.W.Words.sight c.load_rest-said.new.pass in
+    let before = blocks_left (length group) r in
+    let l = c.load_rest-said.ensures.loads.1 in
+    let there = ap (λ x. Site.Wing (Wing.Slot r.comm r.round x)) (rank_is g.P.Meld.meld old.seen group r c.requires.may.at) in
+    takes_member_wing group r before after old new c.args.first (omega (arith, c.requires.more, c.requires.may.at.wide)) c.requires.some
+    (subst (λ s. TakesAt false s true before after old new) there
+    (record { one = λ _. record { steps = l.steps; word = c.load_rest-said.ensures.loads.0; last = l.last }; some = omega (arith, l.steps); turns = omega (arith, l.steps, fewer) }))
+
+pub returns : goal.returns
+returns g c =
+    let meld = g.P.Meld.meld in
+    let r = c.args.self.now in
+    let group = c.args.group.now in
+    let at = c.requires.may.at in
+    let before = g.W.Words.sight c.args.pass.now in
+    let after = g.W.Words.sight c.load_rest-said.new.pass in
+    let old = before.seen in
+    let new = after.seen in
+    let l = c.load_rest-said.ensures.loads.1 in
+    let begins = did_prefix g.W.Words.alone _ old new l.did in
+    let said = c.load_rest-said.ensures.summary in
+    record {
+      goes = record { of = l.of; did = l.did; cached = l.cached; caches = tries_none _ _ l.caches; onward = omega (arith, l.steps); steps = omega (arith, l.steps) };
+      takes = takes g (goal.at.returns g c).After-load_rest-said _ (rw c.requires.some (omega (arith, c.requires.more)));
+      comm = search rules;
+      round = search rules;
+      tells = record {
+        are = are_later meld old new r.comm r.round group r.blocks begins at.are;
+        unknown = at.unknown;
+        side = at.side;
+        front = at.front;
+        wide = at.wide;
+        begins = at.begins;
+        within = omega (arith, c.requires.more);
+        read = one_more meld g.met.P.Meld.lawful old new group r begins at c.requires.more _ said.1 _ said.2 _ c.meld-self.ensures;
+      };
+      half = λ _. record {
+        first = tt;
+        more = λ some. absurd (cc some);
+        winged = λ set. spread_later (view_of g.P.Packed.pack (g.W.Words.name c.args.words.now) (g.W.Words.sight c.args.pass.now)) (view_of g.P.Packed.pack (g.W.Words.name c.args.words.now) (g.W.Words.sight c.load_rest-said.new.pass)) (block_at r.comm r.round r.side) l.cached (c.requires.may.half.winged set);
+      };
+      sets = λ are. set_later before.cached after.cached r.comm r.round r.blocks l.cached are;
+      ends = search rules;
+    }

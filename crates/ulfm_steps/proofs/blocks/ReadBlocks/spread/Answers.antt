@@ -1,0 +1,42 @@
+use Rattle.std.proofs.Common.{◌≡◌, ℕ, ◌+◌, ◌≤◌, false, true, slice_index_or, nat_lt, is_some, refl, ap, sym, subst, arith, rules, Some, None, IfSome}
+use Rattle.std.specs.Prelude.{length}
+use Rattle.ulfm_model.specs.{Laws.{summary_of}, History.{slot}, declared.{block.Side.{Side}, block.Wing.{Wing}, contribution.Slot.{Slot}, place.Place.TheVariants.{Slot as SlotAt}}}
+use Rattle.ulfm_words.specs.{Blocks.{IsFirstOf}, Steps.{over, view_of, Goes}, declared.step.Site.{Site}}
+use Rattle.ulfm_words.proofs.{Trails.{did_prefix}, Tried.{tries_one}}
+use Rattle.ulfm_steps.specs.{Blocks.{block_at, blocks_left, next_in_block, reads_most, site_of}, Turns.{TakesAt}}
+use Rattle.ulfm_steps.proofs.{InBlocks.{are_later, at_block_later, few_members, rank_is, rank_within, nothing_held, takes_wing, is_written, within_of}, KnownBlocks.{set_later, spread_later}, OneMore.{one_more}, Reading.{has_at, member_within, missing_at}, Turning.{takes_load}}
+use Rattle.ulfm_model.specs.Blocks.{block_wing}
+use Rattle.ulfm_words.specs.Blocks.{standing}
+use Rattle.ulfm_steps.proofs.blocks.ReadBlocks.spread.Goals as goal
+
+pub set_wing-requires-clause-within : goal.set_wing-requires-clause-within
+set_wing-requires-clause-within g c =
+    within_of g.P.Meld.meld (g.W.Words.name c.args.words.now).limits (g.W.Words.sight c.args.pass.now).seen c.args.self.now.comm c.args.self.now.round c.args.self.now.side c.args.group.now c.requires.may.of.legal c.requires.may.of.may_open c.requires.may.round
+
+pub set_wing-requires-clause-may : goal.set_wing-requires-clause-may
+set_wing-requires-clause-may g c =
+    let r = c.args.self.now in
+    is_written g.P.Meld.meld (block_wing g.P.Packed.pack) (g.W.Words.name c.args.words.now).limits (g.W.Words.sight c.args.pass.now).seen r.comm r.round r.side c.args.group.now r.read c.block_wing.result r.all c.requires.may.round c.requires.may.at.side c.requires.all c.requires.may.at.read c.block_wing.ensures
+
+pub returns : goal.returns
+returns g c =
+    let meld = g.P.Meld.meld in
+    let r = c.args.self.now in
+    let group = c.args.group.now in
+    let at = c.requires.may.at in
+    let before = g.W.Words.sight c.args.pass.now in
+    let after = g.W.Words.sight c.set_wing.new.pass in
+    let s = c.set_wing.ensures in
+    let none = nothing_held (view_of g.P.Packed.pack (g.W.Words.name c.args.words.now) before) group r c.requires.may.half (omega (arith, c.requires.all)) in
+    let begins = did_prefix g.W.Words.alone _ before.seen after.seen s.did in
+    record {
+      goes = record { of = s.of; did = s.did; cached = s.cached; caches = tries_one _ _ _ s.caches tt; onward = omega (arith, s.steps); steps = omega (arith, s.steps) };
+      takes = takes_wing group r _ _ before after (omega (arith, c.requires.all, at.wide)) c.requires.bare
+          (record { one = λ _. record { steps = s.steps; word = _; last = s.last }; some = omega (arith, s.steps); turns = rw (c.requires.bare, none) (omega (arith, s.steps)) });
+      comm = search rules;
+      round = search rules;
+      tells = at_block_later meld before.seen after.seen group (record r { winged = true }) begins (record { are = at.are; unknown = at.unknown; side = at.side; front = at.front; wide = at.wide; begins = at.begins; within = at.within; read = at.read });
+      half = λ _. record { first = rw none tt; more = c.requires.may.half.more; winged = λ _. (_, s.some, s.set) };
+      sets = λ are. set_later before.cached after.cached r.comm r.round r.blocks s.cached are;
+      ends = search rules;
+    }
