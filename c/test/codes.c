@@ -242,18 +242,18 @@ static void requests_are_checked(void)
 static void contexts_are_used_up(void)
 {
     ulfm_reply reply;
-    opened(1, 40, 2);
-    for (uint16_t comm = 0; comm < 31; comm++) {
+    opened(1, 70, 2);
+    for (uint16_t comm = 0; comm < 63; comm++) {
         uint16_t next = 0;
         EQUAL(ulfm_shrink(&ranks[0], comm, &next), ULFM_SUCCESS);
         EQUAL(next, comm + 1);
     }
-    EQUAL(ulfm_ishrink(&ranks[0], 31), ULFM_SUCCESS);
-    EQUAL(ulfm_poll(&ranks[0], 31, &reply), ULFM_ERR_NO_CONTEXT);
-    EQUAL(ulfm_poll(&ranks[0], 31, &reply), ULFM_ERR_IDLE);
+    EQUAL(ulfm_ishrink(&ranks[0], 63), ULFM_SUCCESS);
+    EQUAL(ulfm_poll(&ranks[0], 63, &reply), ULFM_ERR_NO_CONTEXT);
+    EQUAL(ulfm_poll(&ranks[0], 63, &reply), ULFM_ERR_IDLE);
     EQUAL(ulfm_free(&ranks[0], 7), ULFM_SUCCESS);
-    EQUAL(ulfm_ishrink(&ranks[0], 31), ULFM_SUCCESS);
-    EQUAL(ulfm_poll(&ranks[0], 31, &reply), ULFM_SUCCESS);
+    EQUAL(ulfm_ishrink(&ranks[0], 63), ULFM_SUCCESS);
+    EQUAL(ulfm_poll(&ranks[0], 63, &reply), ULFM_SUCCESS);
     EQUAL(reply.context, 7);
     closed(1);
 }
@@ -313,7 +313,7 @@ static void missing_are_told(void)
     EQUAL(list[0] * 10 + list[1], 13);
     EQUAL(list[2], UNTOUCHED);
     EQUAL(ulfm_last_steps(&ranks[0], &steps), ULFM_SUCCESS);
-    EQUAL(steps, 2); /* those of its start */
+    EQUAL(steps, 3); /* those of its start */
     /* who is declared is left out by a poll, and then isn't missing */
     EQUAL(ulfm_fail(&outside, 3, &first), ULFM_SUCCESS);
     EQUAL(ulfm_missing(&ranks[2], 0, list, 0, &count), ULFM_SUCCESS);

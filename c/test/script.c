@@ -172,13 +172,15 @@ static unsigned behind_the_look(const char *verb, const char *start, unsigned me
 {
     if (strcmp(verb, "get") == 0 || strcmp(verb, "ack") == 0 || strcmp(verb, "free") == 0)
         return 0;
+    if (strcmp(verb, "agree") == 0 || strcmp(verb, "shrink") == 0)
+        return 2;
     if (strcmp(verb, "poll") != 0)
         return 1;
     if (start == NULL)
         return 0;
     if (strcmp(start, "barrier") == 0)
         return members + 1;
-    return strcmp(start, "agree") == 0 ? 3 * members + 2 : 3 * members + 2 * world_comms + 1;
+    return strcmp(start, "agree") == 0 ? 5 * members + 4 : 5 * members + 2 * world_comms + 3;
 }
 
 static struct before before_call(ulfm_handle *own, uint16_t comm)
