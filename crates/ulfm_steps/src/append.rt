@@ -67,9 +67,11 @@ impl Append {
             (view_of P.pack (W.name words.now) (W.sight pass.new))) }
         ensures takes { AppendTakes false self.old result self.new (view_of P.pack (W.name words.now) (W.sight pass.old))
             (view_of P.pack (W.name words.now) (W.sight pass.new)) }
-        ensures passed { MatchOption result (Passed (seen_in (view_of P.pack (W.name words.now) (W.sight pass.new))) self.old.item self.new.index) (λ _. Unit {0}) }
+        ensures passed { MatchOption result
+            (Passed (seen_in (view_of P.pack (W.name words.now) (W.sight pass.new))) self.old.item self.new.index) (λ _. Unit {0}) }
         ensures empty { MatchOption result (FoundEmpty (seen_in (view_of P.pack (W.name words.now) (W.sight pass.new))) self.new) (λ _. Unit {0}) }
-        ensures within { MatchOption result (self.new.index < room self.old.item (limits_in (view_of P.pack (W.name words.now) (W.sight pass.old)))) (λ _. Unit {0}) }
+        ensures within { MatchOption result
+            (self.new.index < room self.old.item (limits_in (view_of P.pack (W.name words.now) (W.sight pass.old)))) (λ _. Unit {0}) }
     {
         let standing = if self.empty {
             match set_item(words, pass, self.by, self.item, self.index) {
@@ -113,13 +115,16 @@ impl Append {
         ensures same { (self.new.item ≡ self.old.item) × (self.new.by ≡ self.old.by) }
         ensures goes { MatchOption result (Goes P.meld W.alone false (2 * room self.old.item (limits_in (view_of P.pack (W.name words.now) (W.sight pass.old))))
             (view_of P.pack (W.name words.now) (W.sight pass.old)) (view_of P.pack (W.name words.now) (W.sight pass.new)))
-            (λ a. Appends P.meld W.alone (wanted self.old.item self.old.by) (2 * room self.old.item (limits_in (view_of P.pack (W.name words.now) (W.sight pass.old))))
+            (λ a. Appends P.meld W.alone (wanted self.old.item self.old.by)
+            (2 * room self.old.item (limits_in (view_of P.pack (W.name words.now) (W.sight pass.old))))
             (view_of P.pack (W.name words.now) (W.sight pass.old)) a (view_of P.pack (W.name words.now) (W.sight pass.new))) }
         ensures takes { AppendTakes whole self.old result self.new (view_of P.pack (W.name words.now) (W.sight pass.old))
             (view_of P.pack (W.name words.now) (W.sight pass.new)) }
-        ensures passed { MatchOption result (Passed (seen_in (view_of P.pack (W.name words.now) (W.sight pass.new))) self.old.item self.new.index) (λ _. Unit {0}) }
+        ensures passed { MatchOption result
+            (Passed (seen_in (view_of P.pack (W.name words.now) (W.sight pass.new))) self.old.item self.new.index) (λ _. Unit {0}) }
         ensures empty { MatchOption result (FoundEmpty (seen_in (view_of P.pack (W.name words.now) (W.sight pass.new))) self.new) (λ _. Unit {0}) }
-        ensures within { MatchOption result (self.new.index < room self.old.item (limits_in (view_of P.pack (W.name words.now) (W.sight pass.old)))) (λ _. Unit {0}) }
+        ensures within { MatchOption result
+            (self.new.index < room self.old.item (limits_in (view_of P.pack (W.name words.now) (W.sight pass.old)))) (λ _. Unit {0}) }
         ensures done { MatchOption result (whole ≡ false) (λ _. Unit {0}) }
     {
         loop {
