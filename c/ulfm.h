@@ -206,6 +206,14 @@ int ulfm_get_failed(ulfm_handle *rank, uint16_t comm, uint16_t *ranks, size_t ro
  * many are acknowledged now; with count 0 it only asks. At most N - v steps. MPI: MPIX_Comm_ack_failed. */
 int ulfm_ack_failed(ulfm_handle *rank, uint16_t comm, uint16_t count, uint16_t *acknowledged) ULFM_NONNULL;
 
+/* Acknowledges all failures that the rank knows on a communicator, as ulfm_ack_failed with count 1024. `acknowledged` is how many are
+ * acknowledged now. At most N - v steps. MPI: MPIX_Comm_failure_ack of 2013, which doesn't tell how many there are. */
+int ulfm_failure_ack(ulfm_handle *rank, uint16_t comm, uint16_t *acknowledged) ULFM_NONNULL;
+
+/* The acknowledged failures of a communicator: the first ranks of its failed group. Writes the first `room` of them, and `count` is how
+ * many there are. ULFM_ERR_NO_MEM. At most N - v steps. MPI: MPIX_Comm_failure_get_acked of 2013, which gives a group. */
+int ulfm_failure_get_acked(ulfm_handle *rank, uint16_t comm, uint16_t *ranks, size_t room, size_t *count) ULFM_NONNULL;
+
 /* Gives the rank's own hold on a communicator back; the others hold it on. Neither its number nor its rounds come back, its context
  * id does. ULFM_ERR_WORLD_KEPT of communicator 0, ULFM_ERR_BUSY. At most N - v steps. MPI: MPI_Comm_free, which is collective. */
 int ulfm_free(ulfm_handle *rank, uint16_t comm) ULFM_NONNULL;

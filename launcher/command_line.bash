@@ -1,15 +1,16 @@
 # What a command line asks for, read as crates/ulfm_command and its library clap read it: with the same faults, and the same words for them.
-# read_words WORD..     sets `asked` to run, echo, steps, check, explain, draw, explore, race, shown or bad; then `text` names the page that is shown, or is the reason why it is bad.
+# read_words WORD..     sets `asked` to run, echo, steps, migrate, check, explain, draw, explore, race, shown or bad; then `text` names the page that is shown, or is the reason why it is bad.
 # gate/launcher_test.py compares this with the program, on random lines too.
 
 # the names of the commands, in the order in which they are listed
-commands=(run check draw explore race help)
+commands=(run migrate check draw explore race help)
 
 # what each command is called with, where no option is known to be meant
 usage_of() {
     case $1 in
         ulfm) echo 'ulfm <COMMAND>' ;;
         run) echo 'ulfm run [OPTIONS]' ;;
+        migrate) echo 'ulfm migrate' ;;
         check) echo 'ulfm check [OPTIONS]' ;;
         draw) echo 'ulfm draw [OPTIONS]' ;;
         explore) echo 'ulfm explore [OPTIONS]' ;;
@@ -141,7 +142,7 @@ refuse_word() {
 }
 
 is_command() {
-    case $1 in run | check | draw | explore | race | help) ;; *) return 1 ;; esac
+    case $1 in run | migrate | check | draw | explore | race | help) ;; *) return 1 ;; esac
 }
 
 # what is wrong with a value that must be a number from $2 to $3, or nothing
@@ -230,7 +231,7 @@ take_long() {
             pending=$name value=$given has_value=$value_given
             [ -z "$has_value" ] || take_pending
             ;;
-        ulfm:help | ulfm:version | run:steps | run:echo | run:help | check:explain | check:help | draw:text | draw:ascii | draw:help | explore:help | race:help) take_flag "$name" "$given" "$value_given" ;;
+        ulfm:help | ulfm:version | run:steps | run:echo | run:help | migrate:help | check:explain | check:help | draw:text | draw:ascii | draw:help | explore:help | race:help) take_flag "$name" "$given" "$value_given" ;;
         *)
             take_pending
             refuse_option "$name" "$@"
@@ -287,6 +288,7 @@ enter() {
     walk "$@" && take_pending || return
     case $command in
         run) case " ${used[*]} " in *' steps '*) asked=steps ;; *' echo '*) asked=echo ;; *) asked=run ;; esac ;;
+        migrate) asked=migrate ;;
         check) case " ${used[*]} " in *' explain '*) asked=explain ;; *) asked=check ;; esac ;;
         draw) asked=draw ;;
         explore) asked=explore ;;
@@ -343,5 +345,5 @@ read_words() {
     asked=bad text=
     is_text "$@" || return 0
     walk "$@" || return 0
-    refuse_with_usage "$(usage_of ulfm)" "'ulfm' requires a subcommand but one was not provided"$'\n  [subcommands: run, check, draw, explore, race, help]'
+    refuse_with_usage "$(usage_of ulfm)" "'ulfm' requires a subcommand but one was not provided"$'\n  [subcommands: run, migrate, check, draw, explore, race, help]'
 }

@@ -38,6 +38,8 @@ static void all_answer(ulfm_handle *handle, uint16_t comm, int code)
     EQUAL(ulfm_is_revoked(handle, comm, &is), code);
     EQUAL(ulfm_get_failed(handle, comm, list, 4, &count), code);
     EQUAL(ulfm_ack_failed(handle, comm, 1, &number), code);
+    EQUAL(ulfm_failure_ack(handle, comm, &number), code);
+    EQUAL(ulfm_failure_get_acked(handle, comm, list, 4, &count), code);
     EQUAL(ulfm_free(handle, comm), code);
     ulfm_flag flag = UNTOUCHED;
     EQUAL(ulfm_wait(handle, comm, &reply), code);
@@ -289,6 +291,41 @@ static void lists_are_cut(void)
     closed(4);
 }
 
+/* Those that are acknowledged are the first of the failed group, cut to the room that there is. */
+static void acknowledged_are_listed(void)
+{
+    uint16_t list[4] = {UNTOUCHED, UNTOUCHED, UNTOUCHED, UNTOUCHED}, acknowledged = 9;
+    size_t count = 9;
+    bool first;
+    opened(4, 1, 1);
+    EQUAL(ulfm_failure_ack(&ranks[0], 0, &acknowledged), ULFM_SUCCESS);
+    EQUAL(acknowledged, 0);
+    EQUAL(ulfm_fail(&outside, 3, &first), ULFM_SUCCESS);
+    EQUAL(ulfm_fail(&outside, 1, &first), ULFM_SUCCESS);
+    EQUAL(ulfm_failure_get_acked(&ranks[0], 0, list, 4, &count), ULFM_SUCCESS);
+    EQUAL(count, 0);
+    EQUAL(list[0], UNTOUCHED);
+    EQUAL(ulfm_ack_failed(&ranks[0], 0, 1, &acknowledged), ULFM_SUCCESS);
+    EQUAL(ulfm_failure_get_acked(&ranks[0], 0, list, 4, &count), ULFM_SUCCESS);
+    EQUAL(count, 1);
+    EQUAL(list[0], 3);
+    EQUAL(list[1], UNTOUCHED);
+    EQUAL(ulfm_failure_ack(&ranks[0], 0, &acknowledged), ULFM_SUCCESS);
+    EQUAL(acknowledged, 2);
+    list[0] = UNTOUCHED;
+    EQUAL(ulfm_failure_get_acked(&ranks[0], 0, list, 0, &count), ULFM_SUCCESS);
+    EQUAL(count, 2);
+    EQUAL(list[0], UNTOUCHED);
+    EQUAL(ulfm_failure_get_acked(&ranks[0], 0, list, 4, &count), ULFM_SUCCESS);
+    EQUAL(list[0], 3);
+    EQUAL(list[1], 1);
+    EQUAL(list[2], UNTOUCHED);
+    /* another rank acknowledges for itself alone */
+    EQUAL(ulfm_failure_get_acked(&ranks[2], 0, list, 4, &count), ULFM_SUCCESS);
+    EQUAL(count, 0);
+    closed(4);
+}
+
 /* Who is missing in a round, as one after the other comes into it. */
 static void missing_are_told(void)
 {
@@ -413,6 +450,7 @@ int main(void)
     requests_are_checked();
     contexts_are_used_up();
     lists_are_cut();
+    acknowledged_are_listed();
     missing_are_told();
     ranks_know_themselves();
     codes_have_texts();

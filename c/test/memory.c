@@ -65,7 +65,8 @@ static int opened(ulfm_handle *outside, ulfm_handle *ranks)
     return code;
 }
 
-/* An agree, two failures, the failed group, a shrink, who is missing in it, and an agree on the new communicator. */
+/* An agree, two failures, the failed group, what is acknowledged of it, a shrink, who is missing in it, and an agree on the new
+ * communicator. */
 static void run(void)
 {
     ulfm_handle outside = ULFM_HANDLE_NULL, ranks[RANKS] = {ULFM_HANDLE_NULL};
@@ -91,6 +92,17 @@ static void run(void)
         EQUAL(code, ULFM_SUCCESS);
         EQUAL(count, 2);
         EQUAL(failed[0] * 10 + failed[1], 13);
+        uint16_t acked[RANKS] = {9, 9}, acknowledged = 9;
+        EQUAL(ulfm_failure_ack(&ranks[rank], 0, &acknowledged), ULFM_SUCCESS);
+        EQUAL(acknowledged, 2);
+        count = 9;
+        while (again(code = ulfm_failure_get_acked(&ranks[rank], 0, acked, RANKS, &count))) {
+            EQUAL(count, 9);
+            EQUAL(acked[0], 9);
+        }
+        EQUAL(code, ULFM_SUCCESS);
+        EQUAL(count, 2);
+        EQUAL(acked[0] * 10 + acked[1], 13);
         EQUAL(ulfm_ishrink(&ranks[rank], 0), ULFM_SUCCESS);
         uint16_t missing[RANKS] = {9};
         while (again(code = ulfm_missing(&ranks[rank], 0, missing, RANKS, &count))) {

@@ -14,6 +14,8 @@ enum { LONGEST = 64, MOST_LINES = 100000, MOST_WORDS = 6 };
 
 static ulfm_handle outside = ULFM_HANDLE_NULL, handles[ULFM_MAX_RANKS];
 static unsigned world_ranks, world_comms, line_number;
+/* The version of the script. */
+static int version;
 
 static int ends(int status)
 {
@@ -90,7 +92,7 @@ static uint16_t number(const char *word, int greatest)
 static ulfm_flag flag_of(const char *word)
 {
     size_t length = strlen(word);
-    if ((length != 8 && length != 16) || strspn(word, "0123456789abcdef") != length)
+    if ((length != 16 && (length != 8 || version == 2)) || strspn(word, "0123456789abcdef") != length)
         fault("flag");
     return strtoull(word, NULL, 16);
 }
@@ -170,7 +172,7 @@ static const char *started[ULFM_MAX_RANKS][ULFM_MAX_COMMS];
 /* How many steps a call makes at most behind its look. */
 static unsigned behind_the_look(const char *verb, const char *start, unsigned members)
 {
-    if (strcmp(verb, "get") == 0 || strcmp(verb, "ack") == 0 || strcmp(verb, "free") == 0)
+    if (strcmp(verb, "get") == 0 || strcmp(verb, "ack") == 0 || strcmp(verb, "free") == 0 || strncmp(verb, "failure_", 8) == 0)
         return 0;
     if (strcmp(verb, "agree") == 0 || strcmp(verb, "shrink") == 0)
         return 2;
@@ -210,8 +212,9 @@ static void check_steps(uint16_t rank, uint16_t comm, const char *verb, struct b
 static const struct verb {
     const char *name;
     int words; /* behind it */
-} verbs[] = {{"fail", 1},   {"get", 2},  {"ack", 3},    {"agree", 3},     {"shrink", 2},
-             {"barrier", 2}, {"poll", 2}, {"revoke", 2}, {"isrevoked", 2}, {"free", 2}};
+    int since; /* the first version of scripts that has it */
+} verbs[] = {{"fail", 1, 1},   {"get", 2, 1},    {"ack", 3, 1},       {"agree", 3, 1}, {"shrink", 2, 1},      {"barrier", 2, 1},
+             {"poll", 2, 1},   {"revoke", 2, 1}, {"isrevoked", 2, 1}, {"free", 2, 1},  {"failure_ack", 2, 2}, {"failure_get_acked", 2, 2}};
 
 static void starts(uint16_t rank, uint16_t comm, const char *verb)
 {
@@ -224,7 +227,7 @@ static void call(void)
     const struct verb *verb = verbs;
     while (verb < verbs + sizeof verbs / sizeof *verbs && strcmp(verb->name, words[0]) != 0)
         verb++;
-    if (verb == verbs + sizeof verbs / sizeof *verbs)
+    if (verb == verbs + sizeof verbs / sizeof *verbs || verb->since > version)
         fault("verb");
     bool is_empty = false;
     for (int at = 1; at < word_count; at++)
@@ -290,6 +293,16 @@ static void call(void)
         if (succeeds(ulfm_is_revoked(own, comm, &is)))
             puts(is ? "yes" : "no");
         break;
+    case 10:
+        if (succeeds(ulfm_failure_ack(own, comm, &count)))
+            printf("acked %u\n", count);
+        break;
+    case 11:
+        if (succeeds(ulfm_failure_get_acked(own, comm, ranks, ULFM_MAX_RANKS, &found))) {
+            fputs(found == 0 ? "failed none" : "failed", stdout);
+            print_ranks(ranks, found);
+        }
+        break;
     default:
         if (succeeds(ulfm_free(own, comm)))
             puts("freed");
@@ -300,8 +313,9 @@ static void call(void)
 
 static void header(void)
 {
-    if (word_count != 5 || strcmp(words[0], "ulfm") != 0 || strcmp(words[1], "1") != 0)
+    if (word_count != 5 || strcmp(words[0], "ulfm") != 0 || (strcmp(words[1], "1") != 0 && strcmp(words[1], "2") != 0))
         fault("header");
+    version = words[1][0] - '0';
     int limits[3];
     for (int at = 0; at < 3; at++)
         if ((limits[at] = number_of(words[at + 2])) < 0)

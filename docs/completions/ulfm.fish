@@ -1,6 +1,7 @@
 # Completion of the program ulfm for fish: put this file into ~/.config/fish/completions.
 complete -c ulfm -f
 complete -c ulfm -n __fish_use_subcommand -a run -d 'Runs the script on standard input'
+complete -c ulfm -n __fish_use_subcommand -a migrate -d 'Writes a script of version 1 as one of version 2'
 complete -c ulfm -n __fish_use_subcommand -a check -d 'Judges the trace on standard input'
 complete -c ulfm -n __fish_use_subcommand -a draw -d 'Draws the trace on standard input'
 complete -c ulfm -n __fish_use_subcommand -a explore -d 'Tries every schedule of the program on standard input'
@@ -11,6 +12,7 @@ complete -c ulfm -n __fish_use_subcommand -s V -l version -d 'Shows the version'
 complete -c ulfm -n '__fish_seen_subcommand_from run' -l steps -d 'Runs a script of single atomic steps, and prints its trace'
 complete -c ulfm -n '__fish_seen_subcommand_from run' -l echo -d 'Prints each call before its reply'
 complete -c ulfm -n '__fish_seen_subcommand_from run' -s h -l help -d 'Shows help'
+complete -c ulfm -n '__fish_seen_subcommand_from migrate' -s h -l help -d 'Shows help'
 complete -c ulfm -n '__fish_seen_subcommand_from check' -l explain -d 'Says of an illegal trace what is wrong, and what would have been legal'
 complete -c ulfm -n '__fish_seen_subcommand_from check' -s h -l help -d 'Shows help'
 complete -c ulfm -n '__fish_seen_subcommand_from draw' -l text -d 'Draws the rows in characters, for a terminal'
@@ -23,4 +25,4 @@ complete -c ulfm -n '__fish_seen_subcommand_from race' -l ranks -x -d 'How many 
 complete -c ulfm -n '__fish_seen_subcommand_from race' -l rounds -x -d 'How often they agree, 1 to 1000'
 complete -c ulfm -n '__fish_seen_subcommand_from race' -l fail -x -d 'The rank that is declared failed, below N'
 complete -c ulfm -n '__fish_seen_subcommand_from race' -s h -l help -d 'Shows help'
-complete -c ulfm -n '__fish_seen_subcommand_from help' -a 'run check draw explore race help'
+complete -c ulfm -n '__fish_seen_subcommand_from help' -a 'run migrate check draw explore race help'

@@ -10,7 +10,8 @@ use Rattle.ulfm_draw.specs.Drawings.{DrawsText}
 use Rattle.ulfm_echo.specs.Echoes.{echo_scripts}
 use Rattle.ulfm_explain.specs.Explained.{ExplainsText}
 use Rattle.ulfm_explore.specs.Shows.{IsShown, Tells}
-use Rattle.ulfm_filters.specs.Statuses.{CheckedWith, EchoedWith, PrintsAt, PrintsWhole, RanWith, StepsRanWith, status_of, verdict_status}
+use Rattle.ulfm_filters.specs.Statuses.{CheckedWith, EchoedWith, MigratedWith, PrintsAt, PrintsWhole, RanWith, StepsRanWith, status_of, verdict_status}
+use Rattle.ulfm_migrate.specs.Migrations.{migrations}
 use Rattle.ulfm_programs.specs.declared.program.Program.{Program}
 use Rattle.ulfm_race.specs.declared.plan.Plan.{Plan}
 use Rattle.ulfm_race.specs.Races.{IsOutcome}
@@ -52,6 +53,9 @@ ran_out known out status is = (Err Memory, is, ran_none call_scripts known out)
 
 pub echo_ran_out : (known out : KnownText) (status : ℕ) → status ≡ status_of (Err Memory) → EchoedWith known known out out status
 echo_ran_out known out status is = (Err Memory, is, ran_none echo_scripts known out)
+
+pub migrate_ran_out : (known out : KnownText) (status : ℕ) → status ≡ status_of (Err Memory) → MigratedWith known known out out status
+migrate_ran_out known out status is = record { result = Err Memory; status_is = is; ends = ran_none migrations known out; migrates = tt }
 
 pub steps_ran_out : (known out : KnownText) (status : ℕ) → status ≡ status_of (Err Memory) → StepsRanWith known known out out status
 steps_ran_out known out status is = (Err Memory, is, ran_none step_scripts known out)

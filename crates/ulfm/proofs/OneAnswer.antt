@@ -3,7 +3,7 @@ use Rattle.std.proofs.Common.{◌≡◌, ◌∙◌, ℕ, List, ◌==◌, Bool, t
 use Rattle.std.specs.Prelude.{option_map}
 use Rattle.std.proofs.lemmas.Option.{same_Some, some_pair_parts}
 use Rattle.clap.specs.Words.{Row, Text, subcommand_of}
-use Rattle.ulfm_command.specs.CommandLines.{AsksCheck, AsksDraw, AsksEcho, AsksExplain, AsksExplore, AsksRace, AsksRun, AsksSteps, IsDrawRead, IsExploreOf, IsRaceOf, NamesCheckOf, NamesRunOf, Arguments, has_flag, ulfm}
+use Rattle.ulfm_command.specs.CommandLines.{AsksCheck, AsksDraw, AsksEcho, AsksExplain, AsksExplore, AsksMigrate, AsksRace, AsksRun, AsksSteps, IsDrawRead, IsExploreOf, IsRaceOf, NamesCheckOf, NamesRunOf, Arguments, has_flag, ulfm}
 use Rattle.ulfm_command.specs.declared.asked.{DrawOptions.{DrawOptions}, ExploreOptions.{ExploreOptions}, RaceOptions.{RaceOptions}}
 use Rattle.ulfm_command.proofs.Numbers.{same_explore, same_race}
 
@@ -200,3 +200,52 @@ same_explored words o p a b =
     let rows : a.1.0 ≡ b.1.0 = (some_pair_parts {A = Text} {B = List Row} _ _ _ _ (sym a.1.1 ∙ b.1.1)).1 in
     let is : IsExploreOf b.1.0 o = subst (λ (r : List Row). IsExploreOf r o) rows a.1.2 in
     same_explore b.1.0 o p is b.1.2
+
+-- words that ask for a migration ask for nothing else
+no_migrate : (words : Arguments) (t : Text) → name_of (subcommand_of ulfm words) ≡ Some t → AsksMigrate words → t ≡ codes "migrate"
+no_migrate words t named migrate = one_name _ _ _ named (ap name_of migrate.1.1)
+
+runs_no_migrate : (words : Arguments) (steps : Bool) → NamesRunOf (subcommand_of ulfm words) steps → AsksMigrate words → ⊥
+runs_no_migrate words steps run migrate =
+    let texts : codes "run" ≡ codes "migrate" = no_migrate words _ (run_named words steps run) migrate in
+    let bad : true ≡ false = ap (λ (t : List ℕ). slice_index t 0 == 114) texts in
+    cc
+
+pub run_is_no_migrate : (words : Arguments) → AsksRun words → AsksMigrate words → ⊥
+run_is_no_migrate words run migrate = runs_no_migrate words false run.1.calls migrate
+
+pub echo_is_no_migrate : (words : Arguments) → AsksEcho words → AsksMigrate words → ⊥
+echo_is_no_migrate words echo migrate = runs_no_migrate words false echo.1.calls migrate
+
+pub steps_are_no_migrate : (words : Arguments) → AsksSteps words → AsksMigrate words → ⊥
+steps_are_no_migrate words steps migrate = runs_no_migrate words true steps.1 migrate
+
+judged_is_no_migrate : (words : Arguments) (explain : Bool) → NamesCheckOf (subcommand_of ulfm words) explain → AsksMigrate words → ⊥
+judged_is_no_migrate words explain check migrate =
+    let texts : codes "check" ≡ codes "migrate" = no_migrate words _ (check_named words explain check) migrate in
+    let bad : true ≡ false = ap (λ (t : List ℕ). slice_index t 0 == 99) texts in
+    cc
+
+pub check_is_no_migrate : (words : Arguments) → AsksCheck words → AsksMigrate words → ⊥
+check_is_no_migrate words check migrate = judged_is_no_migrate words false check.1 migrate
+
+pub explain_is_no_migrate : (words : Arguments) → AsksExplain words → AsksMigrate words → ⊥
+explain_is_no_migrate words explain migrate = judged_is_no_migrate words true explain.1 migrate
+
+pub draw_is_no_migrate : (words : Arguments) (draw : DrawOptions) → AsksDraw words draw → AsksMigrate words → ⊥
+draw_is_no_migrate words draw asks migrate =
+    let texts : codes "draw" ≡ codes "migrate" = no_migrate words _ (ap name_of asks.1.1) migrate in
+    let bad : true ≡ false = ap (λ (t : List ℕ). slice_index t 0 == 100) texts in
+    cc
+
+pub explore_is_no_migrate : (words : Arguments) (options : ExploreOptions) → AsksExplore words options → AsksMigrate words → ⊥
+explore_is_no_migrate words options asks migrate =
+    let texts : codes "explore" ≡ codes "migrate" = no_migrate words _ (ap name_of asks.1.1) migrate in
+    let bad : true ≡ false = ap (λ (t : List ℕ). slice_index t 0 == 101) texts in
+    cc
+
+pub race_is_no_migrate : (words : Arguments) (race : RaceOptions) → AsksRace words race → AsksMigrate words → ⊥
+race_is_no_migrate words race asks migrate =
+    let texts : codes "race" ≡ codes "migrate" = no_migrate words _ (ap name_of asks.1.1) migrate in
+    let bad : true ≡ false = ap (λ (t : List ℕ). slice_index t 0 == 114) texts in
+    cc

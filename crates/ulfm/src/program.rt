@@ -1,12 +1,12 @@
 //! Does what a command line asks for, and gives the exit status that it ends with.
 ghost use Rattle.std.specs.Prelude.{◌≡◌, ◌≤◌, ◌⊎◌, false, map, true};
 ghost use Rattle.std.specs.Io.KnownBytes.{Keeps};
-ghost use Rattle.ulfm_command.specs.CommandLines.{AsksCheck, AsksDraw, AsksEcho, AsksExplain, AsksExplore, AsksHelp, AsksRace, AsksRun, AsksSteps, AsksVersion, AsksNothing, is_in_range};
+ghost use Rattle.ulfm_command.specs.CommandLines.{AsksCheck, AsksDraw, AsksEcho, AsksExplain, AsksExplore, AsksHelp, AsksMigrate, AsksRace, AsksRun, AsksSteps, AsksVersion, AsksNothing, is_in_range};
 ghost use Rattle.ulfm_command.specs.declared.asked.DrawOptions.{DrawOptions as DrawOptionsOf};
 ghost use Rattle.ulfm_command.specs.declared.asked.ExploreOptions.{ExploreOptions as ExploreOptionsOf};
 ghost use Rattle.ulfm_command.specs.declared.asked.RaceOptions.{RaceOptions as OptionsOf};
 ghost use Rattle.ulfm_filters.specs.Notes.{bad_line, no_memory};
-ghost use Rattle.ulfm_filters.specs.Statuses.{CheckedWith, EchoedWith, RanWith, StepsRanWith};
+ghost use Rattle.ulfm_filters.specs.Statuses.{CheckedWith, EchoedWith, MigratedWith, RanWith, StepsRanWith};
 ghost use Rattle.ulfm_script.specs.Written.{WritesPart};
 ghost use Rattle.ulfm.specs.Drawn.{DrewWith, form_of};
 ghost use Rattle.ulfm.specs.Explained.{ExplainedWith};
@@ -46,7 +46,7 @@ impl Gate for AlwaysOpen {
 ///
 /// `alloc` serves the run of a script, the check of a trace and the lines of a race, `global` the reading of the words and the race itself. A race starts
 /// threads, and returns once they have ended.
-#[tactic(auto, using(crate::proofs::OneAnswer::run_is_no_echo, crate::proofs::OneAnswer::run_is_no_steps, crate::proofs::OneAnswer::run_is_no_check, crate::proofs::OneAnswer::run_is_no_explain, crate::proofs::OneAnswer::run_is_no_draw, crate::proofs::OneAnswer::run_is_no_race, crate::proofs::OneAnswer::echo_is_no_steps, crate::proofs::OneAnswer::echo_is_no_check, crate::proofs::OneAnswer::echo_is_no_explain, crate::proofs::OneAnswer::echo_is_no_draw, crate::proofs::OneAnswer::echo_is_no_race, crate::proofs::OneAnswer::steps_are_no_check, crate::proofs::OneAnswer::steps_are_no_explain, crate::proofs::OneAnswer::steps_are_no_draw, crate::proofs::OneAnswer::steps_are_no_race, crate::proofs::OneAnswer::check_is_no_explain, crate::proofs::OneAnswer::check_is_no_draw, crate::proofs::OneAnswer::check_is_no_race, crate::proofs::OneAnswer::explain_is_no_draw, crate::proofs::OneAnswer::explain_is_no_race, crate::proofs::OneAnswer::race_is_no_draw, crate::proofs::Ends::drew_as, crate::proofs::Ends::raced_as, crate::proofs::Ends::race_ran_out, crate::proofs::OneAnswer::run_is_no_explore, crate::proofs::OneAnswer::echo_is_no_explore, crate::proofs::OneAnswer::steps_are_no_explore, crate::proofs::OneAnswer::check_is_no_explore, crate::proofs::OneAnswer::explain_is_no_explore, crate::proofs::OneAnswer::draw_is_no_explore, crate::proofs::OneAnswer::race_is_no_explore, crate::proofs::Ends::explore_ran_out))]
+#[tactic(auto, using(crate::proofs::OneAnswer::run_is_no_echo, crate::proofs::OneAnswer::run_is_no_steps, crate::proofs::OneAnswer::run_is_no_check, crate::proofs::OneAnswer::run_is_no_explain, crate::proofs::OneAnswer::run_is_no_draw, crate::proofs::OneAnswer::run_is_no_race, crate::proofs::OneAnswer::echo_is_no_steps, crate::proofs::OneAnswer::echo_is_no_check, crate::proofs::OneAnswer::echo_is_no_explain, crate::proofs::OneAnswer::echo_is_no_draw, crate::proofs::OneAnswer::echo_is_no_race, crate::proofs::OneAnswer::steps_are_no_check, crate::proofs::OneAnswer::steps_are_no_explain, crate::proofs::OneAnswer::steps_are_no_draw, crate::proofs::OneAnswer::steps_are_no_race, crate::proofs::OneAnswer::check_is_no_explain, crate::proofs::OneAnswer::check_is_no_draw, crate::proofs::OneAnswer::check_is_no_race, crate::proofs::OneAnswer::explain_is_no_draw, crate::proofs::OneAnswer::explain_is_no_race, crate::proofs::OneAnswer::race_is_no_draw, crate::proofs::Ends::drew_as, crate::proofs::Ends::raced_as, crate::proofs::Ends::race_ran_out, crate::proofs::OneAnswer::run_is_no_explore, crate::proofs::OneAnswer::echo_is_no_explore, crate::proofs::OneAnswer::steps_are_no_explore, crate::proofs::OneAnswer::check_is_no_explore, crate::proofs::OneAnswer::explain_is_no_explore, crate::proofs::OneAnswer::draw_is_no_explore, crate::proofs::OneAnswer::race_is_no_explore, crate::proofs::Ends::explore_ran_out, crate::proofs::OneAnswer::run_is_no_migrate, crate::proofs::OneAnswer::echo_is_no_migrate, crate::proofs::OneAnswer::steps_are_no_migrate, crate::proofs::OneAnswer::check_is_no_migrate, crate::proofs::OneAnswer::explain_is_no_migrate, crate::proofs::OneAnswer::draw_is_no_migrate, crate::proofs::OneAnswer::explore_is_no_migrate, crate::proofs::OneAnswer::race_is_no_migrate))]
 pub fn answer<T: Threads + Wait + Sync, A: Allocator + Copy + Drop, R: Read, W: Write, E: Write>(
     rt: &T,
     alloc: A,
@@ -66,6 +66,8 @@ pub fn answer<T: Threads + Wait + Sync, A: Allocator + Copy + Drop, R: Read, W: 
         (W.contents output.old) (W.contents output.new) result }
     ensures steps { AsksSteps (map (λ word. word.now) words.now) → StepsRanWith (R.remaining input.old) (R.remaining input.new)
         (W.contents output.old) (W.contents output.new) result }
+    ensures migrate { AsksMigrate (map (λ word. word.now) words.now) → MigratedWith (R.remaining input.old) (R.remaining input.new)
+        (W.contents output.old) (W.contents output.new) result }
     ensures check { AsksCheck (map (λ word. word.now) words.now) → CheckedWith (R.remaining input.old) (R.remaining input.new)
         (W.contents output.old) (W.contents output.new) result }
     ensures explain { AsksExplain (map (λ word. word.now) words.now) → ExplainedWith (R.remaining input.old)
@@ -81,7 +83,8 @@ pub fn answer<T: Threads + Wait + Sync, A: Allocator + Copy + Drop, R: Read, W: 
         → (AsksCheck (map (λ word. word.now) words.now) → ⊥) → (AsksEcho (map (λ word. word.now) words.now) → ⊥)
         → (AsksExplain (map (λ word. word.now) words.now) → ⊥)
         → ((options : DrawOptionsOf) → AsksDraw (map (λ word. word.now) words.now) options → ⊥)
-        → ((options : ExploreOptionsOf) → AsksExplore (map (λ word. word.now) words.now) options → ⊥) → Keeps (R.remaining input.old) (R.remaining input.new) }
+        → ((options : ExploreOptionsOf) → AsksExplore (map (λ word. word.now) words.now) options → ⊥)
+        → (AsksMigrate (map (λ word. word.now) words.now) → ⊥) → Keeps (R.remaining input.old) (R.remaining input.new) }
     ensures help { AsksHelp (map (λ word. word.now) words.now) ⊎ AsksVersion (map (λ word. word.now) words.now) → (result ≡ 0) ⊎ (result ≡ 3) }
     // 3 where memory was refused.
     ensures bad { AsksNothing (map (λ word. word.now) words.now) → ((result ≡ 2) ⊎ (result ≡ 3))
@@ -94,6 +97,7 @@ pub fn answer<T: Threads + Wait + Sync, A: Allocator + Copy + Drop, R: Read, W: 
         Asked::Run => run_filter(alloc, Filter::Calls, input, output, errors),
         Asked::RunEchoed => run_filter(alloc, Filter::Echoed, input, output, errors),
         Asked::RunSteps => run_filter(alloc, Filter::Steps, input, output, errors),
+        Asked::Migrate => run_filter(alloc, Filter::Migrate, input, output, errors),
         Asked::Check => run_filter(alloc, Filter::Check, input, output, errors),
         Asked::Explain => run_explain(alloc, input, output, errors),
         Asked::Draw(options) => run_draw(alloc, form_of(options, looks), input, output, errors),

@@ -3,14 +3,13 @@
 use Rattle.std.specs.Prelude.{◌≡◌, ℕ, ℤ, Bool, false, List, Option, Some, None, Result, IfOk, length, pos}
 use Rattle.ulfm_laws.specs.Flags.{flag_meld}
 use Rattle.ulfm_laws.specs.declared.flag_and.FlagAnd.{FlagAnd}
-use Rattle.ulfm_model.specs.History.{failed}
-use Rattle.ulfm_model.specs.declared.{call.Call.{Call}, call.Call.TheVariants.{Agree, GetFailed, Shrink}, refusal.Refusal.{Refusal}, reply.Reply.{Reply}}
+use Rattle.ulfm_model.specs.declared.{call.Call.{Call}, call.Call.TheVariants.{Agree, Shrink}, refusal.Refusal.{Refusal}, reply.Reply.{Reply}}
 use Rattle.ulfm_model.specs.declared.reply.Reply.TheVariants.{Started}
 use Rattle.ulfm_comm.specs.Calls.{reply_of}
 use Rattle.ulfm_comm.specs.Excludes.{Excludes}
-use Rattle.ulfm_comm.specs.Fails.{Fails, declared}
+use Rattle.ulfm_comm.specs.{Fails.{Fails, declared}, Queries.{listed_in, query}}
 use Rattle.ulfm_comm.specs.declared.calls.polled.Polled.{Polled}
-use Rattle.ulfm_member.specs.Members.{Membership, MemberCalls, MemberFails, MemberGets, MemberMisses, MemberPolls, Viewing, view_in}
+use Rattle.ulfm_member.specs.Members.{Membership, MemberCalls, MemberFails, MemberGets, MemberMisses, MemberPolls, Viewing, after_call, view_in}
 use Rattle.ulfm_c.specs.Codes.{code}
 use Rattle.ulfm_c.specs.Written.{Lent, Lists, WritesPolled}
 use Rattle.ulfm_c.specs.declared.polled.PolledReply.{PolledReply}
@@ -66,12 +65,12 @@ pub record RankPolls (comm : ℕ) (out : PolledReply) (old new : Membership Flag
   pub code_is : answered ≡ code reply
   pub written : IfOk reply (λ polled. WritesPolled polled out)
 
--- a query of the failed group, which is written out where the code is 0
-pub record RankGets (comm : ℕ) (out : Lent) (old new : Membership FlagAnd) (answered : ℤ) : Type 0 where
+-- a query of the failed group, or of those in it that are acknowledged, which are written out where the code is 0
+pub record RankGets (acked : Bool) (comm : ℕ) (out : Lent) (old new : Membership FlagAnd) (answered : ℤ) : Type 0 where
   pub reply : Result (Unit {0}) Refusal
   pub found : List ℕ
-  pub gets : MemberGets flag_meld flag_pack false (GetFailed old.own.number comm) old (length found) reply new
-  pub group : IfOk reply (λ _. found ≡ failed old.view.words.limits.ranks new.view.pass.seen comm)
+  pub gets : MemberGets flag_meld flag_pack false (query acked old.own.number comm) old (length found) reply new
+  pub group : IfOk reply (λ _. found ≡ listed_in acked (after_call flag_pack old new) comm)
   pub code_is : answered ≡ code reply
   pub written : IfOk reply (λ _. Lists found out)
 

@@ -5,11 +5,11 @@
 //! step. Besides what a call's own page says, each answers 18 where the handle holds nothing and 19 where it is the outside's; then nothing is
 //! done. A code other than 0 leaves the rank as it was, but for what its look has seen, and where the call's own page says more. 15 says that
 //! another has contributed as this rank. It doesn't come while C keeps its rules, since a rank has one handle, so no page names it.
-ghost use Rattle.std.specs.Prelude.{◌≡◌, ◌≢◌, pos};
+ghost use Rattle.std.specs.Prelude.{◌≡◌, ◌≢◌, false, pos, true};
 ghost use Rattle.ulfm_c.specs.Calls.{HandleCalls, PartyCalls, RankAgrees, RankDoes, RankGets, RankMisses, RankPolls, RankShrinks, RankTells};
 ghost use Rattle.ulfm_c.specs.Written.{lent};
 ghost use Rattle.ulfm_comm.specs.Revokes.{revoked};
-ghost use Rattle.ulfm_model.specs.declared.call.Call.TheVariants.{Ack, Barrier, Free, IsRevoked, Revoke};
+ghost use Rattle.ulfm_model.specs.declared.call.Call.TheVariants.{Ack, Barrier, FailureAck, Free, IsRevoked, Revoke};
 ghost use Rattle.ulfm_model.specs.declared.reply.Reply.TheVariants.{Acked, Freed, Standing, Started};
 
 use crate::code::NO_HANDLE;
@@ -102,7 +102,7 @@ pub extern "C" fn ulfm_get_failed(
     ranks: &mut [u16],
     count: &mut usize,
 ) -> i32
-    ensures calls { HandleCalls (PartyCalls (RankGets comm (lent ranks.old ranks.new count.new))) handle.old.party handle.new.party result }
+    ensures calls { HandleCalls (PartyCalls (RankGets false comm (lent ranks.old ranks.new count.new))) handle.old.party handle.new.party result }
     ensures kept { result ≢ pos 0 → (ranks.new ≡ ranks.old) × (count.new ≡ count.old) }
 {
     match handle.party() {
@@ -153,6 +153,43 @@ pub extern "C" fn ulfm_ack_failed(
     match handle.party() {
         None => NO_HANDLE,
         Some(party) => party.ack_failed(comm, count, acknowledged),
+    }
+}
+
+/// Acknowledges all known failures of a communicator, as `ulfm_ack_failed` does where it asks for 1024. `acknowledged` gets how many are
+/// acknowledged now. It makes the steps of a look. It is the call of the interface of 2013, whose caller isn't told how many there are.
+///
+/// 1 where the rank is declared failed, 2 where it doesn't hold the communicator.
+#[unsafe(no_mangle)]
+pub extern "C" fn ulfm_failure_ack(handle: &mut Handle, comm: u16, acknowledged: &mut u16) -> i32
+    ensures calls { HandleCalls (PartyCalls (RankTells (λ r. FailureAck r comm) Acked acknowledged.new)) handle.old.party handle.new.party result }
+    ensures kept { result ≢ pos 0 → acknowledged.new ≡ acknowledged.old }
+{
+    match handle.party() {
+        None => NO_HANDLE,
+        Some(party) => party.failure_ack(comm, acknowledged),
+    }
+}
+
+/// Writes out the acknowledged failures of a communicator: of its failed group the first ranks, as many as the rank's calls have
+/// acknowledged. `ranks` gets as many as it has room for, and what is behind them in it is as it was; `count` gets how many there are. It
+/// makes the steps of a look, and takes memory for them while it runs. It is the call of the interface of 2013, which gives a group.
+///
+/// 1 where the rank is declared failed, 2 where it doesn't hold the communicator, 14 where memory is refused.
+#[unsafe(no_mangle)]
+pub extern "C" fn ulfm_failure_get_acked(
+    alloc: Global,
+    handle: &mut Handle,
+    comm: u16,
+    ranks: &mut [u16],
+    count: &mut usize,
+) -> i32
+    ensures calls { HandleCalls (PartyCalls (RankGets true comm (lent ranks.old ranks.new count.new))) handle.old.party handle.new.party result }
+    ensures kept { result ≢ pos 0 → (ranks.new ≡ ranks.old) × (count.new ≡ count.old) }
+{
+    match handle.party() {
+        None => NO_HANDLE,
+        Some(party) => party.failure_get_acked(alloc, comm, ranks, count),
     }
 }
 

@@ -1,10 +1,10 @@
 //! The parties of a world, its ranks and its outside, and their calls with the codes that C sees.
-ghost use Rattle.std.specs.Prelude.{◌≡◌, ◌≢◌, pos};
+ghost use Rattle.std.specs.Prelude.{◌≡◌, ◌≢◌, false, pos, true};
 ghost use Rattle.ulfm_c.specs.Calls.{PartyCalls, PartyFails, RankAgrees, RankDoes, RankGets, RankMisses, RankPolls, RankShrinks, RankTells};
 ghost use Rattle.ulfm_c.specs.Reads.{PartyReads, RankHolds, RankLists, RankShows};
 ghost use Rattle.ulfm_c.specs.Written.{Lists, lent};
 ghost use Rattle.ulfm_comm.specs.Revokes.{revoked};
-ghost use Rattle.ulfm_model.specs.declared.call.Call.TheVariants.{Ack, Barrier, Free, IsRevoked, Revoke};
+ghost use Rattle.ulfm_model.specs.declared.call.Call.TheVariants.{Ack, Barrier, FailureAck, Free, IsRevoked, Revoke};
 ghost use Rattle.ulfm_model.specs.declared.reply.Reply.TheVariants.{Acked, Freed, Standing, Started};
 
 use crate::code::{NOT_A_RANK, code_of, refusal_code};
@@ -136,13 +136,54 @@ impl Party {
         ranks: &mut [u16],
         count: &mut usize,
     ) -> i32
-        ensures calls { PartyCalls (RankGets comm (lent ranks.old ranks.new count.new)) self.old self.new result }
+        ensures calls { PartyCalls (RankGets false comm (lent ranks.old ranks.new count.new)) self.old self.new result }
         ensures kept { result ≢ pos 0 → (ranks.new ≡ ranks.old) × (count.new ≡ count.old) }
     {
         match self {
             Party::Rank(member) => {
                 let mut found = Vec::new(alloc);
                 match member.get_failed(comm, &mut found) {
+                    Ok(()) => {
+                        write_list(&found, ranks, count);
+                        0
+                    }
+                    Err(refusal) => refusal_code(refusal),
+                }
+            }
+            Party::Outside(_) => NOT_A_RANK,
+        }
+    }
+
+    pub(crate) fn failure_ack(&mut self, comm: u16, acknowledged: &mut u16) -> i32
+        ensures calls { PartyCalls (RankTells (λ r. FailureAck r comm) Acked acknowledged.new) self.old self.new result }
+        ensures kept { result ≢ pos 0 → acknowledged.new ≡ acknowledged.old }
+    {
+        match self {
+            Party::Rank(member) => match member.failure_ack(comm) {
+                Ok(told) => {
+                    *acknowledged = told;
+                    0
+                }
+                Err(refusal) => refusal_code(refusal),
+            },
+            Party::Outside(_) => NOT_A_RANK,
+        }
+    }
+
+    pub(crate) fn failure_get_acked(
+        &mut self,
+        alloc: Global,
+        comm: u16,
+        ranks: &mut [u16],
+        count: &mut usize,
+    ) -> i32
+        ensures calls { PartyCalls (RankGets true comm (lent ranks.old ranks.new count.new)) self.old self.new result }
+        ensures kept { result ≢ pos 0 → (ranks.new ≡ ranks.old) × (count.new ≡ count.old) }
+    {
+        match self {
+            Party::Rank(member) => {
+                let mut found = Vec::new(alloc);
+                match member.failure_get_acked(comm, &mut found) {
                     Ok(()) => {
                         write_list(&found, ranks, count);
                         0

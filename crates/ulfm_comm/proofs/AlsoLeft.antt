@@ -42,7 +42,9 @@ module _ {P : Type 0} (limits : Limits) (own new : Record) (seen : List ℕ) (as
       go : (asked : Call P) → BlocksStand own asked cached → BlocksStand new asked longer
       go (call.Fail rank) stand = tt
       go (call.GetFailed rank c) stand = tt
+      go (call.FailureGetAcked rank c) stand = tt
       go (call.Ack rank c count) stand = tt
+      go (call.FailureAck rank c) stand = tt
       go (call.Agree rank c value) stand = tt
       go (call.Shrink rank c) stand = tt
       go (call.Barrier rank c) stand = tt
@@ -354,7 +356,9 @@ also_begun {P} limits own asked f in_use more some =
         limits.comms (request_of (held_at own (comm_of asked))) asked
     by_call (call.Fail rank) = omega (arith, none)
     by_call (call.GetFailed rank c) = omega (arith, none)
+    by_call (call.FailureGetAcked rank c) = omega (arith, none)
     by_call (call.Ack rank c count) = omega (arith, none)
+    by_call (call.FailureAck rank c) = omega (arith, none)
     by_call (call.Agree rank c value) = omega (arith, none)
     by_call (call.Shrink rank c) = omega (arith, none)
     by_call (call.Barrier rank c) = omega (arith, none)

@@ -41,7 +41,9 @@ module _ {P : Type 0} (own : Record) (asked : Call P) where
       (request_of (held_at own (comm_of asked))) asked + again
   call_few (call.Fail rank) = omega (arith, enough)
   call_few (call.GetFailed rank c) = omega (arith, enough)
+  call_few (call.FailureGetAcked rank c) = omega (arith, enough)
   call_few (call.Ack rank c count) = omega (arith, enough)
+  call_few (call.FailureAck rank c) = omega (arith, enough)
   call_few (call.Agree rank c value) = omega (arith, enough)
   call_few (call.Shrink rank c) = omega (arith, enough)
   call_few (call.Barrier rank c) = omega (arith, enough)
@@ -76,7 +78,9 @@ module _ {P : Type 0} (own : Record) (asked : Call P) where
         ≤ also_call_bound 0 (length (group_of (held_at own (comm_of asked)))) own.limits.comms (request_of (held_at own (comm_of asked))) asked + again
     also_call_few (call.Fail rank) = omega arith
     also_call_few (call.GetFailed rank c) = omega arith
+    also_call_few (call.FailureGetAcked rank c) = omega arith
     also_call_few (call.Ack rank c count) = omega arith
+    also_call_few (call.FailureAck rank c) = omega arith
     also_call_few (call.Agree rank c value) = omega arith
     also_call_few (call.Shrink rank c) = omega arith
     also_call_few (call.Barrier rank c) = omega arith

@@ -62,7 +62,9 @@ poll_most N v n M (Some (Barrier k)) = omega arith
 call_most : {P : Type 0} (N v n M : ℕ) (request : Option Request) (asked : Call P) → call_bound N v n M request asked ≤ N + 5 * n + 2 * M + 4
 call_most N v n M request (call.Fail rank) = omega arith
 call_most N v n M request (call.GetFailed rank c) = omega arith
+call_most N v n M request (call.FailureGetAcked rank c) = omega arith
 call_most N v n M request (call.Ack rank c count) = omega arith
+call_most N v n M request (call.FailureAck rank c) = omega arith
 call_most N v n M request (call.Agree rank c value) = omega arith
 call_most N v n M request (call.Shrink rank c) = omega arith
 call_most N v n M request (call.Barrier rank c) = omega arith

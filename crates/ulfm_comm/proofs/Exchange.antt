@@ -59,7 +59,9 @@ pub is_starting : {P : Type 0} (meld : P → P → P) (limits : Limits) (asked :
     → IsStarting meld limits asked old x request offer
 is_starting meld limits (call.Fail rank) old x request offer passes starts = absurd starts
 is_starting meld limits (call.GetFailed rank c) old x request offer passes starts = absurd starts
+is_starting meld limits (call.FailureGetAcked rank c) old x request offer passes starts = absurd starts
 is_starting meld limits (call.Ack rank c count) old x request offer passes starts = absurd starts
+is_starting meld limits (call.FailureAck rank c) old x request offer passes starts = absurd starts
 is_starting meld limits (call.Agree rank c value) old x request offer passes starts =
     let late : Bool = nat_le old.limits.rounds (x.next_agreement + 1) in
     let others = passes_first (is_some x.request) Busy ((late, RoundsUsedUp) ∷ []) passes in

@@ -38,7 +38,9 @@ pub blocks_of : {P : Type 0} (own new : Record) (asked : Call P) (cached longer 
     → IsPrefix cached longer → BlocksStand own asked cached → BlocksStand new asked longer
 blocks_of own new (call.Fail rank) cached longer same begins stand = tt
 blocks_of own new (call.GetFailed rank c) cached longer same begins stand = tt
+blocks_of own new (call.FailureGetAcked rank c) cached longer same begins stand = tt
 blocks_of own new (call.Ack rank c count) cached longer same begins stand = tt
+blocks_of own new (call.FailureAck rank c) cached longer same begins stand = tt
 blocks_of own new (call.Agree rank c value) cached longer same begins stand = tt
 blocks_of own new (call.Shrink rank c) cached longer same begins stand = tt
 blocks_of own new (call.Barrier rank c) cached longer same begins stand = tt
@@ -148,7 +150,9 @@ refused_stand {P} own x (call.Poll rank c) refusal cached held is = λ y shrinks
     absurd (cc other)
 refused_stand own x (call.Fail rank) refusal cached held is = tt
 refused_stand own x (call.GetFailed rank c) refusal cached held is = tt
+refused_stand own x (call.FailureGetAcked rank c) refusal cached held is = tt
 refused_stand own x (call.Ack rank c count) refusal cached held is = tt
+refused_stand own x (call.FailureAck rank c) refusal cached held is = tt
 refused_stand own x (call.Agree rank c value) refusal cached held is = tt
 refused_stand own x (call.Shrink rank c) refusal cached held is = tt
 refused_stand own x (call.Barrier rank c) refusal cached held is = tt

@@ -8,21 +8,21 @@ use Rattle.ulfm_model.specs.declared.{call.Call.{Call}, call.Request.{Request}, 
 use Rattle.ulfm_model.specs.declared.{contribution.Offer.TheVariants.{Flag, Ctx}, event.Caller.TheVariants.{Rank}, refusal.Refusal.{Refusal}}
 use Rattle.ulfm_model.specs.declared.{refusal.Refusal.TheVariants.{Idle, NoSuchComm, SelfFailed, Twice}, reply.Reply.{Reply}}
 use Rattle.ulfm_model.specs.declared.reply.Reply.TheVariants.{Acked, FailedGroup, Freed, Pending, Refused}
-use Rattle.ulfm_model.specs.{Answers.{Effect, first_refusal, printed, left_with, traits_of}, Answers.Effect.{Keeps}, History.{failures, has}}
+use Rattle.ulfm_model.specs.{Answers.{Effect, first_refusal, most_failures, printed, left_with, traits_of}, Answers.Effect.{Keeps}, History.{failures, has}}
 use Rattle.ulfm_model.specs.{Records.{Fits, Held, Record, free_ids, held_at, with_held}, Runs.{Did}}
 use Rattle.ulfm_model.specs.Terms.{comm_of, request_of, tests_of}
 use Rattle.ulfm_words.specs.Steps.{IsView, Over, Sight, view_at}
 use Rattle.ulfm_words.proofs.{Ranks.{failures_le, full_has}, Trails.{did_none, did_prefix}}
 use Rattle.std.proofs.lemmas.{Bool.{eqb-false}, List.{length-take, take-append-drop}}
 use mathlib.Core.List.{IsPrefix}
-use Rattle.ulfm_model.proofs.{Histories.{failures_begin}, Lists.{length_prefix, prefix_trans}}
+use Rattle.ulfm_model.proofs.{Histories.{failures_begin}, Marking.{failed_few}, Lists.{length_prefix, prefix_trans}}
 use Rattle.ulfm_model.specs.Records.{moment}
 use Rattle.ulfm_steps.proofs.Looking.{full_found}
 use Rattle.ulfm_steps.specs.Looks.{LookIs}
 use Rattle.ulfm_comm.specs.{Calls.{Linearizes, RepliedAs, is_out_of_memory, wants_memory}, Phase.{Answered, Stands}, Look.{HasLooked, JustLooked}}
-use Rattle.ulfm_comm.specs.Exchange.{StartsWith}
+use Rattle.ulfm_comm.specs.{Ends.{IsEndRun}, Exchange.{StartsWith}}
 use Rattle.ulfm_comm.specs.declared.phases.phase.Phase.TheVariants.{Begun, Looking}
-use Rattle.ulfm_comm.proofs.{Acks.{ack_failed_is, get_failed_is}, CallRuns.{calls_declared, calls_is, calls_missing, looked_fits}, Frees.{calls_freed}}
+use Rattle.ulfm_comm.proofs.{Acks.{ack_failed_is, failure_ack_is, get_acked_is, get_failed_is}, CallRuns.{calls_declared, calls_is, calls_missing, looked_fits}, Frees.{calls_freed}}
 use Rattle.ulfm_comm.proofs.{WholeCall.{held_before, refused}, Refusals.{by_tests}}
 use Rattle.ulfm_comm.specs.Local.{frame, local}
 
@@ -37,7 +37,9 @@ IsMild test = ((printed test.1).2 ≡ Keeps) × (is_out_of_memory test.1 ≡ fal
 mild_tests : {P : Type 0} (own : Record) (x : Held) (asked : Call P) → AllByRecursion IsMild (tests_of own x asked)
 mild_tests own x (call.Fail rank) = tt
 mild_tests own x (call.GetFailed rank c) = tt
+mild_tests own x (call.FailureGetAcked rank c) = tt
 mild_tests own x (call.Ack rank c count) = tt
+mild_tests own x (call.FailureAck rank c) = tt
 mild_tests own x (call.Agree rank c value) = ((refl, refl, refl), ((refl, refl, refl), tt))
 mild_tests own x (call.Shrink rank c) = ((refl, refl, refl), ((refl, refl, refl), ((refl, refl, refl), tt)))
 mild_tests own x (call.Barrier rank c) = ((refl, refl, refl), ((refl, refl, refl), tt))
@@ -57,7 +59,9 @@ mild_first ((false, first) ∷ tests) refusal all is = mild_first tests refusal 
 pub tests_same : {P : Type 0} (own : Record) (seen : List ℕ) (x : Held) (asked : Call P) → tests_of (record own { seen = seen }) x asked ≡ tests_of own x asked
 tests_same own seen x (call.Fail rank) = refl
 tests_same own seen x (call.GetFailed rank c) = refl
+tests_same own seen x (call.FailureGetAcked rank c) = refl
 tests_same own seen x (call.Ack rank c count) = refl
+tests_same own seen x (call.FailureAck rank c) = refl
 tests_same own seen x (call.Agree rank c value) = refl
 tests_same own seen x (call.Shrink rank c) = refl
 tests_same own seen x (call.Barrier rank c) = refl
@@ -76,7 +80,9 @@ idle_poll own x (call.Poll rank c) refusal polls is = by_request x.request is
     by_request (Some request) is = absurd (cc is)
 idle_poll own x (call.Fail rank) refusal polls is = absurd (cc polls)
 idle_poll own x (call.GetFailed rank c) refusal polls is = absurd (cc polls)
+idle_poll own x (call.FailureGetAcked rank c) refusal polls is = absurd (cc polls)
 idle_poll own x (call.Ack rank c count) refusal polls is = absurd (cc polls)
+idle_poll own x (call.FailureAck rank c) refusal polls is = absurd (cc polls)
 idle_poll own x (call.Agree rank c value) refusal polls is = absurd (cc polls)
 idle_poll own x (call.Shrink rank c) refusal polls is = absurd (cc polls)
 idle_poll own x (call.Barrier rank c) refusal polls is = absurd (cc polls)
@@ -135,26 +141,59 @@ module _ {P : Type 0} (meld : P → P → P) (alone : Bool) (name : Over P) (ask
 
 module _ {P : Type 0} (meld : P → P → P) (alone : Bool) (name : Over P) (rank c : ℕ) (old : Record) (before : Sight P) (mid : Record) (now : Sight P)
     (of : IsView meld (view_at name now)) (x : Held) (held : held_at mid c ≡ Some x) where
-  -- so many ranks have failed
-  pub just_counted : (n : ℕ) → n ≡ length (filter (has x.group) mid.seen) → JustLooked meld alone (call.GetFailed rank c) (local old (view_at name before)) (local mid (view_at name now))
+  -- a call that only looks, by its run
+  looked_only : (asked : Call P) (reply : Reply P) (new : Record) → wants_memory reply ≡ false → (reply ≡ Pending → ⊥) → (reply ≡ Refused Twice → ⊥)
+      → JustLooked meld alone asked (local old (view_at name before)) (local mid (view_at name now))
+      → IsEndRun meld name.limits alone (moment old before.seen) asked reply (moment new now.seen)
+      → Answered meld alone asked (local old (view_at name before)) reply (local new (view_at name now))
+  looked_only asked reply new none waits twice j run =
+      answered_by meld alone name asked old before new now reply none waits
+      (calls_is meld alone name before now j.onward asked old reply new of j.fits (λ is no. absurd (twice is)) run)
+
+  -- what was seen is what the look found
+  seen_is : (asked : Call P) → JustLooked meld alone asked (local old (view_at name before)) (local mid (view_at name now))
+      → filter (has x.group) mid.seen ≡ filter (has x.group) (failures now.seen)
+  seen_is asked j = ap (λ (w : Record). filter (has x.group) w.seen) j.looked.record_is
+
+  -- so many ranks have failed; no world has more than may be counted
+  pub just_counted : (n : ℕ) → n ≡ min most_failures (length (filter (has x.group) mid.seen)) → JustLooked meld alone (call.GetFailed rank c) (local old (view_at name before)) (local mid (view_at name now))
       → Answered meld alone (call.GetFailed rank c) (local old (view_at name before)) (FailedGroup n) (local mid (view_at name now))
   just_counted n is j =
-      answered_by meld alone name (call.GetFailed rank c) old before mid now (FailedGroup n) refl (λ same. absurd (cc same))
-      (calls_is meld alone name before now j.onward (call.GetFailed rank c) old (FailedGroup n) mid of j.fits (λ is no. absurd (cc (is, no)))
+      let seen = ap length (seen_is (call.GetFailed rank c) j) in
+      let few = failed_few meld name.limits now.seen x.group of.legal in
+      let counted : n ≡ length (filter (has x.group) (failures now.seen)) = omega (arith, is, seen, few, of.may_open.in_range.ranks) in
+      looked_only (call.GetFailed rank c) (FailedGroup n) mid refl (λ same. absurd (cc same)) (λ same. absurd (cc same)) j
       (get_failed_is meld name.limits alone before.seen now.seen old mid j.looked of.legal
-      (just_fits meld alone name (call.GetFailed rank c) old before mid now j of) rank c x held n mid
-      (is ∙ ap (λ (w : Record). length (filter (has x.group) w.seen)) j.looked.record_is) refl))
+      (just_fits meld alone name (call.GetFailed rank c) old before mid now j of) rank c x held n counted)
 
-  -- so many are acknowledged
+  -- so many of them are acknowledged
+  pub just_listed : (n : ℕ) → n ≡ min x.acked (length (filter (has x.group) mid.seen)) → JustLooked meld alone (call.FailureGetAcked rank c) (local old (view_at name before)) (local mid (view_at name now))
+      → Answered meld alone (call.FailureGetAcked rank c) (local old (view_at name before)) (FailedGroup n) (local mid (view_at name now))
+  just_listed n is j =
+      looked_only (call.FailureGetAcked rank c) (FailedGroup n) mid refl (λ same. absurd (cc same)) (λ same. absurd (cc same)) j
+      (get_acked_is meld name.limits alone before.seen now.seen old mid j.looked of.legal
+      (just_fits meld alone name (call.FailureGetAcked rank c) old before mid now j of) rank c x held n
+      (is ∙ (ap (λ group. min x.acked (length group)) (seen_is (call.FailureGetAcked rank c) j) ∙ sym (length-take x.acked (filter (has x.group) (failures now.seen))))))
+
+  -- so many are acknowledged now
   pub just_acked : (count n : ℕ) (new : Record) → n ≡ max x.acked (min count (length (filter (has x.group) mid.seen)))
       → new ≡ with_held mid c (λ y. record y { acked = n }) → JustLooked meld alone (call.Ack rank c count) (local old (view_at name before)) (local mid (view_at name now))
       → Answered meld alone (call.Ack rank c count) (local old (view_at name before)) (Acked n) (local new (view_at name now))
   just_acked count n new is left j =
-      answered_by meld alone name (call.Ack rank c count) old before new now (Acked n) refl (λ same. absurd (cc same))
-      (calls_is meld alone name before now j.onward (call.Ack rank c count) old (Acked n) new of j.fits (λ is no. absurd (cc (is, no)))
+      looked_only (call.Ack rank c count) (Acked n) new refl (λ same. absurd (cc same)) (λ same. absurd (cc same)) j
       (ack_failed_is meld name.limits alone before.seen now.seen old mid j.looked of.legal
       (just_fits meld alone name (call.Ack rank c count) old before mid now j of) rank c x held count n new
-      (is ∙ ap (λ (w : Record). max x.acked (min count (length (filter (has x.group) w.seen)))) j.looked.record_is) left))
+      (is ∙ ap (λ group. max x.acked (min count (length group))) (seen_is (call.Ack rank c count) j)) left)
+
+  -- .. where all are asked for
+  pub just_acked_all : (n : ℕ) (new : Record) → n ≡ max x.acked (min most_failures (length (filter (has x.group) mid.seen)))
+      → new ≡ with_held mid c (λ y. record y { acked = n }) → JustLooked meld alone (call.FailureAck rank c) (local old (view_at name before)) (local mid (view_at name now))
+      → Answered meld alone (call.FailureAck rank c) (local old (view_at name before)) (Acked n) (local new (view_at name now))
+  just_acked_all n new is left j =
+      looked_only (call.FailureAck rank c) (Acked n) new refl (λ same. absurd (cc same)) (λ same. absurd (cc same)) j
+      (failure_ack_is meld name.limits alone before.seen now.seen old mid j.looked of.legal
+      (just_fits meld alone name (call.FailureAck rank c) old before mid now j of) rank c x held n new
+      (is ∙ ap (λ group. max x.acked (min most_failures (length group))) (seen_is (call.FailureAck rank c) j)) left)
 
   -- the communicator is given back
   pub just_freed : (new : Record) → first_refusal (tests_of {P = P} mid x (call.Free rank c)) ≡ None

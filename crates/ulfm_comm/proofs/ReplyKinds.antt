@@ -20,7 +20,9 @@ use Rattle.ulfm_comm.specs.Replies.{IsOfKind, Kind}
 abbrev pub IsKind : {P : Type 0} → Call P → Reply P → Type 0
 IsKind (call.Fail rank) reply = ⊤
 IsKind (call.GetFailed rank c) reply = IsOfKind Kind.Counts reply
+IsKind (call.FailureGetAcked rank c) reply = IsOfKind Kind.Counts reply
 IsKind (call.Ack rank c count) reply = IsOfKind Kind.Acknowledges reply
+IsKind (call.FailureAck rank c) reply = IsOfKind Kind.Acknowledges reply
 IsKind (call.Agree rank c value) reply = IsOfKind Kind.Starts reply
 IsKind (call.Shrink rank c) reply = IsOfKind Kind.Starts reply
 IsKind (call.Barrier rank c) reply = IsOfKind Kind.Starts reply
@@ -76,7 +78,9 @@ module _ {P : Type 0} (meld : P → P → P) (limits : Limits) (view : AtPoint P
   pub replies_kind : (asked : Call P) → Replies meld limits view old x asked reply → IsKind asked reply
   replies_kind (call.Fail rank) replies = tt
   replies_kind (call.GetFailed rank c) replies = subst (IsOfKind Kind.Counts) (sym replies.1) tt
+  replies_kind (call.FailureGetAcked rank c) replies = subst (IsOfKind Kind.Counts) (sym replies.1) tt
   replies_kind (call.Ack rank c count) replies = subst (IsOfKind Kind.Acknowledges) (sym replies.1) tt
+  replies_kind (call.FailureAck rank c) replies = subst (IsOfKind Kind.Acknowledges) (sym replies.1) tt
   replies_kind (call.Agree rank c value) replies = start_kind (Flag value) replies
   replies_kind (call.Shrink rank c) replies = start_kind (Ctx (free_ids old.held)) replies
   replies_kind (call.Barrier rank c) replies = either_kind (IsOfKind Kind.Starts) Started (Refused Twice) tt tt replies.1
@@ -91,7 +95,9 @@ module _ {P : Type 0} (meld : P → P → P) (limits : Limits) (view : AtPoint P
       → Sees (is_shrink (polled_by old asked)) view.look after seen → seen ≡ failures view.history
   by_asked (call.Fail rank) x replies sees = absurd replies
   by_asked (call.GetFailed rank c) x replies sees = sees ∙ sym replies.0
+  by_asked (call.FailureGetAcked rank c) x replies sees = sees ∙ sym replies.0
   by_asked (call.Ack rank c count) x replies sees = absurd (cc (replies.1))
+  by_asked (call.FailureAck rank c) x replies sees = absurd (cc (replies.1))
   by_asked (call.Agree rank c value) x replies sees = absurd (replies_kind meld limits view old x (FailedGroup count) (call.Agree rank c value) replies)
   by_asked (call.Shrink rank c) x replies sees = absurd (replies_kind meld limits view old x (FailedGroup count) (call.Shrink rank c) replies)
   by_asked (call.Barrier rank c) x replies sees = absurd (replies_kind meld limits view old x (FailedGroup count) (call.Barrier rank c) replies)

@@ -268,7 +268,9 @@ begun_bound {P} limits own asked in_use more =
         (length (group_of (held_at own (comm_of asked)))) limits.comms (request_of (held_at own (comm_of asked))) asked
     by_call (call.Fail rank) = omega (arith, more)
     by_call (call.GetFailed rank c) = omega (arith, more)
+    by_call (call.FailureGetAcked rank c) = omega (arith, more)
     by_call (call.Ack rank c count) = omega (arith, more)
+    by_call (call.FailureAck rank c) = omega (arith, more)
     by_call (call.Agree rank c value) = omega (arith, more)
     by_call (call.Shrink rank c) = omega (arith, more)
     by_call (call.Barrier rank c) = omega (arith, more)

@@ -35,7 +35,9 @@ reply_unspread meld limits view old x (call.Agree rank c value) reply starts fin
 reply_unspread meld limits view old x (call.Shrink rank c) reply starts finds is = start_unspread view old x (Ctx (free_ids old.held)) reply finds is
 reply_unspread meld limits view old x (call.Fail rank) reply starts finds is = absurd (cc starts)
 reply_unspread meld limits view old x (call.GetFailed rank c) reply starts finds is = absurd (cc starts)
+reply_unspread meld limits view old x (call.FailureGetAcked rank c) reply starts finds is = absurd (cc starts)
 reply_unspread meld limits view old x (call.Ack rank c count) reply starts finds is = absurd (cc starts)
+reply_unspread meld limits view old x (call.FailureAck rank c) reply starts finds is = absurd (cc starts)
 reply_unspread meld limits view old x (call.Barrier rank c) reply starts finds is = absurd (cc starts)
 reply_unspread meld limits view old x (call.Poll rank c) reply starts finds is = absurd (cc starts)
 reply_unspread meld limits view old x (call.Revoke rank c) reply starts finds is = absurd (cc starts)

@@ -18,7 +18,9 @@ poll_bound N v n M (Some (Barrier k)) = N - v + n + 1
 -- the same of any call, on a communicator where this request is open; a declaration is no call of a rank
 abbrev pub call_bound : {P : Type 0} → ℕ → ℕ → ℕ → ℕ → Option Request → Call P → ℕ
 call_bound N v n M request (call.GetFailed rank c) = N - v
+call_bound N v n M request (call.FailureGetAcked rank c) = N - v
 call_bound N v n M request (call.Ack rank c count) = N - v
+call_bound N v n M request (call.FailureAck rank c) = N - v
 call_bound N v n M request (call.Free rank c) = N - v
 call_bound N v n M request (call.Agree rank c value) = N - v + 2
 call_bound N v n M request (call.Shrink rank c) = N - v + 2
@@ -47,7 +49,9 @@ also_poll_bound f n M (Some (Barrier k)) = f + n + 2
 -- the second bound of any call, likewise
 abbrev pub also_call_bound : {P : Type 0} → ℕ → ℕ → ℕ → Option Request → Call P → ℕ
 also_call_bound f n M request (call.GetFailed rank c) = f + 1
+also_call_bound f n M request (call.FailureGetAcked rank c) = f + 1
 also_call_bound f n M request (call.Ack rank c count) = f + 1
+also_call_bound f n M request (call.FailureAck rank c) = f + 1
 also_call_bound f n M request (call.Free rank c) = f + 1
 also_call_bound f n M request (call.Agree rank c value) = f + 3
 also_call_bound f n M request (call.Shrink rank c) = f + 3

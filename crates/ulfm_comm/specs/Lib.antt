@@ -1,4 +1,5 @@
 pub mod Local
+pub mod Queries
 pub mod Requests
 pub mod Wings
 pub mod Look

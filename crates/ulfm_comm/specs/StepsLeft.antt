@@ -57,7 +57,9 @@ polling limits n (Some (Barrier k)) = n + 1
 abbrev pub behind : {P : Type 0} → ℕ → Call P → ℕ
 behind polls (call.Fail rank) = 0
 behind polls (call.GetFailed rank c) = 0
+behind polls (call.FailureGetAcked rank c) = 0
 behind polls (call.Ack rank c count) = 0
+behind polls (call.FailureAck rank c) = 0
 behind polls (call.Agree rank c value) = 2
 behind polls (call.Shrink rank c) = 2
 behind polls (call.Barrier rank c) = 1

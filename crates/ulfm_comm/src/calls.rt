@@ -3,6 +3,8 @@ mod ack;
 mod agree;
 mod barrier;
 mod fail;
+mod failure_ack;
+mod failure_get_acked;
 mod free;
 mod get_failed;
 mod is_revoked;

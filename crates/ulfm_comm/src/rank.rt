@@ -1,10 +1,10 @@
 // A rank: what it keeps between its calls, as the communicators that it holds and the failures that it has seen; and
 // what a user may ask of that.
 ghost use Rattle.std.specs.Prelude.{◌≡◌, ◌≢◌, ◌<◌, ◌≤◌, ◌+◌, ◌-◌, ◌==◌, ℕ, [], true, false, filter, length, map, nat_eq, not, take, Some, None};
-ghost use Rattle.std.specs.Prelude.{MatchOption, IfOk};
-ghost use Rattle.std.specs.List.{IsDistinct};
+ghost use Rattle.std.specs.Prelude.{MatchOption, IfOk, OnErr, vec_capacity};
+ghost use Rattle.std.specs.List.{IsDistinct, Sorted.{IsStrictlyIncreasing}};
 ghost use mathlib.Core.List.{IsPrefix};
-ghost use Rattle.ulfm_model.specs.{Records.{Held, free_ids, held_at, new_record, with_held}, History.{failures, first_ranks, without}, Words.{MayOpen}};
+ghost use Rattle.ulfm_model.specs.{Records.{Held, free_ids, held_at, new_record, with_held}, History.{failures, first_ranks, has, without}, Words.{MayOpen}};
 ghost use Rattle.ulfm_model.specs.{Answers.{closed, first_refusal, opened}, Terms.{request_of, tests_of}};
 ghost use Rattle.ulfm_words.specs.Steps.{view_of, IsView, Goes};
 ghost use Rattle.ulfm_steps.specs.{Looks.{LookIs, LookTakes}, ReadsOn.{AtFailure, MayReadOn, ReadOnTakes}};
@@ -26,7 +26,7 @@ use ulfm_model::limits::Limits;
 use ulfm_model::refusal::Refusal;
 use ulfm_record::held::{self, HeldComm, place_of, refusal_on, take_in};
 use ulfm_record::ids::free_ids;
-use ulfm_steps::group::without;
+use ulfm_steps::group::{make_room, put_in, without};
 use ulfm_steps::{Append, Look, ReadOn};
 use ulfm_words::Words;
 
@@ -122,6 +122,29 @@ impl<P: Packed, A: Allocator> LocalState<P, A> {
             // Its callers know that the rank holds it, since the look of their call.
             None => unreachable!(),
         }
+    }
+
+    // Puts those of the first so many failures that were seen into a vector that are members of a communicator which it holds. What
+    // the vector held is dropped. It fails only where memory is refused; then the vector is as it was.
+    pub(crate) fn put_failed<B: Allocator>(
+        &self,
+        comm: u16,
+        reach: usize,
+        found: &mut Vec<u16, B>,
+    ) -> Result<(), AllocError>
+        requires held { (x : Held) × (held_at self.now comm ≡ Some x) × IsStrictlyIncreasing x.group }
+        requires within { reach ≤ length self.now.seen }
+        ensures group { IfOk result (λ _. (x : Held) → held_at self.now comm ≡ Some x → found.new.items ≡ filter (has x.group) (take reach self.now.seen)) }
+        ensures kept { OnErr result (found.new.items ≡ found.old.items) }
+        ensures lacks { OnErr result ((x : Held) → held_at self.now comm ≡ Some x
+            → vec_capacity found.old < length (filter (has x.group) (take reach self.now.seen))) }
+    {
+        let x = self.held_comm(comm);
+        let seen = &self.failures()[..reach];
+        make_room(&x.group, seen, found)?;
+        found.clear();
+        put_in(&x.group, seen, found);
+        Ok(())
     }
 
     // Whether it was refused for good.

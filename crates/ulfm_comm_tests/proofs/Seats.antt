@@ -7,7 +7,7 @@ use Rattle.ulfm_model.proofs.{LeftRuns.{call_legal, fail_legal}, Lists.{each_fro
 use Rattle.ulfm_words.specs.Steps.{view_at, IsView, Over, Sight}
 use Rattle.ulfm_words.proofs.Trails.{did_prefix, did_wait}
 use Rattle.ulfm_comm.specs.{Calls.{Calls, RepliedAs, HasReplied, wants_memory}, Fails.{Fails}, Ends.{IsRefusedAgain}}
-use Rattle.ulfm_comm.specs.{Counts.{Counted}, Phase.{Answered, Stands, UnderWay, Waits, next_of, reply_in}, Step.{Stepped}}
+use Rattle.ulfm_comm.specs.{Counts.{Counted}, Phase.{Answered, Idles, Stands, UnderWay, Waits, next_of, reply_in}, Step.{Stepped}}
 use Rattle.ulfm_comm.proofs.{StepAdds.{step_did}, CallRuns.{called_run}, InOrder.{each_set}, AmongOthers.{did_among, waits_none}}
 use Rattle.ulfm_comm_tests.specs.Playing.{HasStood, IsPlay, Playing, Plays}
 use Rattle.ulfm_comm.specs.Local.{local}
@@ -26,19 +26,19 @@ module _ {P : Type 0} (meld : P → P → P) (name : Over P) where
 
   -- more has come
   waits_on : (stood now after : Sight P) → Waits false stood now → Waits false now after → Waits false stood after
-  waits_on stood now after p q = record { did = did_wait false [] stood.seen now.seen after.seen p.did q.did; onward = omega (arith, p.onward, q.onward) }
+  waits_on stood now after p q = record { did = did_wait false [] stood.seen now.seen after.seen p.did q.did; cached = prefix_trans stood.cached now.cached after.cached p.cached q.cached; onward = omega (arith, p.onward, q.onward) }
 
   -- for the others a rank's steps are others' events
   pub step_waits : (quiet : Bool) (was : UnderWay P) (own : Record) (now : Sight P) (reply : Option (Reply P)) (is : UnderWay P) (new : Record) (after : Sight P) → Stepped meld quiet was (local own (view_at name now)) (next_of reply is.phase) (local new (view_at name after)) → Waits false now after
   step_waits quiet was own now reply is new after step =
       let did = step_did quiet own was.asked (reply_in (next_of reply is.phase)) now.seen after.seen was.phase step.adds in
-      record { did = did_among now.seen after.seen (did_prefix quiet (entries_by (Rank own.number) did.0) now.seen after.seen did.1); onward = step.onward }
+      record { did = did_among now.seen after.seen (did_prefix quiet (entries_by (Rank own.number) did.0) now.seen after.seen did.1); cached = step.cached; onward = step.onward }
 
   -- and so are those of a whole call
   pub call_waits : (quiet : Bool) (asked : Call P) (own : Record) (now : Sight P) (reply : Reply P) (new : Record) (after : Sight P) → IsLegal meld name.limits now.seen → Calls meld quiet asked (local own (view_at name now)) reply (local new (view_at name after)) → Waits false now after
   call_waits quiet asked own now reply new after legal called =
       let run = called_run meld quiet name asked own now reply new after called in
-      record { did = did_among now.seen after.seen (call_legal meld name.limits quiet now.seen after.seen own asked reply new legal run).0; onward = called.linearizes.onward }
+      record { did = did_among now.seen after.seen (call_legal meld name.limits quiet now.seen after.seen own asked reply new legal run).0; cached = called.blocks.cached; onward = called.linearizes.onward }
 
   -- a call that has just begun
   pub stood_first : (own : Record) (now : Sight P) (doing : Counted P) → Stands meld false (local own (view_at name now)) doing.way (local own (view_at name now)) → HasStood meld name own now doing
@@ -66,7 +66,7 @@ module _ {P : Type 0} (meld : P → P → P) (name : Over P) where
         → ((old : Record) (before stood : Sight P) → Stands meld false (local old (view_at name before)) doing.way (local own (view_at name stood)) → Waits false stood now → Answered meld false asked (local old (view_at name before)) reply (local own' (view_at name after))) → Fits meld name.limits after.seen own'
     answered_fits own' asked reply legal turns = go (turns was.old was.before was.stood was.stands was.waits).ends
       where
-        go : (IsRefusedAgain was.old reply own' × Waits false was.before after) ⊎ HasReplied meld false asked (local was.old (view_at name was.before)) reply (local own' (view_at name after)) → Fits meld name.limits after.seen own'
+        go : (IsRefusedAgain was.old reply own' × Idles false was.before after) ⊎ HasReplied meld false asked (local was.old (view_at name was.before)) reply (local own' (view_at name after)) → Fits meld name.limits after.seen own'
         go (inl (again, waited)) = subst (λ r. Fits meld name.limits after.seen r) (sym again.record_is) (fits_stays meld name.limits was.before.seen after.seen was.old still_begins legal was.stands.fits)
         go (inr ends) = ends_fit asked reply was.old own' was.before (wants_memory reply) ends
 
@@ -85,7 +85,7 @@ module _ {P : Type 0} (meld : P → P → P) (name : Over P) where
   -- a rank is declared
   pub play_failed : (now after : Sight P) (seats : List (Playing P)) (quiet : Bool) (rank : ℕ) (reply : Reply P) → IsPlay meld name now seats → Fails meld quiet rank (view_at name now) reply (view_at name after) → IsPlay meld name after seats
   play_failed now after seats quiet rank reply play fails =
-      play_on now after seats play fails.of (record { did = did_among now.seen after.seen (fail_legal meld name.limits quiet now.seen after.seen rank reply fails.run).0; onward = fails.onward })
+      play_on now after seats play fails.of (record { did = did_among now.seen after.seen (fail_legal meld name.limits quiet now.seen after.seen rank reply fails.run).0; cached = fails.cached; onward = fails.onward })
 
   -- one of them has made its step
   pub play_next : (now after : Sight P) (seats : List (Playing P)) (i : ℕ) (seat : Playing P) → IsPlay meld name now seats → IsView meld (view_at name after) → Waits false now after → Plays meld name after seat → IsPlay meld name after (set seats i seat)

@@ -2,6 +2,8 @@
 #![tactic(auto)]
 
 #[cfg(test)]
+mod acknowledging;
+#[cfg(test)]
 mod calls;
 #[cfg(test)]
 mod jobs;

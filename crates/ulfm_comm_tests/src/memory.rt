@@ -50,10 +50,12 @@ fn rest_of<'a>(
 #[test]
 fn beginning_takes_no_memory(rt: HostRuntime) -> Result<(), Fail> {
     let heap = LocalHeap::new(rt.alloc(), 1 << 16)?;
-    let mut play = open(&heap, limits(9, 2))?;
+    let mut play = open(&heap, limits(11, 2))?;
     let verbs = [
         Verb::Get,
+        Verb::GetAcked,
         Verb::Ack(1),
+        Verb::AckAll,
         Verb::Agree(FlagAnd { bits: 1 }),
         Verb::Shrink,
         Verb::Barrier,

@@ -25,7 +25,9 @@ use ulfm_words::{OpenWords, Step, Words};
 #[derive(Clone, Copy, Debug)]
 pub(crate) enum Verb<P> {
     Get,
+    GetAcked,
     Ack(u16),
+    AckAll,
     Agree(P),
     Shrink,
     Barrier,
@@ -41,7 +43,9 @@ pub(crate) fn call_of<P: Packed>(rank: u16, comm: u16, verb: Verb<P>) -> Call<P>
 {
     match verb {
         Verb::Get => Call::GetFailed { rank, comm },
+        Verb::GetAcked => Call::FailureGetAcked { rank, comm },
         Verb::Ack(count) => Call::Ack { rank, comm, count },
+        Verb::AckAll => Call::FailureAck { rank, comm },
         Verb::Agree(value) => Call::Agree { rank, comm, value },
         Verb::Shrink => Call::Shrink { rank, comm },
         Verb::Barrier => Call::Barrier { rank, comm },

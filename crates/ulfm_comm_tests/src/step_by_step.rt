@@ -224,6 +224,34 @@ fn reads_on_after_its_look(rt: HostRuntime) -> Result<(), Fail> {
 }
 
 #[test]
+fn acknowledging_looks_alone(rt: HostRuntime) -> Result<(), Fail> {
+    let moves = [
+        Move::Fail(2),
+        Move::Begin(0, 0, Verb::AckAll),
+        // One load has found rank 2, and the look goes on until it finds no more.
+        Move::Step(0, None),
+        Move::Fail(1),
+        Move::FinishBy(0, &[List, List], Reply::Acked { count: 2 }),
+        Move::Fail(3),
+        Move::Begin(0, 0, Verb::GetAcked),
+        Move::Step(0, None),
+        Move::Next(0, Some(List)),
+        Move::Step(0, Some(Reply::FailedGroup { count: 2 })),
+        Move::Group(0, 0, 2, &[2, 1]),
+        Move::Call(
+            0,
+            1,
+            Verb::GetAcked,
+            &[List],
+            Reply::Refused(Refusal::NoSuchComm),
+        ),
+        Move::Call(3, 0, Verb::AckAll, &[List; 4], FAILED),
+    ];
+    let mut play = open(rt.alloc(), limits(5, 1, 2))?;
+    goes(&rt, rt.alloc(), &mut play, &moves)
+}
+
+#[test]
 fn names_in_order(rt: HostRuntime) -> Result<(), Fail> {
     let group = Reply::FailedGroup { count: 2 };
     // The first look finds two, and each later one begins behind them.

@@ -3,7 +3,7 @@ use Rattle.std.proofs.Common.{◌≡◌, refl, codes, true, false, List, [], ◌
 use Rattle.clap.specs.Words.{fault_of, is_simple_and_free, is_simple}
 use Rattle.clap.specs.declared.error.kind.ErrorKind.TheVariants.{MissingRequiredArgument, MissingSubcommand, UnknownArgument, InvalidSubcommand, ValueValidation}
 use Rattle.clap.proofs.OnLiterals.{clap_on_literals}
-use Rattle.ulfm_command.specs.CommandLines.{AsksCheck, AsksDraw, AsksEcho, AsksExplain, AsksExplore, AsksHelp, AsksRun, AsksSteps, AsksVersion, ulfm}
+use Rattle.ulfm_command.specs.CommandLines.{AsksCheck, AsksDraw, AsksEcho, AsksExplain, AsksExplore, AsksHelp, AsksMigrate, AsksRun, AsksSteps, AsksVersion, ulfm}
 
 -- the command is one whose faults and matches the command line crate tells
 pub is_told : is_simple_and_free ulfm ≡ true
@@ -28,6 +28,11 @@ echo_is_echo name = (refl, record { calls = record { rows = _; is_run = refl; st
 steps_are_steps : (name : List ℕ) → AsksSteps (name ∷ codes "run" ∷ codes "--steps" ∷ [])
 unfolding clap_on_literals
 steps_are_steps name = (refl, record { rows = _; is_run = refl; steps_is = refl })
+
+-- `ulfm migrate`
+migrate_is_migrate : (name : List ℕ) → AsksMigrate (name ∷ codes "migrate" ∷ [])
+unfolding clap_on_literals
+migrate_is_migrate name = (refl, (_, refl))
 
 -- `ulfm check`
 check_is_check : (name : List ℕ) → AsksCheck (name ∷ codes "check" ∷ [])

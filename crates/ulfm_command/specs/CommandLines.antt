@@ -11,7 +11,7 @@ use Rattle.clap.specs.declared.builder.value_parser.ValueParser.{ValueParser}
 use Rattle.clap.specs.declared.builder.value_parser.ValueParser.TheVariants as vp
 use Rattle.clap.specs.declared.error.kind.ErrorKind.TheVariants.{DisplayHelp, DisplayVersion}
 use Rattle.ulfm_command.specs.declared.asked.Asked.{Asked}
-use Rattle.ulfm_command.specs.declared.asked.Asked.TheVariants.{Run, RunEchoed, RunSteps, Check, Explain, Draw, Explore, Race, Shown, Bad, Memory}
+use Rattle.ulfm_command.specs.declared.asked.Asked.TheVariants.{Run, RunEchoed, RunSteps, Migrate, Check, Explain, Draw, Explore, Race, Shown, Bad, Memory}
 use Rattle.ulfm_command.specs.declared.asked.{DrawOptions.{DrawOptions}, ExploreOptions.{ExploreOptions}, RaceOptions.{RaceOptions}}
 
 -- the words of a command line, the program's own name first
@@ -45,6 +45,10 @@ echo_rule = record (new_rule (codes "echo")) { long = Some (codes "echo"); actio
 -- the command that runs a script
 abbrev pub run : App
 run = with_rule (with_rule (new_app (codes "run")) steps_rule) echo_rule
+
+-- the command that writes a script of the first version as one of the second
+abbrev pub migrate : App
+migrate = new_app (codes "migrate")
 
 -- the option that says that the reason is to be explained
 abbrev pub explain_rule : Rule
@@ -87,9 +91,13 @@ runners =
     let top = record named { top = record named.top { has_version = true; subcommand_required = true } } in
     with_subcommand top run.top
 
+-- the same with the one that migrates them
+abbrev pub migrators : App
+migrators = with_subcommand runners migrate.top
+
 -- the same with the one that judges traces
 abbrev pub readers : App
-readers = with_subcommand runners check.top
+readers = with_subcommand migrators check.top
 
 -- the same with the one that draws them
 abbrev pub drawers : App
@@ -192,6 +200,10 @@ NamesEcho named = NamesCallsOf named true
 abbrev pub NamesSteps : Named → Type 0
 NamesSteps named = NamesRunOf named true
 
+-- the migration of a script was named
+abbrev pub NamesMigrate : Named → Type 0
+NamesMigrate named = (rows : List Row) × (named ≡ Some (codes "migrate", rows))
+
 -- the judgement of a trace was named, with its reason explained or without
 pub record NamesCheckOf (named : Named) (explain : Bool) : Type 0 where
   pub rows : List Row
@@ -238,6 +250,7 @@ abbrev pub IsEntered : Named → Asked → Type 0
 IsEntered named Run = NamesRun named
 IsEntered named RunEchoed = NamesEcho named
 IsEntered named RunSteps = NamesSteps named
+IsEntered named Migrate = NamesMigrate named
 IsEntered named Check = NamesCheck named
 IsEntered named Explain = NamesExplain named
 IsEntered named (Draw options) = NamesDraw named options
@@ -246,7 +259,7 @@ IsEntered named (Race options) = NamesRace named options
 IsEntered named (Bad reason) =
     (NamesRun named → ⊥) × (NamesSteps named → ⊥) × (NamesCheck named → ⊥) × ((options : RaceOptions) → NamesRace named options → ⊥)
     × ((options : DrawOptions) → NamesDraw named options → ⊥) × (NamesEcho named → ⊥) × (NamesExplain named → ⊥)
-    × ((options : ExploreOptions) → NamesExplore named options → ⊥)
+    × ((options : ExploreOptions) → NamesExplore named options → ⊥) × (NamesMigrate named → ⊥)
 IsEntered named (Shown text) = ⊥
 IsEntered named Memory = ⊥
 
@@ -261,6 +274,10 @@ AsksEcho words = (fault_of ulfm words ≡ []) × NamesEcho (subcommand_of ulfm w
 -- it finds no fault in them, and they name a run of a step script
 abbrev pub AsksSteps : Arguments → Type 0
 AsksSteps words = (fault_of ulfm words ≡ []) × NamesSteps (subcommand_of ulfm words)
+
+-- it finds no fault in them, and they name the migration of a script
+abbrev pub AsksMigrate : Arguments → Type 0
+AsksMigrate words = (fault_of ulfm words ≡ []) × NamesMigrate (subcommand_of ulfm words)
 
 -- it finds no fault in them, and they name the judgement of a trace
 abbrev pub AsksCheck : Arguments → Type 0
@@ -295,6 +312,7 @@ pub record AsksNothing (words : Arguments) : Type 0 where
   pub no_run : AsksRun words → ⊥
   pub no_echo : AsksEcho words → ⊥
   pub no_steps : AsksSteps words → ⊥
+  pub no_migrate : AsksMigrate words → ⊥
   pub no_check : AsksCheck words → ⊥
   pub no_explain : AsksExplain words → ⊥
   pub no_draw : (options : DrawOptions) → AsksDraw words options → ⊥
@@ -308,6 +326,7 @@ pub record IsRefused (words : Arguments) : Type 0 where
   pub no_run : AsksRun words → ⊥
   pub no_echo : AsksEcho words → ⊥
   pub no_steps : AsksSteps words → ⊥
+  pub no_migrate : AsksMigrate words → ⊥
   pub no_check : AsksCheck words → ⊥
   pub no_explain : AsksExplain words → ⊥
   pub no_draw : (options : DrawOptions) → AsksDraw words options → ⊥
@@ -321,6 +340,7 @@ abbrev pub IsAskedBy : Arguments → Asked → Type 0
 IsAskedBy words Run = AsksRun words
 IsAskedBy words RunEchoed = AsksEcho words
 IsAskedBy words RunSteps = AsksSteps words
+IsAskedBy words Migrate = AsksMigrate words
 IsAskedBy words Check = AsksCheck words
 IsAskedBy words Explain = AsksExplain words
 IsAskedBy words (Draw options) = AsksDraw words options

@@ -79,6 +79,8 @@ pub enum Asked {
     RunEchoed,
     /// A script of single steps is to be run.
     RunSteps,
+    /// A script of calls of the first version is to be written as one of the second.
+    Migrate,
     /// A trace is to be judged.
     Check,
     /// A trace is to be judged, and where it is illegal the reason is to be explained.

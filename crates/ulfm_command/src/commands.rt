@@ -1,9 +1,11 @@
 //! The program's commands and their options, as the command line crate takes them.
 ghost use Rattle.std.specs.Prelude.{◌≡◌, IfOk, false};
 ghost use Rattle.clap.specs.Words.{rule_of};
-ghost use Rattle.ulfm_command.specs.CommandLines.{IsCommand, ascii_rule, check, draw, drawers, echo_rule, explain_rule, explore, explorers, fail_rule, most_rule, number_rule, outcome_rule, race, ranks_rule, readers, rounds_rule, run, runners, steps_rule, text_rule, ulfm};
+ghost use Rattle.ulfm_command.specs.CommandLines.{IsCommand, ascii_rule, check, draw, drawers, echo_rule, explain_rule, explore, explorers, fail_rule, migrate, migrators, most_rule, number_rule, outcome_rule, race, ranks_rule, readers, rounds_rule, run, runners, steps_rule, text_rule, ulfm};
 
-use crate::texts::{CHECK_HELP, DRAW_HELP, EXPLORE_HELP, RACE_HELP, RUN_HELP, ULFM_HELP, VERSION};
+use crate::texts::{
+    CHECK_HELP, DRAW_HELP, EXPLORE_HELP, MIGRATE_HELP, RACE_HELP, RUN_HELP, ULFM_HELP, VERSION,
+};
 use clap::builder::ValueParser;
 use clap::{Arg, ArgAction, Command, value_parser};
 use std::alloc::{AllocError, Global};
@@ -227,11 +229,31 @@ fn running_commands<'a>(global: Global) -> Result<Command<'a>, AllocError>
         .subcommand(run_command(global)?)
 }
 
+/// `ulfm migrate`.
+fn migrate_command<'a>(global: Global) -> Result<Command<'a>, AllocError>
+    ensures { IfOk result (IsCommand migrate) }
+{
+    Ok(
+        Command::new(global, "migrate")
+            .about(
+                "Writes the script of calls on standard input, of version 1, as one of version 2",
+            )
+            .after_help(MIGRATE_HELP),
+    )
+}
+
+/// `ulfm` with the one that migrates scripts, too.
+fn migrating_commands<'a>(global: Global) -> Result<Command<'a>, AllocError>
+    ensures { IfOk result (IsCommand migrators) }
+{
+    running_commands(global)?.subcommand(migrate_command(global)?)
+}
+
 /// `ulfm` with the one that judges traces, too.
 fn reading_commands<'a>(global: Global) -> Result<Command<'a>, AllocError>
     ensures { IfOk result (IsCommand readers) }
 {
-    running_commands(global)?.subcommand(check_command(global)?)
+    migrating_commands(global)?.subcommand(check_command(global)?)
 }
 
 /// `ulfm` with the one that draws what it reads, too.

@@ -47,6 +47,8 @@ fn read_command(matches: &ArgMatches<'_>) -> Asked
         Some((name, options)) => {
             if name == "run" {
                 read_run(options)
+            } else if name == "migrate" {
+                Asked::Migrate
             } else if name == "check" {
                 read_check(options)
             } else if name == "draw" {

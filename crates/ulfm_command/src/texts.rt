@@ -32,7 +32,8 @@ pub(crate) const RUN_HELP: &str =
     "A script is ASCII. Its lines end in one newline each, the last one too, and one space
 stands between two words. The first line gives the limits of the world:
 
-  ulfm 1 RANKS COMMS ROUNDS    ranks 1 to 1024, communicators 1 to 256 (the world's is 0),
+  ulfm V RANKS COMMS ROUNDS    V is the script's version, 1 or 2;
+                               ranks 1 to 1024, communicators 1 to 256 (the world's is 0),
                                rounds 1 to 4096;
                                RANKS + 2*COMMS + 2*COMMS*ROUNDS*RANKS is at most 4194304
 
@@ -50,6 +51,11 @@ Each further line is a call of rank R on communicator C, and is answered in one 
   isrevoked R C   yes, no
   free R C        freed
 
+Version 2 has two more, those of the interface of 2013:
+
+  failure_ack R C          acked N: all known failures are acknowledged
+  failure_get_acked R C    failed 1 2, failed none: those that R has acknowledged
+
 A call that can't be made is answered 'refused NUMBER NAME', and the script goes on:
 
   1 self-failed, 2 no-such-comm, 3 busy, 4 shrink-open, 5 rounds-used-up, 6 idle,
@@ -57,9 +63,9 @@ A call that can't be made is answered 'refused NUMBER NAME', and the script goes
   13 no-such-rank
 
 N is at most 9999, a rank at most 1023, a communicator at most 255, each in decimal without
-leading zeros. F is a flag of eight or sixteen lower case hexadecimal digits; it is printed
-with eight where its upper half is 0. A line has at most 64 bytes without its newline, and a
-script at most 100000 lines.
+leading zeros. F is a flag of eight or sixteen lower case hexadecimal digits, in version 2 of
+sixteen; it is printed with eight where its upper half is 0. A line has at most 64 bytes
+without its newline, and a script at most 100000 lines.
 
 With --steps a script of single atomic steps is run, and its trace is printed. The first
 line is 'ulfm-steps 1 RANKS COMMS ROUNDS', and each further line is one of these:
@@ -108,6 +114,32 @@ Exit statuses, and what standard error says:
   1  ulfm: line N: KIND         line N has this fault, and all lines before it were answered:
                                 cut, long, lines, header, limits, verb, words, number, flag,
                                 and with --steps also step, open
+  2  ulfm: bad command line     nothing was read
+  3  ulfm: out of memory        memory was refused
+  3  ulfm: read failed          standard input failed
+  3  ulfm: write failed         standard output failed";
+
+/// What help of `ulfm migrate` shows behind its options.
+pub(crate) const MIGRATE_HELP: &str =
+    "The script is one of version 1, as 'ulfm run --help' tells. The header's version becomes 2. A flag
+of eight digits gets eight zeros in front. 'ack R C N' with an N of 1024 or more, which is the
+acknowledgement of all failures, becomes 'failure_ack R C'. Every other line stays as it is. The
+script that is written prints what the one that was read prints.
+
+Example:
+
+    printf 'ulfm 1 2 1 4\\nack 0 0 1024\\nagree 0 0 0000000f\\n' | ulfm migrate
+
+prints
+
+    ulfm 2 2 1 4
+    failure_ack 0 0
+    agree 0 0 000000000000000f
+
+Exit statuses, and what standard error says:
+  0  the script was read to its end
+  1  ulfm: line N: KIND         line N has this fault, one of 'ulfm run --help', and all lines
+                                before it were written; a script of version 2 has 'header'
   2  ulfm: bad command line     nothing was read
   3  ulfm: out of memory        memory was refused
   3  ulfm: read failed          standard input failed

@@ -31,8 +31,10 @@ impl<A: Allocator + Copy + Drop> Machine<A> for ObjectMachine<A> {
         let reply = self.object.apply(call)?;
         group.clear();
         match reply {
-            Reply::FailedGroup { .. } => {
-                group.extend_from_slice(&self.object.failed(comm_of(call))?)?;
+            Reply::FailedGroup { count } => {
+                let failed = self.object.failed(comm_of(call))?;
+                let count = failed.len().min(usize::from(count));
+                group.extend_from_slice(&failed[..count])?;
             }
             Reply::Shrunk { comm, .. } => group.extend_from_slice(&self.object.members(comm)?)?,
             _ => {}

@@ -49,6 +49,8 @@ fn verb_of(asked: &Call<FlagAnd>) -> &'static [u8] {
         Call::Fail { .. } => b"fail",
         Call::GetFailed { .. } => b"get",
         Call::Ack { .. } => b"ack",
+        Call::FailureAck { .. } => b"failure_ack",
+        Call::FailureGetAcked { .. } => b"failure_get_acked",
         Call::Agree { .. } => b"agree",
         Call::Shrink { .. } => b"shrink",
         Call::Barrier { .. } => b"barrier",

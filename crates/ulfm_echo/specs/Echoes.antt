@@ -1,9 +1,8 @@
 -- What running a script of calls writes where each reply stands behind its call.
 use Rattle.std.specs.Prelude.{◌≡◌, ℕ, List, [], ◌∷◌, ◌++◌, codes, Result, Ok}
 use Rattle.ulfm_model.specs.{declared.limits.Limits.{Limits}, Runs.{new_state}}
-use Rattle.ulfm_script.specs.declared.header_kind.HeaderKind.TheVariants.{Calls}
-use Rattle.ulfm_script.specs.declared.line_kind.LineKind.{LineKind}
-use Rattle.ulfm_script.specs.{Calls.{ScriptCall, call_of}, Ends.{EndsAlone, KnownText, RunEnd}, Runs.{PrintsReply, ScriptState}, Scripts.{Language}}
+use Rattle.ulfm_script.specs.declared.{heading.Heading.{Heading}, line_kind.LineKind.{LineKind}, version.Version.{Version}}
+use Rattle.ulfm_script.specs.{Calls.{ScriptCall, call_in}, Ends.{EndsAlone, KnownText, RunEnd}, Headers.{call_heading}, Runs.{PrintsReply, ScriptState}, Scripts.{Language}}
 use Rattle.ulfm_script.specs.Steps.{◌>>=◌}
 
 -- a line, and the call that it asks for
@@ -32,8 +31,20 @@ PrintsEchoes limits calls out = (plain : List ℕ) × (last : ScriptState) × Ec
 
 -- scripts of calls, whose replies are printed behind their calls
 abbrev pub echo_scripts : Language
-echo_scripts =
-    record { Item = Asked; kind = Calls; read = λ line. with_line line (call_of line); Prints = PrintsEchoes; Finds = λ limits calls number kind out. ⊥ }
+echo_scripts = record {
+  Item = Asked;
+  heading = call_heading;
+  read = λ version line. with_line line (call_in version line);
+  Prints = PrintsEchoes;
+  Finds = λ limits calls number kind out. ⊥;
+}
+
+-- A machine in this state has answered these calls behind this first line, in whose version it reads: these are the lines that they print, each
+-- behind its call.
+pub record HasEchoed (version : Version) (state : ScriptState) (heading : Heading) (calls : List Asked) (out : List ℕ) : Type 0 where
+  pub same : version ≡ heading.version
+  pub plain : List ℕ
+  pub echoes : EchoesFrom (new_state heading.limits) calls out plain state
 
 -- a run through a buffer of its own, which reads at most 8192 bytes ahead: what the reader had and has left, what the writer had and has
 abbrev pub RunsEchoed : KnownText → KnownText → KnownText → KnownText → RunEnd → Type 0

@@ -1,17 +1,16 @@
 //! Scripts of calls, run on anything that answers its calls, with each call's own line before its reply.
 ghost use Rattle.std.specs.Prelude.{◌≡◌, ◌++◌, ℕ, List, OnOk};
-ghost use Rattle.ulfm_echo.specs.Echoes.{EchoesFrom, RunsEchoed, echo_scripts, echoed_line};
-ghost use Rattle.ulfm_model.specs.Runs.{new_state};
+ghost use Rattle.ulfm_echo.specs.Echoes.{HasEchoed, RunsEchoed, echo_scripts, echoed_line};
 ghost use Rattle.ulfm_script.specs.Runs.{PrintsReply};
 ghost use Rattle.ulfm_script.specs.Spelling.{IsSpelled};
 
 use std::alloc::{AllocError, Allocator};
 use std::io::{Read, Write};
 use ulfm_laws::FlagAnd;
-use ulfm_model::{Call, Limits};
+use ulfm_model::Call;
 use ulfm_script::{
-    HeaderKind, Interpreter, LastGroup, LineKind, Machine, RunFault, end_of, print_reply,
-    read_call, run_text,
+    Heading, Interpreter, LastGroup, LineKind, Machine, RunFault, Version, end_of, print_reply,
+    read_call_heading, read_call_of, run_text,
 };
 
 /// The bytes of most calls with their replies.
@@ -37,6 +36,7 @@ pub fn run_echoed<M: Machine<A>, A: Allocator + Copy, R: Read, W: Write>(
 /// A machine, and the lines of its replies behind their calls.
 #[derive(Drop)]
 struct EchoLines<M, A: Allocator> {
+    version: Version,
     machine: M,
     group: Vec<u16, A>,
     last: LastGroup<A>,
@@ -48,18 +48,19 @@ impl<M: Machine<A>, A: Allocator + Copy> Interpreter<A> for EchoLines<M, A> {
 
     ghost lang = { echo_scripts };
 
-    ghost HasRun = { λ plan it limits calls out. (plain : List ℕ) × EchoesFrom (new_state limits) calls out plain (M.state it.machine) };
+    ghost HasRun = { λ plan it heading calls out. HasEchoed it.version (M.state it.machine) heading calls out };
 
     ghost text = { λ it. it.text.items };
 
-    fn kind() -> HeaderKind {
-        HeaderKind::Calls
+    fn heading(line: &[u8]) -> Result<Heading, LineKind> {
+        read_call_heading(line)
     }
 
-    fn open(alloc: A, limits: Limits, _plan: ()) -> Result<Self, AllocError> {
+    fn open(alloc: A, heading: Heading, _plan: ()) -> Result<Self, AllocError> {
         let text = Vec::with_capacity(alloc, ROOM)?;
-        let machine = M::open(alloc, limits)?;
+        let machine = M::open(alloc, heading.limits)?;
         Ok(EchoLines {
+            version: heading.version,
             machine,
             group: Vec::new(alloc),
             last: LastGroup::new(alloc),
@@ -68,7 +69,7 @@ impl<M: Machine<A>, A: Allocator + Copy> Interpreter<A> for EchoLines<M, A> {
     }
 
     fn run(&mut self, line: &[u8]) -> Result<Result<(), LineKind>, AllocError> {
-        match read_call(line) {
+        match read_call_of(self.version, line) {
             Ok(call) => {
                 answer(
                     &mut self.machine,
@@ -88,7 +89,7 @@ impl<M: Machine<A>, A: Allocator + Copy> Interpreter<A> for EchoLines<M, A> {
         &self.text
     }
 
-    ghost prints = { λ plan it limits calls out ran. (ran.0, M.state it.machine, ran.1) };
+    ghost prints = { λ plan it heading calls out ran. (ran.plain, M.state it.machine, ran.echoes) };
 }
 
 /// Answers a line's call by the machine, and makes the line that it prints, with its own line before.

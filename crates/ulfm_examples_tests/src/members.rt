@@ -220,6 +220,32 @@ fn member_ack_failed(rt: HostRuntime) -> Result<(), Fail> {
 }
 
 #[test]
+fn member_failure_ack(rt: HostRuntime) -> Result<(), Fail> {
+    let (_, mut member) = two(&rt, rt.alloc())?;
+
+    member.fail(1)?;
+    assert!(rt; member.failure_ack(0) == Ok(1));
+
+    Ok(())
+}
+
+#[test]
+fn member_failure_get_acked(rt: HostRuntime) -> Result<(), Fail> {
+    let alloc = rt.alloc();
+    let (_, mut member) = two(&rt, alloc)?;
+
+    member.fail(1)?;
+    let mut found = Vec::new(alloc);
+    member.failure_get_acked(0, &mut found)?;
+    assert!(rt; found.is_empty());
+    member.failure_ack(0)?;
+    member.failure_get_acked(0, &mut found)?;
+    assert_eq!(rt; found.as_slice(), [1].as_slice());
+
+    Ok(())
+}
+
+#[test]
 fn member_revoke(rt: HostRuntime) -> Result<(), Fail> {
     let (_, mut member) = two(&rt, rt.alloc())?;
 

@@ -185,6 +185,36 @@ fn rank_ack_failed(rt: HostRuntime) -> Result<(), Fail> {
 }
 
 #[test]
+fn rank_failure_ack(rt: HostRuntime) -> Result<(), Fail> {
+    let (_, mut member) = two(&rt, rt.alloc())?;
+    member.fail(1)?;
+    let (world, mut rank, mut pass) = member.into_parts();
+
+    // Rank 1 was declared failed before.
+    assert!(rt; rank.failure_ack(&world, &mut pass, 0) == Ok(1));
+
+    Ok(())
+}
+
+#[test]
+fn rank_failure_get_acked(rt: HostRuntime) -> Result<(), Fail> {
+    let alloc = rt.alloc();
+    let (_, mut member) = two(&rt, alloc)?;
+    member.fail(1)?;
+    let (world, mut rank, mut pass) = member.into_parts();
+
+    // Rank 1 was declared failed before.
+    let mut found = Vec::new(alloc);
+    rank.failure_get_acked(&world, &mut pass, 0, &mut found)?;
+    assert!(rt; found.is_empty());
+    rank.failure_ack(&world, &mut pass, 0)?;
+    rank.failure_get_acked(&world, &mut pass, 0, &mut found)?;
+    assert_eq!(rt; found.as_slice(), [1].as_slice());
+
+    Ok(())
+}
+
+#[test]
 fn rank_revoke(rt: HostRuntime) -> Result<(), Fail> {
     let (_, member) = two(&rt, rt.alloc())?;
     let (world, mut rank, mut pass) = member.into_parts();

@@ -1,10 +1,11 @@
 -- How a filter did its work, behind an exit status.
-use Rattle.std.specs.Prelude.{◌≡◌, ◌⊎◌, ℕ, List, Result, Ok, Err}
+use Rattle.std.specs.Prelude.{◌≡◌, ◌⊎◌, ℕ, List, OnOk, Result, Ok, Err}
 use Rattle.std.specs.Io.KnownBytes.{Appends, Keeps}
 use Rattle.ulfm_echo.specs.Echoes.{RunsEchoed}
 use Rattle.ulfm_filters.specs.declared.filter.Filter.{Filter}
-use Rattle.ulfm_filters.specs.declared.filter.Filter.TheVariants.{Calls, Echoed, Steps, Check}
+use Rattle.ulfm_filters.specs.declared.filter.Filter.TheVariants.{Calls, Echoed, Steps, Migrate, Check}
 use Rattle.ulfm_filters.specs.Notes.{TellsEnd, TellsVerdict, no_memory, no_read}
+use Rattle.ulfm_migrate.specs.Migrations.{Migrates, RunsMigration}
 use Rattle.ulfm_script.specs.declared.fault.RunFault.{RunFault}
 use Rattle.ulfm_script.specs.declared.fault.RunFault.TheVariants.{Line, Memory, Read, Write}
 use Rattle.ulfm_script.specs.Ends.{KnownText, RunEnd}
@@ -34,6 +35,13 @@ EchoedWith known left old new status = (result : Result (Unit {0}) RunFault) × 
 -- a script of single steps was run, and the status says how it ended
 abbrev pub StepsRanWith : KnownText → KnownText → KnownText → KnownText → ℕ → Type 0
 StepsRanWith known left old new status = (result : Result (Unit {0}) RunFault) × (status ≡ status_of result) × RunsSteps known left old new result
+
+-- a script of calls was migrated, and the status says how that ended: at its end the script that was written has the replies of what was read
+pub record MigratedWith (known left old new : KnownText) (status : ℕ) : Type 0 where
+  pub result : Result (Unit {0}) RunFault
+  pub status_is : status ≡ status_of result
+  pub ends : RunsMigration known left old new result
+  pub migrates : OnOk result (Migrates known old new)
 
 -- a text was printed at this status, or at 3 a beginning of it, or all that couldn't be flushed
 abbrev pub PrintsAt : ℕ → List ℕ → KnownText → KnownText → ℕ → Type 0
@@ -66,6 +74,7 @@ abbrev pub Filtered : Filter → KnownText → KnownText → KnownText → Known
 Filtered Calls known left old new status = RanWith known left old new status
 Filtered Echoed known left old new status = EchoedWith known left old new status
 Filtered Steps known left old new status = StepsRanWith known left old new status
+Filtered Migrate known left old new status = MigratedWith known left old new status
 Filtered Check known left old new status = CheckedWith known left old new status
 
 -- what is said of a check that ended so, at this status
@@ -93,4 +102,6 @@ FilteredTelling Echoed old new status =
     (end : RunEnd) × (status ≡ status_of end) × RunsEchoed old.input new.input old.output new.output end × TellsEnd end old.errors new.errors
 FilteredTelling Steps old new status =
     (end : RunEnd) × (status ≡ status_of end) × RunsSteps old.input new.input old.output new.output end × TellsEnd end old.errors new.errors
+FilteredTelling Migrate old new status =
+    (end : RunEnd) × (status ≡ status_of end) × RunsMigration old.input new.input old.output new.output end × TellsEnd end old.errors new.errors
 FilteredTelling Check old new status = CheckedTelling old new status

@@ -7,6 +7,7 @@ use crate::telling::{print_text, tell_fault};
 use std::alloc::Allocator;
 use std::io::{Read, Write};
 use ulfm_echo::run_echoed;
+use ulfm_migrate::migrate;
 use ulfm_run::{WordsMachine, run_calls, run_steps};
 use ulfm_script::RunFault;
 use ulfm_trace::{CheckFault, Verdict, check, verdict_line};
@@ -20,6 +21,8 @@ pub enum Filter {
     Echoed,
     /// A script of single steps is run.
     Steps,
+    /// A script of calls of the first version is written as one of the second.
+    Migrate,
     /// A trace is judged.
     Check,
 }
@@ -48,6 +51,7 @@ pub fn run_filter<A: Allocator + Copy + Drop, R: Read, W: Write, E: Write>(
             errors,
         ),
         Filter::Steps => tell_end(run_steps(alloc, input, output), errors),
+        Filter::Migrate => tell_end(migrate(alloc, input, output), errors),
         Filter::Check => run_check(alloc, input, output, errors),
     }
 }

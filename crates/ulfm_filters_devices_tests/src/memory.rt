@@ -7,7 +7,8 @@ use std::test::Fail;
 use ulfm_filters::{Filter, run_filter};
 use ulfm_worked_rows::Row;
 use ulfm_worked_rows::calls::{
-    ACKNOWLEDGEMENTS_COUNT, ONE_RANK, OUTPUT, REFUSALS_IN_ORDER, SCRIPT, SHRINKS_KEEP_ORDER,
+    ACKNOWLEDGEMENTS_COUNT, MIGRATED, ONE_RANK, OUTPUT, REFUSALS_IN_ORDER, SCRIPT,
+    SHRINKS_KEEP_ORDER,
 };
 use ulfm_worked_rows::steps::CONTRIBUTION_IN_FLIGHT;
 use ulfm_worked_rows::traces::{TRACE_JUDGED_A, TRACE_JUDGED_B};
@@ -110,4 +111,9 @@ fn steps_and_traces_are_refused_memory(rt: HostRuntime) -> Result<(), Fail> {
     refuse_each_growth(rt.alloc(), Filter::Steps, &CONTRIBUTION_IN_FLIGHT)?;
     refuse_each_growth(rt.alloc(), Filter::Check, &TRACE_JUDGED_A)?;
     refuse_each_growth(rt.alloc(), Filter::Check, &TRACE_JUDGED_B)
+}
+
+#[test]
+fn migrations_are_refused_memory(rt: HostRuntime) -> Result<(), Fail> {
+    refuse_each_growth(rt.alloc(), Filter::Migrate, &MIGRATED[0])
 }

@@ -1,4 +1,4 @@
-//! Scripts of single steps, and traces, over devices that fail.
+//! Scripts of single steps, traces, and a migration, over devices that fail.
 use crate::lines::{given, whole_lines};
 use crate::told::{require, run};
 use crate::writes::{Texts, fail_all_writes};
@@ -7,6 +7,7 @@ use std::test::Fail;
 use ulfm_devices::{FailureMode, Pieces};
 use ulfm_filters::Filter;
 use ulfm_worked_rows::Row;
+use ulfm_worked_rows::calls::MIGRATED;
 use ulfm_worked_rows::steps::CONTRIBUTION_IN_FLIGHT;
 use ulfm_worked_rows::traces::TRACE_JUDGED_B;
 
@@ -60,6 +61,7 @@ fn each_read_fails(rt: HostRuntime) -> Result<(), Fail> {
     for most in [1, 7, 10_000] {
         fail_each_read(rt.alloc(), Filter::Steps, &CONTRIBUTION_IN_FLIGHT, most)?;
         fail_each_read(rt.alloc(), Filter::Check, &TRACE_JUDGED_B, most)?;
+        fail_each_read(rt.alloc(), Filter::Migrate, &MIGRATED[0], most)?;
     }
     Ok(())
 }
@@ -77,5 +79,6 @@ fn fail_writes_of(alloc: Global, filter: Filter, row: &Row) -> Result<(), Fail> 
 #[test]
 fn each_write_fails(rt: HostRuntime) -> Result<(), Fail> {
     fail_writes_of(rt.alloc(), Filter::Steps, &CONTRIBUTION_IN_FLIGHT)?;
-    fail_writes_of(rt.alloc(), Filter::Check, &TRACE_JUDGED_B)
+    fail_writes_of(rt.alloc(), Filter::Check, &TRACE_JUDGED_B)?;
+    fail_writes_of(rt.alloc(), Filter::Migrate, &MIGRATED[0])
 }

@@ -12,7 +12,7 @@ fn each_kind_is_told(rt: HostRuntime) -> Result<(), Fail> {
             b"ulfm 1 1 1 1\nfail 0000000000000000000000000000000000000000000000000000000000000\n",
             b"ulfm: line 2: long\n",
         ),
-        (b"ulfm 2 1 1 1\n", b"ulfm: line 1: header\n"),
+        (b"ulfm 3 1 1 1\n", b"ulfm: line 1: header\n"),
         (b"ulfm 1 1025 1 1\n", b"ulfm: line 1: limits\n"),
         (b"ulfm 1 1 1 1\n\n", b"ulfm: line 2: verb\n"),
         (b"ulfm 1 1 1 1\nfail\n", b"ulfm: line 2: words\n"),

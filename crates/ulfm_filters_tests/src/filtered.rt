@@ -58,3 +58,26 @@ pub(crate) fn run_rows(alloc: Global, filter: Filter, rows: &[Row]) -> Result<()
     }
     Ok(())
 }
+
+/// Each row, migrated and run, prints what it prints; a fault of its lines is the migration's, and one of the second version is told there.
+pub(crate) fn migrate_rows(alloc: Global, rows: &[Row]) -> Result<(), Fail> {
+    for row in rows {
+        let written = run(alloc, Filter::Migrate, row.script.as_bytes());
+        if row.script.as_bytes().starts_with(b"ulfm 2 ") {
+            if !written.is(b"", b"ulfm: line 1: header\n", 1) {
+                return Err(Fail::from(row.name));
+            }
+            continue;
+        }
+        let told = written.errors.as_slice() == row.errors.as_bytes()
+            && written.status == row.status;
+        let is_script = !written.output.is_empty();
+        if !told
+            || is_script
+                && !run(alloc, Filter::Calls, &written.output).is(row.output.as_bytes(), b"", 0)
+        {
+            return Err(Fail::from(row.name));
+        }
+    }
+    Ok(())
+}

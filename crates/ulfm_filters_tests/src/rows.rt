@@ -1,5 +1,5 @@
 //! The worked rows.
-use crate::filtered::run_rows;
+use crate::filtered::{migrate_rows, run_rows};
 use std::test::Fail;
 use ulfm_filters::Filter;
 use ulfm_worked_rows::{calls, steps, traces};
@@ -7,6 +7,18 @@ use ulfm_worked_rows::{calls, steps, traces};
 #[test]
 fn worked_rows(rt: HostRuntime) -> Result<(), Fail> {
     run_rows(rt.alloc(), Filter::Calls, &calls::ROWS)
+}
+
+/// What a migration writes.
+#[test]
+fn migrated_rows(rt: HostRuntime) -> Result<(), Fail> {
+    run_rows(rt.alloc(), Filter::Migrate, &calls::MIGRATED)
+}
+
+/// Each row of a script of calls, migrated, prints what it printed.
+#[test]
+fn rows_both_ways(rt: HostRuntime) -> Result<(), Fail> {
+    migrate_rows(rt.alloc(), &calls::ROWS)
 }
 
 #[test]

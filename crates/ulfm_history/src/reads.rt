@@ -8,11 +8,27 @@ use std::alloc::{AllocError, Allocator};
 use ulfm_model::contribution::Slot;
 use ulfm_model::event::Entry;
 
+/// Up to how many ranks are looked through one by one.
+const FEW: usize = 16;
+
 /// Whether a rank is in a group.
+#[inline(always)]
 pub fn has_rank(group: &[u16], rank: u16) -> bool
     ensures { result ≡ has group.now rank }
 {
-    group.iter().any(|x| *x == rank)
+    if group.len() < FEW {
+        group.iter().any(|x| *x == rank)
+    } else {
+        is_among(group, rank)
+    }
+}
+
+/// Whether a rank is in a large group, which is read by several ranks at once.
+#[inline(never)]
+fn is_among(group: &[u16], rank: u16) -> bool
+    ensures { result ≡ has group.now rank }
+{
+    group.contains(&rank)
 }
 
 /// Whether a place is that of this rank in this round of this communicator.

@@ -10,7 +10,7 @@ use Rattle.ulfm_model.specs.{Answers.{polled_by, rank_of}, Records.{Record, is_s
 use Rattle.ulfm_words.specs.Steps.{Over, Sight, view_at}
 use Rattle.ulfm_comm.specs.Counts.{Ranked, records_of}
 use Rattle.ulfm_comm.proofs.InOrder.{rank_found}
-use Rattle.ulfm_job.specs.Jobs.{IsJob, IsOther, KeepsRecords, MayLack, PollsShrink, state_seen, unseen}
+use Rattle.ulfm_job.specs.Jobs.{IsJob, IsOther, KeepsRecords, MayLack, PollsShrink, queried, state_seen, unseen}
 use Rattle.ulfm_job.proofs.Jobs.{ranked_below, ranked_own}
 
 -- a rank of which only what was seen is new
@@ -39,6 +39,13 @@ pub applied_polls : {P Z : Type 0} (name : Over P) (before : Sight P) (old : Sta
 applied_polls name before old v given same was rank asked polls =
     subst (λ (s : State _). PollsShrink s.records rank asked) was (subst (λ rs. PollsShrink (records_of rs) rank asked) same polls)
 
+pub applied_lacks : {P Z : Type 0} (some : Bool) (name : Over P) (before : Sight P) (old : State P) (v : Vec Ranked Z) (given : List Ranked) → given ≡ v.items
+    → state_seen (view_at name before) (records_of v.items) ≡ old → (rank c capacity : ℕ) (group : List ℕ)
+    → capacity < length (queried some (records_of given) rank c group) → capacity < length (queried some old.records rank c group)
+applied_lacks some name before old v given same was rank c capacity group less =
+    subst (λ (s : State _). capacity < length (queried some s.records rank c group)) was
+    (subst (λ rs. capacity < length (queried some (records_of rs) rank c group)) same less)
+
 -- the record of the rank that polls a shrink is found by its number
 pub polls_shrink : {P : Type 0} (meld : P → P → P) (alone : Bool) (name : Over P) (before : Sight P) (ranks : List Ranked)
     (job : IsJob meld alone (view_at name before) (records_of ranks)) (asked : Call P) (i : ℕ) (d : Ranked) → i ≡ rank_of asked → i < length ranks
@@ -56,7 +63,9 @@ pub lacks_poll : {P : Type 0} (capacity : ℕ) (old new : State P) (asked : Call
     → MayLack capacity old asked new
 lacks_poll capacity old new (call.Fail rank) other polls = absurd other
 lacks_poll capacity old new (call.GetFailed rank c) other polls = absurd other
+lacks_poll capacity old new (call.FailureGetAcked rank c) other polls = absurd other
 lacks_poll capacity old new (call.Ack rank c count) other polls = absurd (cc (polls.2))
+lacks_poll capacity old new (call.FailureAck rank c) other polls = absurd (cc (polls.2))
 lacks_poll capacity old new (call.Agree rank c value) other polls = absurd (cc (polls.2))
 lacks_poll capacity old new (call.Shrink rank c) other polls = absurd (cc (polls.2))
 lacks_poll capacity old new (call.Barrier rank c) other polls = absurd (cc (polls.2))

@@ -4,3 +4,4 @@ pub mod Jobs
 pub mod Lacking
 pub mod Others
 pub mod Applying
+pub mod Querying

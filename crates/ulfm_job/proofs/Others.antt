@@ -54,7 +54,9 @@ module _ {P : Type 0} where
   pub by_rank : (asked : Call P) → IsOther asked → (traits_of asked).by ≡ Rank (rank_of asked)
   by_rank (call.Fail rank) other = absurd other
   by_rank (call.GetFailed rank c) other = absurd other
+  by_rank (call.FailureGetAcked rank c) other = absurd other
   by_rank (call.Ack rank c count) other = refl
+  by_rank (call.FailureAck rank c) other = refl
   by_rank (call.Agree rank c value) other = refl
   by_rank (call.Shrink rank c) other = refl
   by_rank (call.Barrier rank c) other = refl
@@ -64,23 +66,28 @@ module _ {P : Type 0} where
   by_rank (call.Free rank c) other = refl
 
   -- neither a declaration nor a query of the failed group
-  pub is_other : (asked : Call P) → ((rank : ℕ) → asked ≡ call.Fail rank → ⊥) → ((rank c : ℕ) → asked ≡ call.GetFailed rank c → ⊥) → IsOther asked
-  is_other (call.Fail rank) declares queries = absurd (declares rank refl)
-  is_other (call.GetFailed rank c) declares queries = absurd (queries rank c refl)
-  is_other (call.Ack rank c count) declares queries = tt
-  is_other (call.Agree rank c value) declares queries = tt
-  is_other (call.Shrink rank c) declares queries = tt
-  is_other (call.Barrier rank c) declares queries = tt
-  is_other (call.Poll rank c) declares queries = tt
-  is_other (call.Revoke rank c) declares queries = tt
-  is_other (call.IsRevoked rank c) declares queries = tt
-  is_other (call.Free rank c) declares queries = tt
+  pub is_other : (asked : Call P) → ((rank : ℕ) → asked ≡ call.Fail rank → ⊥) → ((rank c : ℕ) → asked ≡ call.GetFailed rank c → ⊥)
+      → ((rank c : ℕ) → asked ≡ call.FailureGetAcked rank c → ⊥) → IsOther asked
+  is_other (call.Fail rank) declares queries lists = absurd (declares rank refl)
+  is_other (call.GetFailed rank c) declares queries lists = absurd (queries rank c refl)
+  is_other (call.FailureGetAcked rank c) declares queries lists = absurd (lists rank c refl)
+  is_other (call.Ack rank c count) declares queries lists = tt
+  is_other (call.FailureAck rank c) declares queries lists = tt
+  is_other (call.Agree rank c value) declares queries lists = tt
+  is_other (call.Shrink rank c) declares queries lists = tt
+  is_other (call.Barrier rank c) declares queries lists = tt
+  is_other (call.Poll rank c) declares queries lists = tt
+  is_other (call.Revoke rank c) declares queries lists = tt
+  is_other (call.IsRevoked rank c) declares queries lists = tt
+  is_other (call.Free rank c) declares queries lists = tt
 
   -- what polls is a poll
   pub asks_poll : (asked : Call P) → IsTrue (traits_of asked).polls → (rank : ℕ) × (c : ℕ) × (asked ≡ call.Poll rank c)
   asks_poll (call.Fail rank) polls = absurd (cc polls)
   asks_poll (call.GetFailed rank c) polls = absurd (cc polls)
+  asks_poll (call.FailureGetAcked rank c) polls = absurd (cc polls)
   asks_poll (call.Ack rank c count) polls = absurd (cc polls)
+  asks_poll (call.FailureAck rank c) polls = absurd (cc polls)
   asks_poll (call.Agree rank c value) polls = absurd (cc polls)
   asks_poll (call.Shrink rank c) polls = absurd (cc polls)
   asks_poll (call.Barrier rank c) polls = absurd (cc polls)
@@ -94,7 +101,9 @@ module _ {P : Type 0} where
       → (rank : ℕ) × (c : ℕ) × (asked ≡ call.Poll rank c)
   shrunk_polls (call.Fail rank) j context size other kind = absurd other
   shrunk_polls (call.GetFailed rank c) j context size other kind = absurd other
+  shrunk_polls (call.FailureGetAcked rank c) j context size other kind = absurd other
   shrunk_polls (call.Ack rank c count) j context size other kind = absurd kind
+  shrunk_polls (call.FailureAck rank c) j context size other kind = absurd kind
   shrunk_polls (call.Agree rank c value) j context size other kind = absurd kind
   shrunk_polls (call.Shrink rank c) j context size other kind = absurd kind
   shrunk_polls (call.Barrier rank c) j context size other kind = absurd kind
@@ -107,7 +116,9 @@ module _ {P : Type 0} where
   counts_none : (asked : Call P) (count : ℕ) → IsOther asked → IsKind asked (FailedGroup count) → ⊥
   counts_none (call.Fail rank) count other kind = other
   counts_none (call.GetFailed rank c) count other kind = other
+  counts_none (call.FailureGetAcked rank c) count other kind = other
   counts_none (call.Ack rank c limit) count other kind = kind
+  counts_none (call.FailureAck rank c) count other kind = kind
   counts_none (call.Agree rank c value) count other kind = kind
   counts_none (call.Shrink rank c) count other kind = kind
   counts_none (call.Barrier rank c) count other kind = kind

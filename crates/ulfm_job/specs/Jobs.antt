@@ -1,14 +1,14 @@
 -- A world, all its ranks and one pass, in one hand.
-use Rattle.std.specs.Prelude.{◌≡◌, ◌==◌, ◌<◌, ℕ, ⊤, Bool, List, [], Some, IsTrue, length, map}
-use Rattle.std.specs.List.{find}
+use Rattle.std.specs.Prelude.{◌≡◌, ◌==◌, ◌<◌, ℕ, ⊤, Bool, false, true, List, [], Some, IsTrue, length, map, take}
+use Rattle.std.specs.{List.{find}, Option.{option_and_then}}
 use mathlib.Core.List.{IsPrefix}
 use Rattle.ulfm_model.specs.declared.{call.Call.{Call}, reply.Reply.{Reply}}
-use Rattle.ulfm_model.specs.declared.call.Call.TheVariants.{Fail, GetFailed, Ack, Agree, Shrink, Barrier, Poll, Revoke, IsRevoked, Free}
+use Rattle.ulfm_model.specs.declared.call.Call.TheVariants.{Fail, GetFailed, Ack, FailureAck, FailureGetAcked, Agree, Shrink, Barrier, Poll, Revoke, IsRevoked, Free}
 use Rattle.ulfm_model.specs.declared.reply.Reply.TheVariants.{Started, Pending, Agreed, Shrunk, Done, FailedGroup, Acked, Declared, AlreadyFailed, Revoked}
 use Rattle.ulfm_model.specs.declared.reply.Reply.TheVariants.{AlreadyRevoked, Standing, Freed, Refused}
-use Rattle.ulfm_model.specs.{Answers.{polled_by, traits_of}, History.{failed, members}, Records.{Record, is_shrink}, Runs.{IsSound, IsStep, State}}
+use Rattle.ulfm_model.specs.{Answers.{polled_by, traits_of}, History.{failed, members}, Records.{Record, held_at, is_shrink}, Runs.{IsSound, IsStep, State}}
 use Rattle.ulfm_words.specs.Steps.{IsView, View}
-use Rattle.ulfm_comm.specs.Wings.{WingsSettled}
+use Rattle.ulfm_comm.specs.{Queries.{acked_of}, Wings.{WingsSettled}}
 
 -- the object's state: what the pass has seen, and the ranks' records
 abbrev pub state_seen : {P : Type 0} → View P → List Record → State P
@@ -36,15 +36,15 @@ pub record StepsBy {P : Type 0} (meld : P → P → P) (alone : Bool) (asked : C
   pub begins : IsPrefix old.view.pass.seen new.view.pass.seen
   pub step : IsTrue alone → IsStep meld (state_seen old.view old.ranks) (traits_of asked).by asked reply (state_seen new.view new.ranks)
 
--- What the caller's vector has after a reply to a call on communicator c, by the state then: a failed group, or the members of a new
--- communicator, where the reply is about them; else what it had.
+-- What the caller's vector has after a reply to a call on communicator c, by the state then: the first ranks of the failed group, as many as the
+-- reply counts, or the members of a new communicator, where the reply is about them; else what it had.
 abbrev pub IsAbout : {P : Type 0} → State P → ℕ → List ℕ → List ℕ → Reply P → Type 0
 IsAbout state c old group Started = group ≡ old
 IsAbout state c old group Pending = group ≡ old
 IsAbout state c old group (Agreed value count raised) = group ≡ old
 IsAbout state c old group (Shrunk j context size) = group ≡ members state.limits.ranks state.history j
 IsAbout state c old group Done = group ≡ old
-IsAbout state c old group (FailedGroup count) = group ≡ failed state.limits.ranks state.history c
+IsAbout state c old group (FailedGroup count) = group ≡ take count (failed state.limits.ranks state.history c)
 IsAbout state c old group (Acked count) = group ≡ old
 IsAbout state c old group Declared = group ≡ old
 IsAbout state c old group AlreadyFailed = group ≡ old
@@ -58,7 +58,9 @@ IsAbout state c old group (Refused refusal) = group ≡ old
 abbrev pub IsOther : {P : Type 0} → Call P → Type 0
 IsOther (Fail rank) = ⊥
 IsOther (GetFailed rank c) = ⊥
+IsOther (FailureGetAcked rank c) = ⊥
 IsOther (Ack rank c count) = ⊤
+IsOther (FailureAck rank c) = ⊤
 IsOther (Agree rank c value) = ⊤
 IsOther (Shrink rank c) = ⊤
 IsOther (Barrier rank c) = ⊤
@@ -79,9 +81,19 @@ KeepsRecords old new = map unseen new ≡ map unseen old
 abbrev pub PollsShrink : {P : Type 0} → List Record → ℕ → Call P → Type 0
 PollsShrink records rank asked = (own : Record) × (find (λ x. x.number == rank) records ≡ Some own) × IsTrue (is_shrink (polled_by own asked))
 
--- What a call may lack memory for, where the caller's vector has this room: a query of the failed group for a group of more ranks; and the
--- poll of a shrink. No other call lacks memory.
+-- how many failures of communicator c the rank of this number has acknowledged; none where there is no such rank, or it doesn't hold c
+abbrev pub acked_by : List Record → ℕ → ℕ → ℕ
+acked_by records rank c = acked_of (option_and_then (λ own. held_at own c) (find (λ x. x.number == rank) records))
+
+-- the ranks of communicator c's failed group that a query by this rank lists: all of them, or of the acknowledged alone the first so many
+abbrev pub queried : Bool → List Record → ℕ → ℕ → List ℕ → List ℕ
+queried false records rank c group = group
+queried true records rank c group = take (acked_by records rank c) group
+
+-- What a call may lack memory for, where the caller's vector has this room: a query of the failed group, or of those in it that are acknowledged,
+-- for more ranks to list; and the poll of a shrink. No other call lacks memory.
 abbrev pub MayLack : {P : Type 0} → ℕ → State P → Call P → State P → Type 0
-MayLack capacity old (GetFailed rank c) new = capacity < length (failed new.limits.ranks new.history c)
+MayLack capacity old (GetFailed rank c) new = capacity < length (queried false old.records rank c (failed new.limits.ranks new.history c))
+MayLack capacity old (FailureGetAcked rank c) new = capacity < length (queried true old.records rank c (failed new.limits.ranks new.history c))
 MayLack {P} capacity old (Poll rank c) new = PollsShrink {P = P} old.records rank (Poll rank c)
 MayLack capacity old asked new = ⊥

@@ -1,15 +1,15 @@
 // A world, all its ranks and one pass in a single value, which answers call after call: for scripts and tests.
-ghost use Rattle.std.specs.Prelude.{ℕ, List, ◌≡◌, ◌<◌, ◌≤◌, ◌==◌, Some, find, length, vec_capacity, IsTrue, IfOk, OnErr, OnOk, MatchOption, MatchResult};
+ghost use Rattle.std.specs.Prelude.{ℕ, List, ◌≡◌, ◌<◌, ◌≤◌, ◌==◌, Err, Some, find, length, vec_capacity, IsTrue, IfOk, OnErr, OnOk, MatchOption, MatchResult};
 ghost use mathlib.Core.List.{IsPrefix};
 ghost use Rattle.ulfm_model.specs.Answers.{polled_by, rank_of as rank_in, traits_of};
 ghost use Rattle.ulfm_model.specs.History.{failed};
 ghost use Rattle.ulfm_model.specs.Records.{Held, held_at, is_shrink};
 ghost use Rattle.ulfm_model.specs.Runs.{IsStep, new_state};
-ghost use Rattle.ulfm_model.specs.declared.call.Call.TheVariants.{Fail as FailAsked, GetFailed as GetAsked};
+ghost use Rattle.ulfm_model.specs.declared.{call.Call.TheVariants.{Fail as FailAsked}, refusal.Refusal.TheVariants.{OutOfMemory as NoMemory}};
 ghost use Rattle.ulfm_model.specs.declared.limits.OpenFault.TheVariants.{OutOfMemory};
 ghost use Rattle.ulfm_model.specs.Terms.{comm_of};
-ghost use Rattle.ulfm_comm.specs.Counts.{records_of};
-ghost use Rattle.ulfm_job.specs.Jobs.{crew, IsAbout, IsJob, IsOther, KeepsRecords, MayLack, PollsShrink, StepsBy, state_seen};
+ghost use Rattle.ulfm_comm.specs.{Calls.{Gets}, Counts.{records_of}, Local.{local, FitsView}, Queries.{listed_in, query}};
+ghost use Rattle.ulfm_job.specs.Jobs.{crew, IsAbout, IsJob, IsOther, KeepsRecords, MayLack, PollsShrink, StepsBy, queried, state_seen};
 ghost use Rattle.ulfm_words.specs.Steps.{view_of, seen_in, IsView};
 
 use std::alloc::{AllocError, Allocator};
@@ -105,11 +105,11 @@ where
     }
 
     /// Answers a call. Where nobody else steps, it is one step of the sequential object. A failed group that was asked for is
-    /// put into the vector, in the order of the failures, and so are the members of a communicator that a shrink made, in their
-    /// order; after any other reply the vector is as it was. Memory alone can be refused: to a query of the failed group, where the
-    /// vector has less room than the group has ranks, and to the poll of a shrink. The vector's memory for that poll is taken before
-    /// it, so that its reply isn't lost. After a refusal the vector is as it was, and so is each rank, but for what it has seen: the
-    /// call can be made again.
+    /// put into the vector, or those in it that are acknowledged, in the order of the failures, and so are the members of a
+    /// communicator that a shrink made, in their order; after any other reply the vector is as it was. Memory alone can be refused:
+    /// to a query of the failed group or of the acknowledged, where the vector has less room than there are ranks to list, and to
+    /// the poll of a shrink. The vector's memory for that poll is taken before it, so that its reply isn't lost. After a refusal the
+    /// vector is as it was, and so is each rank, but for what it has seen: the call can be made again.
     ///
     /// ```
     /// let mut group = Vec::new(alloc);
@@ -141,6 +141,16 @@ where
                 &mut self.ranks,
                 rank,
                 comm,
+                false,
+                group,
+            ),
+            Call::FailureGetAcked { rank, comm } => get_by(
+                world,
+                pass,
+                &mut self.ranks,
+                rank,
+                comm,
+                true,
                 group,
             ),
             _ => call_by(world, pass, &mut self.ranks, *asked, group),
@@ -168,23 +178,50 @@ fn fail_by<P: Packed, A: Allocator + Copy, W: Words<P, A>>(
     }
 }
 
-/// A rank asks for a failed group.
+/// Asks a rank for a failed group, or for those in it that it has acknowledged.
+fn ask<P: Packed, A: Allocator + Copy, W: Words<P, A>>(
+    own: &mut Rank<P, A>,
+    world: &World<W, P, A>,
+    pass: &mut W::Pass,
+    comm: u16,
+    acked: bool,
+    found: &mut Vec<u16, A>,
+) -> Result<(), Refusal>
+    requires of { IsView P.meld (view_of P.pack world.now (W.sight pass.old)) }
+    requires fits { FitsView P.meld (local own.old.own (view_of P.pack world.now (W.sight pass.old))) }
+    ensures gets { Gets P.meld W.alone (query acked own.old.own.number comm) (local own.old.own (view_of P.pack world.now (W.sight pass.old)))
+        (length found.new.items) result (local own.new.own (view_of P.pack world.now (W.sight pass.new))) }
+    ensures group { IfOk result (λ _. found.new.items ≡ listed_in acked (local own.new.own (view_of P.pack world.now (W.sight pass.new))) comm) }
+    ensures kept { OnErr result (found.new.items ≡ found.old.items) }
+    ensures memory { result ≡ Err NoMemory → vec_capacity found.old
+        < length (listed_in acked (local own.new.own (view_of P.pack world.now (W.sight pass.new))) comm) }
+{
+    if acked {
+        own.failure_get_acked(world, pass, comm, found)
+    } else {
+        own.get_failed(world, pass, comm, found)
+    }
+}
+
+/// A rank asks for a failed group, or for those in it that it has acknowledged.
 fn get_by<P: Packed, A: Allocator + Copy, W: Words<P, A>>(
     world: &World<W, P, A>,
     pass: &mut W::Pass,
     ranks: &mut [Rank<P, A>],
     rank: u16,
     comm: u16,
+    acked: bool,
     found: &mut Vec<u16, A>,
 ) -> Result<Reply<P>, AllocError>
     requires { IsJob P.meld W.alone (view_of P.pack world.now (W.sight pass.old)) (records_of ranks.old) }
     ensures step { IfOk result
-        (λ reply. StepsBy P.meld W.alone (GetAsked rank comm) (crew (view_of P.pack world.now (W.sight pass.old)) (records_of ranks.old)) reply
+        (λ reply. StepsBy P.meld W.alone (query acked rank comm) (crew (view_of P.pack world.now (W.sight pass.old)) (records_of ranks.old)) reply
         (crew (view_of P.pack world.now (W.sight pass.new)) (records_of ranks.new))) }
     ensures job { IsJob P.meld W.alone (view_of P.pack world.now (W.sight pass.new)) (records_of ranks.new) }
     ensures begins { IsPrefix (W.sight pass.old).seen (W.sight pass.new).seen }
     ensures about { IfOk result (IsAbout (state_seen (view_of P.pack world.now (W.sight pass.new)) (records_of ranks.new)) comm found.old.items found.new.items) }
-    ensures memory { OnErr result (vec_capacity found.old < length (failed world.now.limits.ranks (W.sight pass.new).seen comm)) }
+    ensures memory { OnErr result (vec_capacity found.old
+        < length (queried acked (records_of ranks.old) rank comm (failed world.now.limits.ranks (W.sight pass.new).seen comm))) }
     ensures kept { OnErr result (KeepsRecords (records_of ranks.old) (records_of ranks.new)) }
     ensures group { OnErr result (found.new.items ≡ found.old.items) }
 {
@@ -192,7 +229,7 @@ fn get_by<P: Packed, A: Allocator + Copy, W: Words<P, A>>(
         return Ok(Reply::Refused(Refusal::NoSuchRank));
     }
     let own = &mut ranks[rank as usize];
-    match own.get_failed(world, pass, comm, found) {
+    match ask(own, world, pass, comm, acked, found) {
         Ok(()) => Ok(Reply::FailedGroup {
             count: found.as_slice().len() as u16,
         }),

@@ -5,7 +5,7 @@ use Rattle.std.specs.List.{list_all}
 use Rattle.std.proofs.lemmas.Bool.{and_parts}
 use Rattle.std.proofs.lemmas.Bool.Decides.{Decides-and, Decides-like, Decides-or}
 use Rattle.ulfm_model.specs.declared.{call.Call.{Call}, call.Request.{Request}, contribution.Offer.{Offer}, event.Caller.{Caller}, limits.Limits.{Limits}, refusal.Refusal.{Refusal}, reply.Reply.{Reply}}
-use Rattle.ulfm_model.specs.Answers.{IsPending, IsReply, IsSelfFailed, PollReplies, Replies, RepliesBy, AtPoint, comm_of, rank_of, refusal_of, refusal_on, traits_of}
+use Rattle.ulfm_model.specs.Answers.{IsPending, IsReply, IsSelfFailed, PollReplies, Replies, RepliesBy, AtPoint, comm_of, most_failures, rank_of, refusal_of, refusal_on, traits_of}
 use Rattle.ulfm_model.specs.History.{History, decision, failed, failures, has, has_arrived, is_decided, is_revoked, members}
 use Rattle.ulfm_model.specs.Records.{Held, Record, free_ids, held_at}
 use Rattle.ulfm_record.specs.Kept.{FitsNext}
@@ -42,8 +42,13 @@ module _ {P : Type 0} (meld : P → P → P) (pack : P → ℕ) (tells : (x y : 
     replied_decides x (Call.Fail rank) reply = never_decides (λ q. q)
     replied_decides x (Call.GetFailed rank c) reply =
         Decides-and _ _ (ranks_decide (failures view.history) view.look) (group_decides (length (failed limits.ranks view.history c)) reply)
+    replied_decides x (Call.FailureGetAcked rank c) reply =
+        Decides-and _ _ (ranks_decide (failures view.history) view.look) (group_decides (length (take x.acked (failed limits.ranks view.history c))) reply)
     replied_decides x (Call.Ack rank c count) reply =
         Decides-and _ _ (ranks_decide (failures view.history) view.look) (acked_decides (max x.acked (min count (length (failed limits.ranks view.history c)))) reply)
+    replied_decides x (Call.FailureAck rank c) reply =
+        Decides-and _ _ (ranks_decide (failures view.history) view.look)
+        (acked_decides (max x.acked (min most_failures (length (failed limits.ranks view.history c)))) reply)
     replied_decides x (Call.Agree rank c value) reply = start_decides pack tells limits view wing old x (Offer.Flag value) reply
     replied_decides x (Call.Shrink rank c) reply = start_decides pack tells limits view wing old x (Offer.Ctx (free_ids old.held)) reply
     replied_decides x (Call.Barrier rank c) reply = barrier_start_decides view old x reply

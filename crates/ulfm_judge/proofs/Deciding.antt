@@ -137,7 +137,9 @@ module _ {P : Type 0} (look : List ℕ) where
   pub adds_decides : (r : ℕ) (x : Held) (asked : Call P) (event : Event P) → Decides (adds_test look r x asked event) (CallAdds look r x asked event)
   adds_decides r x (Call.Fail rank) event = never_decides (λ m. m)
   adds_decides r x (Call.GetFailed rank c) event = never_decides (λ m. m)
+  adds_decides r x (Call.FailureGetAcked rank c) event = never_decides (λ m. m)
   adds_decides r x (Call.Ack rank c count) event = never_decides (λ m. m)
+  adds_decides r x (Call.FailureAck rank c) event = never_decides (λ m. m)
   adds_decides r x (Call.Agree rank c value) event = settles_decides x.comm x.next_agreement r event
   adds_decides r x (Call.Shrink rank c) event = settles_decides x.comm x.next_agreement r event
   adds_decides r x (Call.Barrier rank c) event = arrives_decides x.comm x.next_barrier r event

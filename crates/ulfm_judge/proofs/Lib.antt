@@ -6,6 +6,7 @@ pub mod Failing
 pub mod Finding
 pub mod Lasting
 pub mod Leaving
+pub mod Placing
 pub mod Polling
 pub mod Replying
 pub mod Seating

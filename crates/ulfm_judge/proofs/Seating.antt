@@ -98,14 +98,14 @@ module _ {P : Type 0} where
 
 -- ---- what is kept at a caller's place
 
-get_other : {X : Type 0} (xs : List X) (i j : ℕ) (y : X) → j ≢ i → slice_get (set xs i y) j ≡ slice_get xs j
+pub get_other : {X : Type 0} (xs : List X) (i j : ℕ) (y : X) → j ≢ i → slice_get (set xs i y) j ≡ slice_get xs j
 get_other [] i j y apart = refl
 get_other (x ∷ xs) zero zero y apart = absurd (apart refl)
 get_other (x ∷ xs) zero (suc j) y apart = refl
 get_other (x ∷ xs) (suc i) zero y apart = refl
 get_other (x ∷ xs) (suc i) (suc j) y apart = get_other xs i j y (λ e. apart (ap suc e))
 
-get_same : {X : Type 0} (xs : List X) (i : ℕ) (y : X) → i < length xs → slice_get (set xs i y) i ≡ Some y
+pub get_same : {X : Type 0} (xs : List X) (i : ℕ) (y : X) → i < length xs → slice_get (set xs i y) i ≡ Some y
 get_same [] i y within = absurd (omega (arith, within))
 get_same (x ∷ xs) zero y within = refl
 get_same (x ∷ xs) (suc i) y within = get_same xs i y (omega (arith, within))

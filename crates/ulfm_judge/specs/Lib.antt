@@ -1,5 +1,6 @@
 pub mod CallsAt
 pub mod Failed
+pub mod Grids
 pub mod Groups
 pub mod Kept
 pub mod Numbers

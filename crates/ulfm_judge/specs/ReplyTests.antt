@@ -6,7 +6,7 @@ use Rattle.ulfm_laws.specs.declared.summary.Body.{Body}
 use Rattle.ulfm_model.specs.declared.{call.Call.{Call}, call.Request.{Request}, event.Caller.{Caller}, event.Event.{Event}, limits.Limits.{Limits}}
 use Rattle.ulfm_model.specs.declared.{contribution.Contribution.{Contribution}, contribution.Offer.{Offer}, contribution.Slot.{Slot}}
 use Rattle.ulfm_model.specs.declared.{refusal.Refusal.{Refusal}, reply.Reply.{Reply}}
-use Rattle.ulfm_model.specs.Answers.{comm_of, printed, rank_of, refusal_of}
+use Rattle.ulfm_model.specs.Answers.{comm_of, most_failures, printed, rank_of, refusal_of}
 use Rattle.ulfm_model.specs.Computed.{lowest_id}
 use Rattle.ulfm_model.specs.History.{Decision, has}
 use Rattle.ulfm_model.specs.Records.{Held, Record, free_ids, held_at}
@@ -232,8 +232,12 @@ module _ {P : Type 0} (meld : P → P → P) (pack : P → ℕ) (call : CallAt P
   abbrev pub replied_test : Held → Call P → Reply P → Bool
   replied_test x (Call.Fail rank) reply = false
   replied_test x (Call.GetFailed rank c) reply = same_ranks call.seen.failures call.look && group_test (length (failed_in call.seen c)) reply
+  replied_test x (Call.FailureGetAcked rank c) reply =
+      same_ranks call.seen.failures call.look && group_test (length (take x.acked (failed_in call.seen c))) reply
   replied_test x (Call.Ack rank c count) reply =
       same_ranks call.seen.failures call.look && acked_test (max x.acked (min count (length (failed_in call.seen c)))) reply
+  replied_test x (Call.FailureAck rank c) reply =
+      same_ranks call.seen.failures call.look && acked_test (max x.acked (min most_failures (length (failed_in call.seen c)))) reply
   replied_test x (Call.Agree rank c value) reply = offer_test pack call x (Offer.Flag value) reply
   replied_test x (Call.Shrink rank c) reply = offer_test pack call x (Offer.Ctx (free_ids call.caller.held)) reply
   replied_test x (Call.Barrier rank c) reply =

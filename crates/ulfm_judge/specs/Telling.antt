@@ -1,13 +1,13 @@
 -- The tables of numbers tell a history.
 use Rattle.std.specs.Prelude.{◌≡◌, ℕ, ◌+◌, ◌≤◌, nat_le, nat_eq, Bool, IfOk, IsTrue, if◌then◌else◌, List, [], length, map, Result, take}
 use Rattle.std.specs.HashMap.{get}
-use Rattle.ulfm_model.specs.History.{History, members, same_place, spawns}
+use Rattle.ulfm_model.specs.History.{History, members, spawns}
 use Rattle.ulfm_model.specs.declared.{event.Caller.{Caller}, limits.Limits.{Limits}, reply.Reply.{Reply}}
 use Rattle.ulfm_model.specs.Words.{MayOpen}
 use Rattle.ulfm_record.specs.declared.record.RankRecord.{RankRecord}
 use Rattle.ulfm_trace_model.specs.Traces.{Traced, Under}
 use Rattle.ulfm_judge.specs.declared.calls.OpenCall.{OpenCall}
-use Rattle.ulfm_judge.specs.{Failed.{members_of}, Groups.{group_at}, Kept.{AreCalls, MayLeave, traced_of}, Seen.{Seen}}
+use Rattle.ulfm_judge.specs.{Failed.{members_of}, Grids.{cell_at}, Groups.{group_at}, Kept.{AreCalls, MayLeave, traced_of}, Seen.{Seen}}
 use Rattle.ulfm_judge.specs.declared.numbers.Numbers.{Numbers}
 use Rattle.ulfm_judge.specs.Numbers.{TellsArrivals, TellsDeclared, TellsFailures, TellsRevocations, TellsSlots, TellsSpawns}
 use Rattle.ulfm_judge.specs.Numbers.{before_then, by_then, count_by}
@@ -31,8 +31,8 @@ pub record TablesTell {P A : Type 0} {g : _} (ranks : ℕ) (numbers : Numbers P 
 -- what the tables say of a point, which is a number of events
 abbrev pub seen_at : {P A : Type 0} {g : _} → Numbers P A g → ℕ → Seen P
 seen_at numbers point = record {
-  slots = λ at. by_then point (get same_place numbers.slots at);
-  arrived = λ at. before_then point (get same_place numbers.arrivals at);
+  slots = λ at. by_then point (cell_at numbers.slots at);
+  arrived = λ at. before_then point (cell_at numbers.arrivals at);
   revoked = λ c. before_then point (get nat_eq numbers.revocations c);
   declared = λ r. before_then point (get nat_eq numbers.declared r);
   failures = take (count_by point numbers.failed_at.items) numbers.failures.items;

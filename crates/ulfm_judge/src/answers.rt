@@ -1,5 +1,5 @@
 //! Whether a reply is an answer to a caller's call, at a point.
-ghost use Rattle.std.specs.Prelude.{◌≡◌, ◌&&◌, IfOk, filter, length, max, min};
+ghost use Rattle.std.specs.Prelude.{◌≡◌, ◌&&◌, IfOk, filter, length, max, min, take};
 ghost use Rattle.ulfm_model.specs.History.{has};
 ghost use Rattle.ulfm_model.specs.Answers.{comm_of, refusal_of};
 ghost use Rattle.ulfm_model.specs.Records.{held_at};
@@ -18,9 +18,8 @@ use crate::replies::{
 use std::alloc::{AllocError, Allocator};
 use ulfm_history::reads::has_rank;
 use ulfm_laws::meld::{Meld, Packed};
-use ulfm_model::call::{Call, comm_of};
+use ulfm_model::call::{Call, MOST_FAILURES, comm_of};
 use ulfm_model::contribution::Offer;
-use ulfm_model::event::Event;
 use ulfm_model::refusal::Refusal;
 use ulfm_model::reply::Reply;
 use ulfm_record::held::{HeldComm, place_of, refusal_of};
@@ -38,16 +37,18 @@ fn starts<P: Copy>(asked: &Call<P>) -> bool
     }
 }
 
-/// Whether a reply refuses for good, by whether the rank is declared.
-fn is_self_failed<P: Copy>(
-    declared: bool,
-    own: &[Event<P>],
+/// Whether a reply refuses for good, by whether the rank is declared, which is looked up only where the reply is that refusal.
+fn is_self_failed<P: Meld, A: Allocator + Copy + Drop>(
+    view: &View<P, A>,
+    rank: u16,
     asked: &Call<P>,
     reply: &Reply<P>,
 ) -> bool
-    ensures { result ≡ self_failed_test declared own.now asked.now reply.now }
+    ensures { result ≡ self_failed_test ((seen_at view.now.numbers.now view.now.point).declared rank) view.now.own.now asked.now reply.now }
 {
-    is_refused(reply, Refusal::SelfFailed) && (declared && (!starts(asked) || own.is_empty()))
+    is_refused(reply, Refusal::SelfFailed)
+        && (view.numbers.is_declared_at(rank, view.point)
+            && (!starts(asked) || view.own.is_empty()))
 }
 
 /// How many failures of a communicator there were at a point.
@@ -68,7 +69,8 @@ fn found_all<P: Meld, A: Allocator + Copy + Drop>(view: &View<P, A>) -> bool
     same_ranks(view.numbers.failures_at(view.point), view.look)
 }
 
-/// How many of a communicator's members a look found declared, where these are the members that a rank knows.
+/// How many of a communicator's members a look found declared, where these are the members that a rank knows. They aren't read where the
+/// look found nobody.
 fn count_found<P: Meld, A: Allocator + Copy + Drop>(
     numbers: &Numbers<P, A>,
     look: &[u16],
@@ -77,6 +79,9 @@ fn count_found<P: Meld, A: Allocator + Copy + Drop>(
 ) -> usize
     ensures { result ≡ length (filter (has group.now) look.now) }
 {
+    if look.is_empty() {
+        return 0;
+    }
     match numbers.known_of(look, comm, group) {
         Some(known) => known.len(),
         None => count_known(look, group),
@@ -94,6 +99,22 @@ fn is_failed_reply<P: Meld, A: Allocator + Copy + Drop>(
 {
     let all = found_all(view);
     let count = count_failed(view.numbers, view.point, comm);
+    all && is_group_reply(count, reply)
+}
+
+/// Whether a query of the acknowledged failures is answered so, at a look that found all.
+fn is_acked_group_reply<P: Meld, A: Allocator + Copy + Drop>(
+    view: &View<P, A>,
+    x: &HeldComm<A>,
+    comm: u16,
+    reply: &Reply<P>,
+) -> bool
+    ensures { let seen = seen_at view.now.numbers.now view.now.point in
+        result ≡ (same_ranks seen.failures view.now.look.now && group_test (length (take x.now.acked (failed_in seen comm))) reply.now) }
+{
+    let all = found_all(view);
+    let known = count_failed(view.numbers, view.point, comm);
+    let count = usize::from(x.acked).min(known);
     all && is_group_reply(count, reply)
 }
 
@@ -161,6 +182,8 @@ fn is_reply_on<P: Packed, A: Allocator + Copy + Drop>(
         Call::Fail { .. } => Ok(false),
         Call::GetFailed { comm, .. } => Ok(is_failed_reply(view, comm, reply)),
         Call::Ack { comm, count, .. } => Ok(is_ack_reply(view, x, comm, count, reply)),
+        Call::FailureAck { comm, .. } => Ok(is_ack_reply(view, x, comm, MOST_FAILURES, reply)),
+        Call::FailureGetAcked { comm, .. } => Ok(is_acked_group_reply(view, x, comm, reply)),
         Call::Agree { value, .. } => Ok(is_offer_reply(view, x, Offer::Flag(value), reply)),
         Call::Shrink { .. } => {
             let free = free_ids(&view.caller.held);
@@ -212,11 +235,7 @@ pub(crate) fn is_answer<P: Packed, A: Allocator + Copy + Drop>(
 {
     let by_record = is_reply_by_record(alloc, view, asked, reply)?;
     let rank = view.caller.number;
-    let declared = view.numbers.is_declared_at(rank, view.point);
-    Ok(
-        is_self_failed(declared, view.own, asked, reply)
-            || (!has_rank(view.look, rank) && by_record),
-    )
+    Ok(is_self_failed(view, rank, asked, reply) || (!has_rank(view.look, rank) && by_record))
 }
 
 /// Whether a reply lists this group.

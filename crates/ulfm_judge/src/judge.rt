@@ -88,6 +88,7 @@ fn reply_told<P: Packed, A: Allocator + Copy + Drop>(
 }
 
 /// Takes in a line, on what is kept.
+#[inline(always)]
 fn take_line<P: Packed, A: Allocator + Copy + Drop>(
     alloc: A,
     limits: Limits,
@@ -144,6 +145,7 @@ impl<P: Packed, A: Allocator + Copy + Drop> Judge<P, A> {
     /// Judges one line, with the ranks that it lists where it is a reply, after those that were taken before: why it may not come,
     /// or nothing where it may. A line that may not come changes nothing. After an error, which is want of memory, part of the line
     /// may be taken in: such a judge is to be used no more.
+    #[inline(always)]
     pub fn take(&mut self, line: &Line<P>, group: &[u16]) -> Result<Option<Why>, AllocError>
         ensures few { call_places self.new ≤ max (call_places self.old) (needed_by line.now) }
         ensures taken { (now : Traced P) → JudgeStands self.old now

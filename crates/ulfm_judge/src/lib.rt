@@ -6,6 +6,7 @@ mod answers;
 pub mod calls;
 mod closing;
 mod events;
+mod grids;
 mod groups;
 pub mod judge;
 mod numbers;

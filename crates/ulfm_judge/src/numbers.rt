@@ -1,7 +1,7 @@
 //! When things happened: tables of the numbers of events, in place of walks of a history. Each answer is at a point, which is a
 //! number of events; the tables tell it for every point so far, at no cost by the length of the history. Who the members of a
 //! communicator are is kept when it is made.
-ghost use Rattle.std.specs.Prelude.{◌≡◌, ◌+◌, ◌++◌, ◌∷◌, [], ℕ, IfOk, IfSome, OnOk, filter, filter_map, is_some, length, map, take, true};
+ghost use Rattle.std.specs.Prelude.{◌≡◌, ◌+◌, ◌++◌, ◌∷◌, [], ℕ, IfOk, IfSome, OnOk, Some, filter, filter_map, if◌then◌else◌, is_some, length, map, take, true};
 ghost use Rattle.std.specs.HashMap.{get};
 ghost use Rattle.std.specs.List.{cons_option, list_all};
 ghost use Rattle.ulfm_history.specs.Walked.{decision_of};
@@ -10,10 +10,12 @@ ghost use Rattle.ulfm_judge.specs.Failed.{AreFailed, members_of};
 ghost use Rattle.ulfm_judge.specs.Numbers.{TellsArrivals, TellsDeclared, TellsFailures, TellsRevocations, TellsSlots, TellsSpawns};
 ghost use Rattle.ulfm_judge.specs.Numbers.{AreBefore, Notes, before_then, by_then, count_by, first_noted};
 ghost use Rattle.ulfm_judge.specs.Seen.{decision_in, failed_in, is_decided_in, made_in, settled_in};
+ghost use Rattle.ulfm_judge.specs.Grids.{cell_at};
 ghost use Rattle.ulfm_judge.specs.Groups.{group_at, items_of};
 ghost use Rattle.ulfm_judge.specs.Rounds.{AreDone, IsByRound, IsDone, KeepsSlots};
-ghost use Rattle.ulfm_model.specs.History.{History, has, says};
+ghost use Rattle.ulfm_model.specs.History.{History, has, same_place, says};
 
+use crate::grids::{Grid, cell_at, new_grid, put_at};
 use crate::groups::{Group, declare_in_all, group_of, has_member};
 use crate::replies::same_ranks;
 use crate::rounds::{Done, have_common, know_few};
@@ -36,9 +38,9 @@ pub type Table<K, V, A> = HashMap<K, V, BuildHasherDefault<FoldHasher>, A>;
 #[derive(Drop)]
 pub struct Numbers<P: Meld, A: Allocator> {
     /// By place, the event that settled it, and what it is settled by.
-    pub slots: Table<RoundKey, (u64, Slot<P>), A>,
+    pub slots: Grid<(u64, Slot<P>), A>,
     /// By place, the arrival of its rank.
-    pub arrivals: Table<RoundKey, u64, A>,
+    pub arrivals: Grid<u64, A>,
     /// By communicator, its revocation.
     pub revocations: Table<u16, u64, A>,
     /// By rank, its declaration.
@@ -55,13 +57,12 @@ pub struct Numbers<P: Meld, A: Allocator> {
     pub groups: Vec<Group<A>, A>,
     /// By communicator and round, with rank 0, what those rounds decided that have.
     pub rounds: Table<RoundKey, Done<P, A>, A>,
-    /// By communicator and round, with rank 0, where the search for a member that isn't settled begins, and who was settled last.
-    pub hints: Table<RoundKey, (usize, u16), A>,
+    /// By communicator and round, at communicator 0, where the search for a member that isn't settled begins, and who was settled last.
+    pub hints: Grid<(usize, u16), A>,
     /// How many events there are.
     pub count: u64,
     ghost rounds_done: { AreDone P.meld rounds slots failures.items (map members_of groups.items) },
     ghost rounds_by_round: { IsByRound rounds },
-    ghost hints_by_round: { IsByRound hints },
     ghost failed: { AreFailed failures.items groups.items },
     ghost failed_before: { AreBefore count failed_at.items },
     ghost spawned_before: { AreBefore count spawned_at.items },
@@ -140,7 +141,8 @@ fn declared_by<P: Copy>(entry: &Entry<P>) -> Option<u16>
 
 /// Notes what one more event settles, with its number.
 fn note_slot<P: Copy, A: Allocator + Copy>(
-    slots: &mut Table<RoundKey, (u64, Slot<P>), A>,
+    alloc: A,
+    slots: &mut Grid<(u64, Slot<P>), A>,
     number: u64,
     entry: &Entry<P>,
 ) -> Result<(), AllocError>
@@ -150,10 +152,29 @@ fn note_slot<P: Copy, A: Allocator + Copy>(
     let Some((place, slot)) = settled_by(entry) else {
         return Ok(());
     };
-    if slots.get(&place).is_some() {
+    if cell_at(slots, place).is_some() {
         return Ok(());
     }
-    slots.insert(place, (number, slot))?;
+    put_at(alloc, slots, place, (number, slot))?;
+    Ok(())
+}
+
+/// Notes a number at a place, if one is given that has none.
+fn note_arrival<A: Allocator + Copy>(
+    alloc: A,
+    arrivals: &mut Grid<u64, A>,
+    number: u64,
+    given: Option<RoundKey>,
+) -> Result<(), AllocError>
+    ensures { OnOk result ((q : ℕ × ℕ × ℕ) → cell_at arrivals.new q ≡ first_noted same_place (cell_at arrivals.old) number given q) }
+{
+    let Some(place) = given else {
+        return Ok(());
+    };
+    if cell_at(arrivals, place).is_some() {
+        return Ok(());
+    }
+    put_at(alloc, arrivals, place, number)?;
     Ok(())
 }
 
@@ -258,8 +279,8 @@ fn note_group<A: Allocator + Copy + Drop>(
 /// Notes one more event in each table, and the members of the communicator that it makes.
 fn note_all<P: Copy, A: Allocator + Copy + Drop>(
     alloc: A,
-    slots: &mut Table<RoundKey, (u64, Slot<P>), A>,
-    arrivals: &mut Table<RoundKey, u64, A>,
+    slots: &mut Grid<(u64, Slot<P>), A>,
+    arrivals: &mut Grid<u64, A>,
     revocations: &mut Table<u16, u64, A>,
     declared: &mut Table<u16, u64, A>,
     failures: &mut Vec<u16, A>,
@@ -287,12 +308,25 @@ fn note_all<P: Copy, A: Allocator + Copy + Drop>(
     ensures spawned_before { AreBefore number spawned_at.old.items → OnOk result (AreBefore (number + 1) spawned_at.new.items) }
 {
     note_group(alloc, groups, failures, made)?;
-    note_slot(slots, number, entry)?;
-    note_first(arrivals, number, arrival_by(entry))?;
+    note_slot(alloc, slots, number, entry)?;
+    note_arrival(alloc, arrivals, number, arrival_by(entry))?;
     note_first(revocations, number, revoked_by(entry))?;
     note_first(declared, number, declared_by(entry))?;
     note_failure(failures, failed_at, groups, number, entry)?;
     note_spawn(spawns, spawned_at, number, entry)
+}
+
+/// Keeps where the search for a member of a round begins, and who was settled last, at one cell for each round.
+fn keep_hint<A: Allocator + Copy>(
+    alloc: A,
+    hints: &mut Grid<(usize, u16), A>,
+    comm: u16,
+    round: u16,
+    hint: (usize, u16),
+) -> Result<(), AllocError>
+    ensures { OnOk result ((q : ℕ × ℕ × ℕ) → cell_at hints.new q ≡ (if same_place (0, comm, round) q then Some hint else cell_at hints.old q)) }
+{
+    put_at(alloc, hints, (0, comm, round), hint)
 }
 
 /// The first so many ranks of a list, or all of it.
@@ -372,8 +406,8 @@ impl<P: Meld, A: Allocator + Copy + Drop> Numbers<P, A> {
         let mut groups = Vec::new(alloc);
         groups.push(group_of(alloc, world, &[])?)?;
         Ok(Numbers {
-            slots: HashMap::new(alloc),
-            arrivals: HashMap::new(alloc),
+            slots: new_grid(alloc),
+            arrivals: new_grid(alloc),
             revocations: HashMap::new(alloc),
             declared: HashMap::new(alloc),
             failures: Vec::new(alloc),
@@ -382,7 +416,7 @@ impl<P: Meld, A: Allocator + Copy + Drop> Numbers<P, A> {
             spawned_at: Vec::new(alloc),
             groups,
             rounds: HashMap::new(alloc),
-            hints: HashMap::new(alloc),
+            hints: new_grid(alloc),
             count: 0,
         })
     }
@@ -434,7 +468,7 @@ impl<P: Meld, A: Allocator + Copy + Drop> Numbers<P, A> {
             return Ok(());
         };
         let open = self.first_open(comm, round);
-        self.hints.insert((comm, round, 0), (open, rank))?;
+        keep_hint(alloc, &mut self.hints, comm, round, (open, rank))?;
         if open < group_at(&self.groups, comm).len() {
             return Ok(());
         }
@@ -446,9 +480,10 @@ impl<P: Meld, A: Allocator + Copy + Drop> Numbers<P, A> {
         let group = group_at(&self.groups, comm);
         let begin = self.hint_of(comm, round).0;
         let open = match group.get(begin..) {
-            Some(rest) => rest
-                .iter()
-                .position(|rank| self.slots.get(&(comm, round, *rank)).is_none()),
+            Some(rest) => rest.iter().position(|rank| cell_at(
+                &self.slots,
+                (comm, round, *rank),
+            ).is_none()),
             None => None,
         };
         match open {
@@ -492,8 +527,8 @@ impl<P: Meld, A: Allocator + Copy + Drop> Numbers<P, A> {
 
     /// Where the search for a member of a round that isn't settled begins, and who was settled last.
     pub(crate) fn hint_of(&self, comm: u16, round: u16) -> (usize, u16) {
-        match self.hints.get(&(comm, round, 0)) {
-            Some(hint) => *hint,
+        match cell_at(&self.hints, (0, comm, round)) {
+            Some(hint) => hint,
             None => (0, 0),
         }
     }
@@ -563,14 +598,14 @@ impl<P: Meld, A: Allocator + Copy + Drop> Numbers<P, A> {
     pub(crate) fn slot_at(&self, place: RoundKey, point: u64) -> Option<Slot<P>>
         ensures { result ≡ (seen_at self.now point).slots place }
     {
-        given_by(self.slots.get(&place).copied(), point)
+        given_by(cell_at(&self.slots, place), point)
     }
 
     /// Whether a rank had arrived at a place of a barrier round at a point.
     pub(crate) fn has_arrived_at(&self, place: RoundKey, point: u64) -> bool
         ensures { result ≡ (seen_at self.now point).arrived place }
     {
-        was_by(self.arrivals.get(&place).copied(), point)
+        was_by(cell_at(&self.arrivals, place), point)
     }
 
     /// Whether a communicator was revoked at a point.

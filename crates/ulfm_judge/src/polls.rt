@@ -55,7 +55,7 @@ fn is_late<P: Meld, A: Allocator + Copy + Drop>(
     ensures { result ≡ late_test view.now.look.now (seen_at view.now.numbers.now view.now.point) comm round rank }
 {
     let slot = view.numbers.slot_at((comm, round, rank), view.point);
-    !has_rank(view.look, rank) && slot.is_none()
+    slot.is_none() && !has_rank(view.look, rank)
 }
 
 /// Whether the member at a place, if there is one, is such a rank.

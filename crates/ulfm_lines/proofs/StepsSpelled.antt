@@ -2,7 +2,7 @@
 use Rattle.std.proofs.Common.{◌≡◌, ℕ, ◌<◌, List, ◌∷◌, ◌++◌, length, Option, Some, None, Result, Ok, Err, Bool, true, false, cond, if◌then◌else◌, refl, sym, ap, subst, ◌∙◌, inl, inr, arith}
 use Rattle.std.specs.{Prelude.{◌==◌, codes, IfOk}, Fmt.{decimal}, Str.{bytes_eq}}
 use Rattle.std.proofs.lemmas.{Bool.{eqb-false, ne_eqb}, Slice.Eq.{bytes_eq-Decides}}
-use Rattle.ulfm_model.specs.declared.call.Call.TheVariants.{Fail, GetFailed, Ack, Agree, Shrink, Barrier, Poll, Revoke, IsRevoked, Free}
+use Rattle.ulfm_model.specs.declared.call.Call.TheVariants.{Fail, GetFailed, Ack, FailureAck, FailureGetAcked, Agree, Shrink, Barrier, Poll, Revoke, IsRevoked, Free}
 use Rattle.ulfm_model.specs.declared.step_name.StepName.{StepName}
 use Rattle.ulfm_model.specs.declared.step_name.StepName.TheVariants as name
 use Rattle.ulfm_trace_model.specs.declared.step_line.StepLine.TheVariants.{Called, Stepped, Before, Finished, Failed}
@@ -76,7 +76,9 @@ by_rank : (line : List ℕ) (asked : ScriptCall) → Spells line asked → IsByR
     → ((length (first_word line).0 == 0) ≡ false) × (bytes_eq (first_word line).0 (codes "fail") ≡ false)
 by_rank line (Fail rank) h k = absurd (k rank refl)
 by_rank line (GetFailed rank comm) h k = rw h.line_is (refl, refl)
+by_rank line (FailureGetAcked rank comm) h k = rw h.1.line_is (refl, refl)
 by_rank line (Ack rank comm count) h k = rw h.1.line_is (refl, refl)
+by_rank line (FailureAck rank comm) h k = rw h.1.line_is (refl, refl)
 by_rank line (Agree rank comm flag) h k = rw h.2.line_is (refl, refl)
 by_rank line (Shrink rank comm) h k = rw h.line_is (refl, refl)
 by_rank line (Barrier rank comm) h k = rw h.line_is (refl, refl)

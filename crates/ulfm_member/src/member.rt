@@ -5,15 +5,15 @@ ghost use Rattle.ulfm_model.specs.History.{failed};
 ghost use Rattle.ulfm_model.specs.Records.{Held, held_at};
 ghost use Rattle.ulfm_model.specs.declared.call.Call.TheVariants.{Ack as AckAsked, Agree as AgreeAsked, Barrier as BarrierAsked, Free as FreeAsked};
 ghost use Rattle.ulfm_model.specs.declared.call.Call.TheVariants.{GetFailed as GetAsked, IsRevoked as StandingAsked, Revoke as RevokeAsked};
-ghost use Rattle.ulfm_model.specs.declared.call.Call.TheVariants.{Shrink as ShrinkAsked};
+ghost use Rattle.ulfm_model.specs.declared.call.Call.TheVariants.{FailureAck as AckAllAsked, FailureGetAcked as GetAckedAsked, Shrink as ShrinkAsked};
 ghost use Rattle.ulfm_model.specs.declared.{refusal.Refusal.TheVariants.{OutOfMemory as NoMemory}, reply.Reply.TheVariants.{Acked, Freed, Standing, Started}};
 ghost use Rattle.ulfm_words.specs.Steps.{Tells};
 ghost use Rattle.ulfm_comm.specs.Calls.{reply_of};
-ghost use Rattle.ulfm_comm.specs.Excludes.{Excludes};
+ghost use Rattle.ulfm_comm.specs.{Excludes.{Excludes}, Queries.{acked_in}};
 ghost use Rattle.ulfm_comm.specs.Fails.{declared};
 ghost use Rattle.ulfm_comm.specs.Misses.{size_held};
 ghost use Rattle.ulfm_comm.specs.Revokes.{revoked};
-ghost use Rattle.ulfm_member.specs.Members.{IsMember, MemberCalls, MemberFails, MemberGets, MemberLearns, MemberMisses, MemberPolls, view_in, viewing};
+ghost use Rattle.ulfm_member.specs.Members.{IsMember, MemberCalls, MemberFails, MemberGets, MemberLearns, MemberMisses, MemberPolls, after_call, view_in, viewing};
 
 use std::alloc::Allocator;
 use std::marker::Model;
@@ -309,6 +309,43 @@ where
     {
         self.rank
             .ack_failed(&self.world, &mut self.pass, comm, count)
+    }
+
+    /// Acknowledges all known failures of a communicator, as `Rank::failure_ack`.
+    ///
+    /// ```
+    /// member.fail(1)?;
+    /// assert!(rt; member.failure_ack(0) == Ok(1));
+    /// ```
+    pub fn failure_ack(&mut self, comm: u16) -> Result<u16, Refusal>
+        ensures { MemberCalls P.meld P.pack W.alone (AckAllAsked self.old.own.number comm) self.old (reply_of Acked result) self.new }
+    {
+        self.rank.failure_ack(&self.world, &mut self.pass, comm)
+    }
+
+    /// Puts the acknowledged failures of a communicator into a vector, as `Rank::failure_get_acked`.
+    ///
+    /// ```
+    /// member.fail(1)?;
+    /// let mut found = Vec::new(alloc);
+    /// member.failure_get_acked(0, &mut found)?;
+    /// assert!(rt; found.is_empty());
+    /// member.failure_ack(0)?;
+    /// member.failure_get_acked(0, &mut found)?;
+    /// assert_eq!(rt; found.as_slice(), [1].as_slice());
+    /// ```
+    pub fn failure_get_acked<B: Allocator>(
+        &mut self,
+        comm: u16,
+        found: &mut Vec<u16, B>,
+    ) -> Result<(), Refusal>
+        ensures gets { MemberGets P.meld P.pack W.alone (GetAckedAsked self.old.own.number comm) self.old (length found.new.items) result self.new }
+        ensures group { IfOk result (λ _. found.new.items ≡ acked_in (after_call P.pack self.old self.new) comm) }
+        ensures kept { OnErr result (found.new.items ≡ found.old.items) }
+        ensures memory { result ≡ Err NoMemory → vec_capacity found.old < length (acked_in (after_call P.pack self.old self.new) comm) }
+    {
+        self.rank
+            .failure_get_acked(&self.world, &mut self.pass, comm, found)
     }
 
     /// Revokes a communicator, as `Rank::revoke`.

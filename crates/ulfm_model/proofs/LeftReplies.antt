@@ -1,5 +1,7 @@
 -- What each reply leaves of a record fits the history at the end of the call.
 use Rattle.std.proofs.Common.{◌≡◌, ◌⊎◌, ℕ, ◌<◌, ◌==◌, min, max, Bool, true, false, cond, not, List, [], ◌∷◌, ◌++◌, length, Option, Some, None, is_some, refl, ap, sym, subst, arith, filter, inl, inr, nat_le}
+use Rattle.std.proofs.Common.{take}
+use Rattle.ulfm_model.specs.Answers.{most_failures}
 use Rattle.ulfm_laws.specs.Ranges.{payload_bits}
 use Rattle.std.specs.List.{list_any, list_all, AllByRecursion}
 use mathlib.Core.List.{IsPrefix}
@@ -35,7 +37,9 @@ module _ {P : Type 0} where
   tests_keep : (old : Record) (x : Held) (asked : Call P) → AllByRecursion KeepsRecord (tests_of old x asked)
   tests_keep old x (call.Fail rank) = tt
   tests_keep old x (call.GetFailed rank c) = tt
+  tests_keep old x (call.FailureGetAcked rank c) = tt
   tests_keep old x (call.Ack rank c count) = tt
+  tests_keep old x (call.FailureAck rank c) = tt
   tests_keep old x (call.Agree rank c value) = (refl, (refl, tt))
   tests_keep old x (call.Shrink rank c) = (refl, (refl, (refl, tt)))
   tests_keep old x (call.Barrier rank c) = (refl, (refl, tt))
@@ -103,6 +107,16 @@ module _ {P : Type 0} (meld : P → P → P) (limits : Limits) (view : AtPoint P
         by_reply (call.Ack rank c count) reply (Acked (max x.acked (min count (length (failed limits.ranks view.history c))))) is
         (fits_acked meld limits after now c x (max x.acked (min count (length (failed limits.ranks view.history c)))) fits at (omega (arith, was, same, more)))
 
+    -- .. of all
+    failure_ack_left : (rank c : ℕ) (x : Held) (reply : Reply P) → held_at now c ≡ Some x → Exists view.history c → reply ≡ Acked (max x.acked (min most_failures (length (failed limits.ranks view.history c)))) → Leaves (call.FailureAck rank c) reply
+    failure_ack_left rank c x reply at here is =
+        let both = held_fits meld limits after now c x fits at in
+        let was = both.0.acked in
+        let same : length (failed limits.ranks after x.comm) ≡ length (failed limits.ranks after c) = ap (λ w. length (failed limits.ranks after w)) both.1 in
+        let more = length_prefix (failed limits.ranks view.history c) (failed limits.ranks after c) (failed_begins meld limits view.history after c point_ends legal here) in
+        by_reply (call.FailureAck rank c) reply (Acked (max x.acked (min most_failures (length (failed limits.ranks view.history c))))) is
+        (fits_acked meld limits after now c x (max x.acked (min most_failures (length (failed limits.ranks view.history c)))) fits at (omega (arith, was, same, more)))
+
     module _ (rank c : ℕ) (x : Held) (at : held_at now c ≡ Some x) where
       -- the call
       abbrev poll : Call P
@@ -150,8 +164,11 @@ module _ {P : Type 0} (meld : P → P → P) (limits : Limits) (view : AtPoint P
     held_left : (asked : Call P) (x : Held) (reply : Reply P) → held_at now (comm_of asked) ≡ Some x → Exists view.history x.comm → first_refusal (tests_of old x asked) ≡ None → Replies meld limits view old x asked reply → Leaves asked reply
     held_left (call.Fail rank) x reply at here open_to replies = absurd replies
     held_left (call.GetFailed rank c) x reply at here open_to replies = by_reply (call.GetFailed rank c) reply (FailedGroup (length (failed limits.ranks view.history c))) replies.1 fits
+    held_left (call.FailureGetAcked rank c) x reply at here open_to replies = by_reply (call.FailureGetAcked rank c) reply (FailedGroup (length (take x.acked (failed limits.ranks view.history c)))) replies.1 fits
     held_left (call.Ack rank c count) x reply at here open_to replies =
         ack_left rank c count x reply at (subst (Exists view.history) (held_fits meld limits after now c x fits at).1 here) replies.1
+    held_left (call.FailureAck rank c) x reply at here open_to replies =
+        failure_ack_left rank c x reply at (subst (Exists view.history) (held_fits meld limits after now c x fits at).1 here) replies.1
     held_left (call.Agree rank c value) x reply at here open_to replies = agree_left rank c value x reply at replies
     held_left (call.Shrink rank c) x reply at here open_to replies =
         let idle = none_holds (is_some x.request, Busy) ((list_any (λ y. is_shrink y.request) old.held, ShrinkOpen) ∷ (nat_le old.limits.rounds x.next_agreement, RoundsUsedUp) ∷ []) open_to in

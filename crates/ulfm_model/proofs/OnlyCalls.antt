@@ -45,7 +45,9 @@ poll_declares_none look x (Some (Barrier k)) e adds = absurd adds
 pub declares_none : {P : Type 0} (look : List ℕ) (r : ℕ) (x : Held) (asked : Call P) (e : Event P) → CallAdds look r x asked e → declared_by e ≡ None
 declares_none look r x (call.Fail rank) e adds = absurd adds
 declares_none look r x (call.GetFailed rank c) e adds = absurd adds
+declares_none look r x (call.FailureGetAcked rank c) e adds = absurd adds
 declares_none look r x (call.Ack rank c count) e adds = absurd adds
+declares_none look r x (call.FailureAck rank c) e adds = absurd adds
 declares_none look r x (call.Agree rank c value) e adds = ap declared_by adds.1
 declares_none look r x (call.Shrink rank c) e adds = ap declared_by adds.1
 declares_none look r x (call.Barrier rank c) e adds = ap declared_by adds
@@ -184,7 +186,9 @@ module _ {P : Type 0} (meld : P → P → P) (limits : Limits) (h : History P) (
         → Replies meld limits view own x asked reply → IsComputed x asked reply
     call_is (call.Fail rank) reply adds settled replies = absurd replies
     call_is (call.GetFailed rank c) reply adds settled replies = record { adds = adds_nothing (CallAdds (failures h) n x (call.GetFailed rank c)) events (λ e none. none) adds; replies = replies.1 }
+    call_is (call.FailureGetAcked rank c) reply adds settled replies = record { adds = adds_nothing (CallAdds (failures h) n x (call.FailureGetAcked rank c)) events (λ e none. none) adds; replies = replies.1 }
     call_is (call.Ack rank c count) reply adds settled replies = record { adds = adds_nothing (CallAdds (failures h) n x (call.Ack rank c count)) events (λ e none. none) adds; replies = replies.1 }
+    call_is (call.FailureAck rank c) reply adds settled replies = record { adds = adds_nothing (CallAdds (failures h) n x (call.FailureAck rank c)) events (λ e none. none) adds; replies = replies.1 }
     call_is (call.Agree rank c value) reply adds settled replies = let both = start_is x (Flag value) reply replies in record { adds = both.0; replies = both.1 }
     call_is (call.Shrink rank c) reply adds settled replies = let both = start_is x (Ctx (free_ids own.held)) reply replies in record { adds = both.0; replies = both.1 }
     call_is (call.Barrier rank c) reply adds settled replies = let both = barrier_is x reply replies in record { adds = both.0; replies = both.1 }

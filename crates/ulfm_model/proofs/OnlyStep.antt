@@ -81,7 +81,9 @@ module _ {P : Type 0} (meld : P → P → P) (state : State P) (sound : IsSound 
   pub step_is_next : (asked : Call P) (reply : Reply P) (new : State P) → IsStep meld state (traits_of asked).by asked reply new → (reply ≡ (next meld state asked).reply) × (new ≡ (next meld state asked).state)
   step_is_next (call.Fail rank) reply new step = fail_step_is rank reply new step
   step_is_next (call.GetFailed rank c) reply new step = rank_step_is rank (record_at state rank) refl (call.GetFailed rank c) reply new step
+  step_is_next (call.FailureGetAcked rank c) reply new step = rank_step_is rank (record_at state rank) refl (call.FailureGetAcked rank c) reply new step
   step_is_next (call.Ack rank c count) reply new step = rank_step_is rank (record_at state rank) refl (call.Ack rank c count) reply new step
+  step_is_next (call.FailureAck rank c) reply new step = rank_step_is rank (record_at state rank) refl (call.FailureAck rank c) reply new step
   step_is_next (call.Agree rank c value) reply new step = rank_step_is rank (record_at state rank) refl (call.Agree rank c value) reply new step
   step_is_next (call.Shrink rank c) reply new step = rank_step_is rank (record_at state rank) refl (call.Shrink rank c) reply new step
   step_is_next (call.Barrier rank c) reply new step = rank_step_is rank (record_at state rank) refl (call.Barrier rank c) reply new step

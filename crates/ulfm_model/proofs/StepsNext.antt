@@ -73,7 +73,9 @@ module _ {P : Type 0} (meld : P → P → P) (state : State P) (sound : IsSound 
       let run = fail_is_run meld state.limits state.history sound.legal rank in
       (rank, refl, _, run.0, run.1, refl)
   next_is_step (call.GetFailed rank c) = rank_step rank (call.GetFailed rank c) refl
+  next_is_step (call.FailureGetAcked rank c) = rank_step rank (call.FailureGetAcked rank c) refl
   next_is_step (call.Ack rank c count) = rank_step rank (call.Ack rank c count) refl
+  next_is_step (call.FailureAck rank c) = rank_step rank (call.FailureAck rank c) refl
   next_is_step (call.Agree rank c value) = rank_step rank (call.Agree rank c value) refl
   next_is_step (call.Shrink rank c) = rank_step rank (call.Shrink rank c) refl
   next_is_step (call.Barrier rank c) = rank_step rank (call.Barrier rank c) refl

@@ -17,7 +17,7 @@ use Rattle.ulfm_model.specs.Computed.{held_outcome, outcome_of, rank_outcome, us
 use Rattle.ulfm_model.specs.Terms.{comm_of, contexts_of, request_of, tests_of}
 use Rattle.ulfm_model.specs.Answers.{Replies}
 use Rattle.ulfm_model.proofs.StepsAlone.{IsGood, view_with}
-use Rattle.ulfm_model.proofs.StepsPlain.{ack_good, free_good, get_good, holds, revoke_good, standing_good}
+use Rattle.ulfm_model.proofs.StepsPlain.{ack_good, failure_ack_good, free_good, get_acked_good, get_good, holds, revoke_good, standing_good}
 use Rattle.ulfm_model.proofs.StepsPolls.{poll_good}
 use Rattle.ulfm_model.proofs.StepsStarts.{agree_good, barrier_good, shrink_good}
 
@@ -41,7 +41,9 @@ module _ {P : Type 0} (meld : P → P → P) (limits : Limits) (h : History P) (
       → first_refusal (tests_of own x asked) ≡ None → IsGood meld limits h own asked (held_outcome meld limits h own x asked)
   held_good alive (call.Fail r) rank by_rank x at passed tests = absurd (cc by_rank)
   held_good alive (call.GetFailed r c) rank by_rank x at passed tests = get_good meld limits h own alive x r c at passed
+  held_good alive (call.FailureGetAcked r c) rank by_rank x at passed tests = get_acked_good meld limits h own alive x r c at passed
   held_good alive (call.Ack r c count) rank by_rank x at passed tests = ack_good meld limits h own alive x r c count at passed
+  held_good alive (call.FailureAck r c) rank by_rank x at passed tests = failure_ack_good meld limits h own alive x r c at passed
   held_good alive (call.Agree r c value) rank by_rank x at passed tests =
       let first = passes_first (is_some x.request, Busy) ((nat_le own.limits.rounds (x.next_agreement + 1), RoundsUsedUp) ∷ []) tests in
       let second = passes_first (nat_le own.limits.rounds (x.next_agreement + 1), RoundsUsedUp) [] first.1 in

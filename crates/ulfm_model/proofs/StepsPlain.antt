@@ -39,6 +39,15 @@ module _ {P : Type 0} (meld : P → P → P) (limits : Limits) (h : History P) (
   ack_good rank c count at passed =
       call_good meld limits h own (call.Ack rank c count) x (held_outcome meld limits h own x (call.Ack rank c count)) at passed alive tt tt (ap failures (append-nil h), refl) (λ polls. refl)
 
+  -- the same two by their older names
+  pub get_acked_good : (rank c : ℕ) → held_at own c ≡ Some x → refusal_of {P = P} own (call.FailureGetAcked rank c) ≡ None → IsGood meld limits h own (call.FailureGetAcked rank c) (held_outcome meld limits h own x (call.FailureGetAcked rank c))
+  get_acked_good rank c at passed =
+      call_good meld limits h own (call.FailureGetAcked rank c) x (held_outcome meld limits h own x (call.FailureGetAcked rank c)) at passed alive tt tt (ap failures (append-nil h), refl) (λ polls. refl)
+
+  pub failure_ack_good : (rank c : ℕ) → held_at own c ≡ Some x → refusal_of {P = P} own (call.FailureAck rank c) ≡ None → IsGood meld limits h own (call.FailureAck rank c) (held_outcome meld limits h own x (call.FailureAck rank c))
+  failure_ack_good rank c at passed =
+      call_good meld limits h own (call.FailureAck rank c) x (held_outcome meld limits h own x (call.FailureAck rank c)) at passed alive tt tt (ap failures (append-nil h), refl) (λ polls. refl)
+
   -- a query of a revocation
   pub standing_good : (rank c : ℕ) → held_at own c ≡ Some x → refusal_of {P = P} own (call.IsRevoked rank c) ≡ None → IsGood meld limits h own (call.IsRevoked rank c) (held_outcome meld limits h own x (call.IsRevoked rank c))
   standing_good rank c at passed =

@@ -1,6 +1,6 @@
 -- Which replies are answers to a call of a rank, at a point of a history, and what each leaves of the rank's record; refusals among them.
 use Rattle.std.specs.Prelude.{◌≡◌, ◌⊎◌, ℕ, ◌+◌, ◌<◌, ◌≤◌, ◌==◌, nat_le, min, max, Bool, not, true, false, if◌then◌else◌, IsTrue, IsFalse}
-use Rattle.std.specs.Prelude.{List, [], ◌∷◌, ◌++◌, length, filter, codes, Option, Some, None, is_some}
+use Rattle.std.specs.Prelude.{List, [], ◌∷◌, ◌++◌, length, take, filter, codes, Option, Some, None, is_some}
 use Rattle.std.specs.{List.{AllByRecursion, list_any, list_all}, Option.{option_and_then}}
 use mathlib.Core.List.{IsPrefix}
 use Rattle.ulfm_laws.specs.declared.{summary.Body.{Body}, ctx_mask.CtxMask.{CtxMask}}
@@ -64,7 +64,9 @@ starting rank c request tests =
 abbrev pub traits_of : {P : Type 0} → Call P → Traits
 traits_of (Call.Fail rank) = record (plain rank 0) { by = Caller.Outside }
 traits_of (Call.GetFailed rank c) = plain rank c
+traits_of (Call.FailureGetAcked rank c) = plain rank c
 traits_of (Call.Ack rank c count) = plain rank c
+traits_of (Call.FailureAck rank c) = plain rank c
 traits_of (Call.Agree rank c value) =
     starting rank c (λ x. Request.Agree x.next_agreement) (λ old x. (nat_le old.limits.rounds (x.next_agreement + 1), Refusal.RoundsUsedUp) ∷ [])
 traits_of (Call.Shrink rank c) =
@@ -204,13 +206,21 @@ PollReplies meld limits view r x (Some (Request.Shrink k)) reply =
     AgreementReplies meld limits view x k (λ made. ShrinkReplies limits view.history r x.comm k made reply) reply
 PollReplies meld limits view r x (Some (Request.Barrier k)) reply = reply ≡ barrier_reply view x k
 
+-- how many failures an acknowledgement of all names: no world has more ranks
+abbrev pub most_failures : ℕ
+most_failures = 1024
+
 -- a call that the record doesn't refuse. Where a count of failures is answered, the point is at the look
 abbrev pub Replies : {P : Type 0} → (P → P → P) → Limits → AtPoint P → Record → Held → Call P → Reply P → Type 0
 Replies meld limits view old x (Call.Fail rank) reply = ⊥
 Replies meld limits view old x (Call.GetFailed rank c) reply =
     (failures view.history ≡ view.look) × (reply ≡ Reply.FailedGroup (length (failed limits.ranks view.history c)))
+Replies meld limits view old x (Call.FailureGetAcked rank c) reply =
+    (failures view.history ≡ view.look) × (reply ≡ Reply.FailedGroup (length (take x.acked (failed limits.ranks view.history c))))
 Replies meld limits view old x (Call.Ack rank c count) reply =
     (failures view.history ≡ view.look) × (reply ≡ Reply.Acked (max x.acked (min count (length (failed limits.ranks view.history c)))))
+Replies meld limits view old x (Call.FailureAck rank c) reply =
+    (failures view.history ≡ view.look) × (reply ≡ Reply.Acked (max x.acked (min most_failures (length (failed limits.ranks view.history c)))))
 Replies meld limits view old x (Call.Agree rank c value) reply = StartReplies view old x (Offer.Flag value) reply
 Replies meld limits view old x (Call.Shrink rank c) reply = StartReplies view old x (Offer.Ctx (free_ids old.held)) reply
 Replies meld limits view old x (Call.Barrier rank c) reply = BarrierStartReplies view old x reply

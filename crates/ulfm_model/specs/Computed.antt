@@ -1,7 +1,7 @@
 -- The sequential object as a function: what each call adds and replies where nobody else steps, and the next state. Nothing here
 -- has to be believed: that it computes the steps of the object, and the only ones, is a law.
 use Rattle.std.specs.Prelude.{ℕ, ◌+◌, ◌==◌, nat_lt, min, max, Bool, true, false, not, ◌&&◌, if◌then◌else◌}
-use Rattle.std.specs.Prelude.{List, [], ◌∷◌, ◌++◌, length, filter, filter_map, find, unwrap_or, Option, Some, None, is_some}
+use Rattle.std.specs.Prelude.{List, [], ◌∷◌, ◌++◌, length, take, filter, filter_map, find, unwrap_or, Option, Some, None, is_some}
 use Rattle.std.specs.{Int.{bit_at}, List.{enumerate_from, position_from}}
 pub use Rattle.ulfm_laws.specs.Within.{acked_at, known_at}
 use Rattle.ulfm_laws.specs.{Within.{acked_known, known_from_one, some_known}, declared.summary.Body.{Body}}
@@ -9,7 +9,7 @@ use Rattle.ulfm_model.specs.declared.{call.Call.{Call}, call.Request.{Request}, 
 use Rattle.ulfm_model.specs.declared.{contribution.Contribution.{Contribution}, contribution.MarkCount.{MarkCount}, contribution.Offer.{Offer}}
 use Rattle.ulfm_model.specs.declared.{contribution.Slot.{Slot}, refusal.Refusal.{Refusal}, reply.Reply.{Reply}}
 use Rattle.ulfm_laws.specs.Ranges.{payload_bits}
-use Rattle.ulfm_model.specs.{Answers.{AtPoint, barrier_reply, left_by, rank_of, refusal_of}, Records.{Held, Record, free_ids, held_at}, Runs.{State}}
+use Rattle.ulfm_model.specs.{Answers.{AtPoint, barrier_reply, left_by, most_failures, rank_of, refusal_of}, Records.{Held, Record, free_ids, held_at}, Runs.{State}}
 use Rattle.ulfm_model.specs.History.{Decision, History, decision, entries_by, failed, failures, first_ranks, has, has_arrived, is_decided}
 use Rattle.ulfm_model.specs.{History.{is_made, is_revoked, members, slot, spawns}, Terms.{after_call, comm_of, record_at}}
 
@@ -62,7 +62,9 @@ added_by_poll meld limits h r c (Some (Request.Barrier k)) = []
 abbrev pub added : {P : Type 0} → (P → P → P) → Limits → History P → Record → Held → Call P → List (Event P)
 added meld limits h own x (Call.Fail rank) = []
 added meld limits h own x (Call.GetFailed rank c) = []
+added meld limits h own x (Call.FailureGetAcked rank c) = []
 added meld limits h own x (Call.Ack rank c count) = []
+added meld limits h own x (Call.FailureAck rank c) = []
 added meld limits h own x (Call.Agree rank c value) = settle_of h own.number x (Offer.Flag value)
 added meld limits h own x (Call.Shrink rank c) = settle_of h own.number x (Offer.Ctx (free_ids own.held))
 added meld limits h own x (Call.Barrier rank c) =
@@ -119,7 +121,9 @@ poll_reply meld limits view r x (Some (Request.Barrier k)) = barrier_reply view 
 abbrev pub replied : {P : Type 0} → (P → P → P) → Limits → History P → AtPoint P → Record → Held → Call P → Reply P
 replied meld limits h view own x (Call.Fail rank) = Reply.Refused Refusal.NoSuchRank
 replied meld limits h view own x (Call.GetFailed rank c) = Reply.FailedGroup (length (failed limits.ranks view.history c))
+replied meld limits h view own x (Call.FailureGetAcked rank c) = Reply.FailedGroup (length (take x.acked (failed limits.ranks view.history c)))
 replied meld limits h view own x (Call.Ack rank c count) = Reply.Acked (max x.acked (min count (length (failed limits.ranks view.history c))))
+replied meld limits h view own x (Call.FailureAck rank c) = Reply.Acked (max x.acked (min most_failures (length (failed limits.ranks view.history c))))
 replied meld limits h view own x (Call.Agree rank c value) = start_reply (slot h x.comm x.next_agreement own.number)
 replied meld limits h view own x (Call.Shrink rank c) = start_reply (slot h x.comm x.next_agreement own.number)
 replied meld limits h view own x (Call.Barrier rank c) = if has_arrived h x.comm x.next_barrier own.number then Reply.Refused Refusal.Twice else Reply.Started

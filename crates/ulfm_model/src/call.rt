@@ -11,6 +11,10 @@ pub enum Call<P> {
     GetFailed { rank: u16, comm: u16 },
     /// The first `count` known failures are acknowledged (ULFM: Communicator Functions, `MPI_COMM_ACK_FAILED`).
     Ack { rank: u16, comm: u16, count: u16 },
+    /// All known failures are acknowledged: the call of the interface of 2013 (`MPIX_Comm_failure_ack`).
+    FailureAck { rank: u16, comm: u16 },
+    /// The failures that are acknowledged: the call of the interface of 2013 (`MPIX_Comm_failure_get_acked`).
+    FailureGetAcked { rank: u16, comm: u16 },
     /// An agree is started (ULFM: Communicator Functions, `MPI_COMM_IAGREE`).
     Agree { rank: u16, comm: u16, value: P },
     /// A shrink is started (ULFM: Communicator Functions, `MPI_COMM_ISHRINK`).
@@ -26,6 +30,9 @@ pub enum Call<P> {
     /// The communicator is given back.
     Free { rank: u16, comm: u16 },
 }
+
+/// How many failures an acknowledgement of all names: no world has more ranks.
+pub const MOST_FAILURES: u16 = 1024;
 
 /// What a rank has started on a communicator and not yet been answered, with its round.
 #[derive(Clone, Copy, Debug, PartialEq, Eq)]
@@ -43,6 +50,8 @@ pub fn rank_of<P: Copy>(asked: &Call<P>) -> u16
         Call::Fail { rank }
         | Call::GetFailed { rank, .. }
         | Call::Ack { rank, .. }
+        | Call::FailureAck { rank, .. }
+        | Call::FailureGetAcked { rank, .. }
         | Call::Agree { rank, .. }
         | Call::Shrink { rank, .. }
         | Call::Barrier { rank, .. }
@@ -61,6 +70,8 @@ pub fn comm_of<P: Copy>(asked: &Call<P>) -> u16
         Call::Fail { .. } => 0,
         Call::GetFailed { comm, .. }
         | Call::Ack { comm, .. }
+        | Call::FailureAck { comm, .. }
+        | Call::FailureGetAcked { comm, .. }
         | Call::Agree { comm, .. }
         | Call::Shrink { comm, .. }
         | Call::Barrier { comm, .. }

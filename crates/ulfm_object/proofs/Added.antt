@@ -84,7 +84,9 @@ module _ {P : Type 0} (meld : P → P → P) (limits : Limits) (small : limits.c
   pub few_added : (h : History P) (own : Record) (x : Held) (asked : Call P) → IsFew h → IsFew (h ++ entries_by (Rank own.number) (added meld limits h own x asked))
   few_added h own x (call.Fail rank) few = few_still h (Rank own.number) [] few tt
   few_added h own x (call.GetFailed rank c) few = few_still h (Rank own.number) [] few tt
+  few_added h own x (call.FailureGetAcked rank c) few = few_still h (Rank own.number) [] few tt
   few_added h own x (call.Ack rank c count) few = few_still h (Rank own.number) [] few tt
+  few_added h own x (call.FailureAck rank c) few = few_still h (Rank own.number) [] few tt
   few_added h own x (call.Agree rank c value) few =
       few_still h (Rank own.number) (settle_of h own.number x (Flag value)) few (unless_still (is_some (slot h x.comm x.next_agreement own.number)) _ (record { declares = refl; makes = refl }))
   few_added h own x (call.Shrink rank c) few =

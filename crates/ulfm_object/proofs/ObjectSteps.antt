@@ -73,7 +73,9 @@ replaced {X = X} v number xs r i d y distinct at = let first = position-Some (λ
 pub next_of_call : {P : Type 0} (meld : P → P → P) (state : State P) (asked : Call P) → ((r : ℕ) → asked ≡ call.Fail r → ⊥) → next_of_rank meld state (rank_of asked) (record_at state (rank_of asked)) asked ≡ next meld state asked
 next_of_call meld state (call.Fail rank) not_fail = absurd (not_fail rank refl)
 next_of_call meld state (call.GetFailed rank c) not_fail = refl
+next_of_call meld state (call.FailureGetAcked rank c) not_fail = refl
 next_of_call meld state (call.Ack rank c count) not_fail = refl
+next_of_call meld state (call.FailureAck rank c) not_fail = refl
 next_of_call meld state (call.Agree rank c value) not_fail = refl
 next_of_call meld state (call.Shrink rank c) not_fail = refl
 next_of_call meld state (call.Barrier rank c) not_fail = refl

@@ -17,7 +17,7 @@ use ulfm_history::reads::{has_arrived, has_rank, is_revoked, place_made, slot};
 use ulfm_laws::ctx_mask::CtxMask;
 use ulfm_laws::meld::Meld;
 use ulfm_laws::summary::Body;
-use ulfm_model::call::{Call, Request};
+use ulfm_model::call::{Call, MOST_FAILURES, Request};
 use ulfm_model::contribution::Slot;
 use ulfm_model::event::Entry;
 use ulfm_model::limits::Limits;
@@ -251,6 +251,15 @@ pub fn replied<P: Meld, A: Allocator + Copy + Drop>(
             let known = count_of(alloc, ranks, after, comm)?;
             Ok(Reply::Acked {
                 count: x.acked.max(count.min(known)),
+            })
+        }
+        Call::FailureGetAcked { comm, .. } => Ok(Reply::FailedGroup {
+            count: count_of(alloc, ranks, after, comm)?.min(x.acked),
+        }),
+        Call::FailureAck { comm, .. } => {
+            let known = count_of(alloc, ranks, after, comm)?;
+            Ok(Reply::Acked {
+                count: x.acked.max(MOST_FAILURES.min(known)),
             })
         }
         Call::Agree { .. } | Call::Shrink { .. } => Ok(start_reply(slot(

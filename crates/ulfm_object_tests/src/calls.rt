@@ -1,4 +1,4 @@
-//! Calls and replies on flags that are melded by and, as the scripts of the tests write them, and two scripts.
+//! Calls and replies on flags that are melded by and, as the scripts of the tests write them, and three scripts.
 use ulfm_laws::flag_and::FlagAnd;
 use ulfm_model::call::Call;
 use ulfm_model::limits::Limits;
@@ -17,6 +17,14 @@ pub(crate) fn get(rank: u16, comm: u16) -> Call<FlagAnd> {
 
 pub(crate) fn ack(rank: u16, comm: u16, count: u16) -> Call<FlagAnd> {
     Call::Ack { rank, comm, count }
+}
+
+pub(crate) fn failure_ack(rank: u16, comm: u16) -> Call<FlagAnd> {
+    Call::FailureAck { rank, comm }
+}
+
+pub(crate) fn failure_get_acked(rank: u16, comm: u16) -> Call<FlagAnd> {
+    Call::FailureGetAcked { rank, comm }
 }
 
 pub(crate) fn agree(rank: u16, comm: u16, bits: u64) -> Call<FlagAnd> {
@@ -88,5 +96,22 @@ pub(crate) fn acknowledgements_script() -> [Line; 10] {
         (get(0, 0), failed_group(2)),
         (fail(1), Reply::AlreadyFailed),
         (fail(7), Reply::Refused(Refusal::NoSuchRank)),
+    ]
+}
+
+pub(crate) fn names_of_2013_script() -> [Line; 12] {
+    [
+        (failure_get_acked(0, 0), failed_group(0)),
+        (fail(2), Reply::Declared),
+        (fail(1), Reply::Declared),
+        (ack(0, 0, 1), acked(1)),
+        (failure_get_acked(0, 0), failed_group(1)),
+        (failure_ack(0, 0), acked(2)),
+        (failure_get_acked(0, 0), failed_group(2)),
+        (agree(0, 0, 0xf), Reply::Started),
+        (poll(0, 0), agreed(0xf, 2, false)),
+        (failure_ack(1, 0), Reply::Refused(Refusal::SelfFailed)),
+        (failure_ack(0, 1), Reply::Refused(Refusal::NoSuchComm)),
+        (failure_get_acked(0, 1), Reply::Refused(Refusal::NoSuchComm)),
     ]
 }

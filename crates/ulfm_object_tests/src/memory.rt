@@ -1,6 +1,7 @@
 //! Memory that is refused: a call that gets none leaves the object as it was.
 use crate::calls::{
-    Line, acknowledgements_script, fail, free, limits, one_rank_script, poll, shrink, shrunk,
+    Line, acknowledgements_script, fail, free, limits, names_of_2013_script, one_rank_script, poll,
+    shrink, shrunk,
 };
 use linked_list_allocator::LocalHeap;
 use std::alloc::{AllocError, Allocator, Global};
@@ -120,6 +121,14 @@ fn one_rank_is_refused_memory(rt: HostRuntime) -> Result<(), Fail> {
 #[test]
 fn acknowledgements_are_refused_memory(rt: HostRuntime) -> Result<(), Fail> {
     let script = acknowledgements_script();
+    let refused = run_refused(&rt, rt.alloc(), limits(3, 1, 2), &script)?;
+    assert!(rt; refused > 0, "no call was refused");
+    Ok(())
+}
+
+#[test]
+fn calls_of_2013_are_refused_memory(rt: HostRuntime) -> Result<(), Fail> {
+    let script = names_of_2013_script();
     let refused = run_refused(&rt, rt.alloc(), limits(3, 1, 2), &script)?;
     assert!(rt; refused > 0, "no call was refused");
     Ok(())

@@ -1,4 +1,4 @@
-//! The program's `run`, `run --echo`, `run --steps` and `check` alone: what the launcher has the toolchain answer by where the program isn't built.
+//! The program's `run`, `run --echo`, `run --steps`, `migrate` and `check` alone: what the launcher has the toolchain answer by where the program isn't built.
 #![tactic(auto)]
 
 mod quick;

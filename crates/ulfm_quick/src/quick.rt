@@ -8,8 +8,8 @@ use std::alloc::Allocator;
 use std::io::{Read, Write};
 use ulfm_filters::{Filter, run_filter, tell_bad_line};
 
-/// Does what the words of a command line ask for, the program's own name first: `run`, `run --echo`, `run --steps` or `check`, with the
-/// program's bytes and status. Other words are told to be a bad command line.
+/// Does what the words of a command line ask for, the program's own name first: `run`, `run --echo`, `run --steps`, `migrate` or `check`,
+/// with the program's bytes and status. Other words are told to be a bad command line.
 pub fn answer<A: Allocator + Copy + Drop, R: Read, W: Write, E: Write>(
     alloc: A,
     words: &[&str],
@@ -37,6 +37,7 @@ fn named_filter(words: &[&str]) -> Option<Filter>
         [_, "run"] => Some(Filter::Calls),
         [_, "run", "--echo"] => Some(Filter::Echoed),
         [_, "run", "--steps"] => Some(Filter::Steps),
+        [_, "migrate"] => Some(Filter::Migrate),
         [_, "check"] => Some(Filter::Check),
         _ => None,
     }

@@ -10,7 +10,9 @@ use Rattle.ulfm_record.specs.Kept.{tested}
 pub tests_are : {P : Type 0} (own : Record) (x : Held) (asked : Call P) → tests_of (tested own.limits own.held) x asked ≡ tests_of own x asked
 tests_are own x (call.Fail rank) = refl
 tests_are own x (call.GetFailed rank c) = refl
+tests_are own x (call.FailureGetAcked rank c) = refl
 tests_are own x (call.Ack rank c count) = refl
+tests_are own x (call.FailureAck rank c) = refl
 tests_are own x (call.Agree rank c value) = refl
 tests_are own x (call.Shrink rank c) = refl
 tests_are own x (call.Barrier rank c) = refl

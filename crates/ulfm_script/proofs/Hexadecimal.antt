@@ -1,11 +1,13 @@
 -- A flag is read just where it is printed.
 use Rattle.std.proofs.Common.{◌≡◌, ◌≢◌, ℕ, zero, suc, ◌+◌, ◌-◌, ◌*◌, ◌/◌, ◌%◌, ◌^◌, ◌<◌, ◌≤◌, List, [], ◌∷◌, ◌++◌, length, drop, Option, Some, None, Result, Ok, Err, Bool, true, false, cond, refl, sym, ap, ◌∙◌, append_assoc, inl, inr, arith, add-one, mod-eq_of_lt, mod-lt, lit<, lit≤, length-append, subst}
-use Rattle.std.specs.{Prelude.{◌⊎◌, ◌&&◌, ◌==◌, if◌then◌else◌, nat_lt, not, slice_index, slice_set}, List.{AllByRecursion}}
+use Rattle.std.specs.{Prelude.{◌⊎◌, ◌&&◌, ◌==◌, if◌then◌else◌, nat_lt, slice_index, slice_set}, List.{AllByRecursion}}
 use Rattle.std.proofs.lemmas.{Bool.{cases_lt, eq-eqb, eqb-true, lt-ltb, le-ltb, lt-leb, le-leb, ne_eqb}, Bool.Decides.{nat_tests}, List.{append-nil, drop-set, get_or-append-add}, Nat.{div-mul-add, mod-mul-add, div-add-mod', pow-add}}
 use Rattle.ulfm_laws.specs.{declared.flag_and.FlagAnd.{FlagAnd}, Flags.{same_flag}, Ranges.{payload_bits}}
 use Rattle.ulfm_script.specs.declared.line_kind.LineKind.{LineKind}
 use Rattle.ulfm_script.specs.declared.line_kind.LineKind.TheVariants.{Flag}
-use Rattle.ulfm_script.specs.Digits.{MayPad, digits_after, read_flag, read_printed_flag, flag_text, half_digits, hex_digit, hex_digits, hex_of, padded_text, printed_digits, spelled_flag, spells_flag, whole_digits}
+use Rattle.ulfm_script.specs.declared.version.Version.{Version}
+use Rattle.ulfm_script.specs.declared.version.Version.TheVariants.{First, Second}
+use Rattle.ulfm_script.specs.Digits.{MayPad, MayPadIn, digits_after, read_flag, read_flag_in, read_printed_flag, flag_text, half_digits, hex_digit, hex_digits, hex_of, padded_text, printed_digits, spelled_flag, spells_flag, whole_digits}
 use Rattle.ulfm_script.specs.{Spelling.{has_more}, Steps.{◌>>=◌, or_fault}}
 
 -- the flag of a word
@@ -291,6 +293,29 @@ padded_told line front true flag small is =
     let at = before_end (further front flag small) (hex_digits half_digits flag.bits) (hex_digit (upper front flag small % 16)) half_digits (length_digits half_digits flag.bits) in
     ap (λ (l : List ℕ). nat_lt flag.bits (16 ^ half_digits) && has_more l half_digits) line_is
     ∙ rw (lt-ltb flag.bits (16 ^ half_digits) small, at.0, at.1, ne_eqb (hex_digit (upper front flag small % 16)) 32 (no_space (upper front flag small % 16))) refl
+
+-- a flag as a script of this version spells it is read
+pub flag_in_again : (version : Version) (padded : Bool) (flag : FlagAnd) → MayPadIn version padded flag → read_flag_in version (spelled_flag padded flag) ≡ Ok flag
+unfolding read_flag_in padded_text
+flag_in_again First padded flag may = spelled_flag_again padded flag
+flag_in_again Second true flag may = rw (length_digits whole_digits flag.bits) (spelled_flag_again true flag)
+flag_in_again Second false flag may = absurd (cc may)
+
+-- how a word spells a flag in a script of this version
+pub record IsSpelledIn (version : Version) (w : List ℕ) (flag : FlagAnd) : Type 0 where
+  pub padded : Bool
+  pub may_pad : MayPadIn version padded flag
+  pub word_is : w ≡ spelled_flag padded flag
+
+-- a flag that was read is spelled so
+pub flag_in_found : (version : Version) (w : List ℕ) (flag : FlagAnd) → read_flag_in version w ≡ Ok flag → IsSpelledIn version w flag
+unfolding read_flag_in padded_text
+flag_in_found First w flag e = let f = flag_found w flag e in record { padded = f.padded; may_pad = f.may_pad; word_is = f.word_is }
+flag_in_found Second w flag e = by (length w == whole_digits) refl e
+  where
+    by : (b : Bool) → (length w == whole_digits) ≡ b → cond b (read_flag w) (Err Flag) ≡ Ok flag → IsSpelledIn Second w flag
+    by true is read = record { padded = true; may_pad = refl; word_is = (was_read w flag read).word_is ∙ ap (λ (k : ℕ). hex_digits k flag.bits) (eqb-true (length w) whole_digits is) }
+    by false is read = absurd (cc read)
 
 -- writing digits from the last to the first, behind places that are left out
 pub digit_written : (count first rest : ℕ) (digits all : List ℕ) → 0 < count → first + count ≤ length digits → hex_digits count rest ++ drop (first + count) digits ≡ all

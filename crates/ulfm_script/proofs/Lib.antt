@@ -7,6 +7,7 @@ pub mod Numerals
 pub mod Powers
 pub mod RunLemmas
 pub mod ScriptLemmas
+pub mod Short
 pub mod Spelled
 pub mod VerbLemmas
 pub mod WordLemmas

@@ -1,12 +1,11 @@
 -- Pending bytes: those of a line are taken, up to a newline where one was found among them.
-use Rattle.std.proofs.Common.{◌≡◌, ◌≢◌, ℕ, suc, ◌+◌, ◌-◌, ◌<◌, ◌≤◌, List, [], ◌∷◌, ◌++◌, length, take, drop, get_or, Option, Some, None, refl, sym, ap, ◌∙◌, append_assoc, arith, add-one}
-use Rattle.std.specs.Prelude.{slice_range, slice_index, true, ◌==◌}
+use Rattle.std.proofs.Common.{◌≡◌, ◌≢◌, ℕ, suc, ◌+◌, ◌-◌, ◌<◌, ◌≤◌, List, [], ◌∷◌, ◌++◌, length, take, drop, Option, Some, None, refl, sym, ap, ◌∙◌, append_assoc, arith, add-one}
+use Rattle.std.specs.Prelude.{slice_range, slice_index}
 use Rattle.std.specs.Io.KnownBytes.{Consumes, prepend_known}
-use Rattle.std.proofs.lemmas.Bool.{eqb-true}
 use Rattle.std.proofs.lemmas.List.{take-append-drop, drop-drop, drop-take, get_or-take, length-take}
 use Rattle.std.proofs.Math.Seq.{drop-cons}
-use Rattle.memchr.specs.Find.{IsFirstByte, Nowhere, NoneBefore, Passes, is_byte}
-use Rattle.ulfm_script.specs.Buffers.{HasNoNewline, KeepsFirst}
+use Rattle.memchr.specs.Find.{IsFirstByte, Nowhere, Passes, is_byte}
+use Rattle.ulfm_script.specs.Buffers.{HasNoNewline}
 
 -- bytes none of which is a newline
 pub free_of : (xs : List ℕ) → ((k : ℕ) → k < length xs → slice_index xs k ≢ 10) → HasNoNewline xs

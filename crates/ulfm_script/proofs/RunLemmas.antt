@@ -1,15 +1,14 @@
 -- Runs, line after line, of any kind of script.
 use Rattle.std.proofs.Common.{◌≡◌, ℕ, ◌+◌, ◌<◌, ◌≤◌, List, [], ◌∷◌, ◌++◌, length, length-append, take, Option, Some, None, Result, Ok, Err, refl, sym, ap, subst, ◌∙◌, append_assoc, arith, inl, inr}
-use Rattle.std.specs.{Prelude.{◌⊎◌, IfOk, IsErrAnd, if◌then◌else◌, nat_lt}, Io.KnownBytes.{Appends, Consumes, IsAtEnd, Keeps, prepend_known}}
+use Rattle.std.specs.{Prelude.{◌⊎◌, IfOk, IsErrAnd}, Io.KnownBytes.{Appends, Consumes, IsAtEnd, Keeps, prepend_known}}
 use Rattle.std.proofs.KnownBytes.{prepend_known-nil}
 use Rattle.std.proofs.lemmas.List.{append-nil}
-use Rattle.ulfm_model.specs.declared.limits.Limits.{Limits}
-use Rattle.ulfm_script.specs.declared.header_kind.HeaderKind.{HeaderKind}
+use Rattle.ulfm_script.specs.declared.{heading.Heading.{Heading}}
 use Rattle.ulfm_script.specs.declared.line_kind.LineKind.{LineKind}
-use Rattle.ulfm_script.specs.declared.line_kind.LineKind.TheVariants.{Cut, Header, Long}
+use Rattle.ulfm_script.specs.declared.line_kind.LineKind.TheVariants.{Cut, Header}
 use Rattle.ulfm_script.specs.declared.fault.RunFault.{RunFault}
 use Rattle.ulfm_script.specs.declared.fault.RunFault.TheVariants.{Line, Memory, Read, Write}
-use Rattle.ulfm_script.specs.{Buffers.{Drains, HasNoNewline, IsOfLine, Puts, TakesLine}, Headers.{header_of}, Written.{IsBeginning, IsBuffered, Outgoing, WritesPart}}
+use Rattle.ulfm_script.specs.{Buffers.{Drains, HasNoNewline, IsOfLine, Puts, TakesLine}, Written.{IsBeginning, IsBuffered, Outgoing, WritesPart}}
 use Rattle.ulfm_script.specs.Ends.{Claim, EndsAlone, EndsThrough, EndsUpTo, FindsFault, HasFault, HasRunAll, IsOpened, IsTextOf, KnownText, Opens, PrintsAll, PrintsFrom, PrintsSome, RunEnd, RunSoFar, RunsAll, RunsLine, Stage, StopsInLine, StopsInOutput, TakesItem, TakesUpTo, line_at}
 use Rattle.ulfm_script.specs.Scripts.{Parsed, Language, Script, asked_last, asked_then, header_at, item_at, lines_from, rest_from, script_of, stopped, without_header}
 use Rattle.ulfm_script.proofs.ByteLemmas.{appends_start, appends_then, consumes_keeps, consumes_start, consumes_then, end_behind, taken_of_reader}
@@ -63,14 +62,14 @@ of_whole_line line free = (line, free, ([], append-nil (line ++ 10 ∷ [])))
 from_beginning : (lang : Language) (front text out : List ℕ) → BeginsWith (script_of lang front) (script_of lang text) → PrintsAll lang front out
     → PrintsSome lang text out
 from_beginning lang front text out (inl none) h =
-    inl (subst (λ (limits : Option Limits). PrintsFrom lang limits (script_of lang front).items out) none h)
+    inl (subst (λ (heading : Option Heading). PrintsFrom lang heading (script_of lang front).items out) none h)
 from_beginning lang front text out (inr more) h =
     let first = (script_of lang front).items in
-    inr (first, more.1, subst (λ (limits : Option Limits). PrintsFrom lang limits first out) more.0 h)
+    inr (first, more.1, subst (λ (heading : Option Heading). PrintsFrom lang heading first out) more.0 h)
 
 -- what it has run prints what it has printed
 abbrev pub Prints : (lang : Language) → Stage lang → Type 0
-Prints lang HasRun = (limits : Limits) (items : List lang.Item) (out : List ℕ) → HasRun limits items out → lang.Prints limits items out
+Prints lang HasRun = (heading : Heading) (items : List lang.Item) (out : List ℕ) → HasRun heading items out → lang.Prints heading.limits items out
 
 -- a run that goes on: what was taken of the text asks for these items, what they print is written or waits, and the machine has run them
 pub record Going (lang : Language) (HasRun : Stage lang) (known b old mid : KnownText) (v : List ℕ) (number : ℕ) : Type 0 where
@@ -78,9 +77,9 @@ pub record Going (lang : Language) (HasRun : Stage lang) (known b old mid : Know
   pub ran : RunSoFar lang
   pub taken : Consumes known b done
   pub held : IsBuffered old (to mid v) ran.out
-  pub comes : Comes lang done ran.limits ran.items number
-  pub has_run : HasRun ran.limits ran.items ran.out
-  pub prints : lang.Prints ran.limits ran.items ran.out
+  pub comes : Comes lang done ran.heading ran.items number
+  pub has_run : HasRun ran.heading ran.items ran.out
+  pub prints : lang.Prints ran.heading.limits ran.items ran.out
   pub counted : number ≡ length ran.items + 2
   pub whole : rest_from [] done ≡ []
   pub lines : length (lines_from [] done) + 1 ≡ number
@@ -102,19 +101,19 @@ pub takes_first : (a b : KnownText) (part : List ℕ) → Consumes a b part → 
 takes_first a b part q p = record { lines = []; part = part; taken = q; whole = refl; counted = refl; partly = p }
 
 -- the items so far are the first ones of the script
-some_printed : (lang : Language) (text out : List ℕ) (limits : Limits) (items : List lang.Item) (asked : Parsed lang.Item)
-    → script_of lang text ≡ going limits items asked → lang.Prints limits items out → PrintsSome lang text out
-some_printed lang text out limits items asked e prints =
-    let Printed : Script lang.Item → Type 0 = λ s. (out ≡ []) ⊎ ((first : List lang.Item) × IsBeginning first s.items × PrintsFrom lang s.limits first out) in
-    let all : Printed (going limits items asked) = inr (items, (asked.items, refl), prints) in
+some_printed : (lang : Language) (text out : List ℕ) (heading : Heading) (items : List lang.Item) (asked : Parsed lang.Item)
+    → script_of lang text ≡ going heading items asked → lang.Prints heading.limits items out → PrintsSome lang text out
+some_printed lang text out heading items asked e prints =
+    let Printed : Script lang.Item → Type 0 = λ s. (out ≡ []) ⊎ ((first : List lang.Item) × IsBeginning first s.items × PrintsFrom lang s.heading first out) in
+    let all : Printed (going heading items asked) = inr (items, (asked.items, refl), prints) in
     subst Printed (sym e) all
 
 -- the items so far are all of the script
-all_printed : (lang : Language) (text out : List ℕ) (limits : Limits) (items : List lang.Item) (asked : Parsed lang.Item)
-    → script_of lang text ≡ ended_script limits items asked → lang.Prints limits items out → PrintsAll lang text out
-all_printed lang text out limits items asked e prints =
-    let Printed : Script lang.Item → Type 0 = λ s. PrintsFrom lang s.limits s.items out in
-    let all : Printed (ended_script limits items asked) = prints in
+all_printed : (lang : Language) (text out : List ℕ) (heading : Heading) (items : List lang.Item) (asked : Parsed lang.Item)
+    → script_of lang text ≡ ended_script heading items asked → lang.Prints heading.limits items out → PrintsAll lang text out
+all_printed lang text out heading items asked e prints =
+    let Printed : Script lang.Item → Type 0 = λ s. PrintsFrom lang s.heading s.items out in
+    let all : Printed (ended_script heading items asked) = prints in
     subst Printed (sym e) all
 
 -- the run stops inside the next line
@@ -122,7 +121,7 @@ stops_inside : (lang : Language) (HasRun : Stage lang) (known b c old mid new : 
     → Going lang HasRun known b old mid v n → Consumes b c part → IsPart part → IsBuffered mid (to new w) v
     → StopsInLine lang known c IsPart (IsBuffered old (to new w))
 stops_inside lang HasRun known b c old mid new v w part n IsPart i q p k =
-    let e = comes_end lang i.done i.ran.limits i.ran.items n i.comes in
+    let e = comes_end lang i.done i.ran.heading i.ran.items n i.comes in
     record {
       lines = i.done;
       part = part;
@@ -130,7 +129,7 @@ stops_inside lang HasRun known b c old mid new v w part n IsPart i q p k =
       taken = consumes_then known b c i.done part i.taken q;
       right = inr (ap (λ (s : Script lang.Item). s.fault) e);
       partly = p;
-      printed = all_printed lang i.done i.ran.out i.ran.limits i.ran.items (asked_last n []) e i.prints;
+      printed = all_printed lang i.done i.ran.out i.ran.heading i.ran.items (asked_last n []) e i.prints;
       told = holds_same old mid new v w i.ran.out i.held k;
     }
 
@@ -144,7 +143,7 @@ ended_by_writer lang HasRun known b left old mid v ahead n i new w k =
       text = text;
       out = i.ran.out;
       whole = x.1;
-      printed = some_printed lang text i.ran.out i.ran.limits i.ran.items (asked_from lang n x.0) (i.comes x.0) i.prints;
+      printed = some_printed lang text i.ran.out i.ran.heading i.ran.items (asked_from lang i.ran.heading.version n x.0) (i.comes x.0) i.prints;
       told = holds_part old mid new v i.ran.out i.held k;
     }
 
@@ -164,7 +163,7 @@ pub ended_done : (lang : Language) (HasRun : Stage lang) (known b left old mid :
     → Going lang HasRun known b old mid v n → Keeps b (prepend_known ahead left) → IsAtEnd (prepend_known ahead left)
     → EndsUpTo lang known left ahead old (to mid v) (Ok tt) × HasRunAll lang HasRun known (IsBuffered old (to mid v))
 ended_done lang HasRun known b left old mid v ahead n i k z =
-    let e = comes_end lang i.done i.ran.limits i.ran.items n i.comes in
+    let e = comes_end lang i.done i.ran.heading i.ran.items n i.comes in
     let c = prepend_known ahead left in
     let whole = whole_text known c i.done (consumes_keeps known b c i.done i.taken k) z in (
       (
@@ -173,14 +172,14 @@ ended_done lang HasRun known b left old mid v ahead n i k z =
           out = i.ran.out;
           whole = whole;
           faults = ap (λ (s : Script lang.Item). s.fault) e;
-          printed = all_printed lang i.done i.ran.out i.ran.limits i.ran.items (asked_last n []) e i.prints;
+          printed = all_printed lang i.done i.ran.out i.ran.heading i.ran.items (asked_last n []) e i.prints;
           told = i.held;
         },
         end_behind ahead left z,
       ),
       record {
         text = i.done;
-        limits = i.ran.limits;
+        heading = i.ran.heading;
         items = i.ran.items;
         out = i.ran.out;
         whole = whole;
@@ -191,15 +190,15 @@ ended_done lang HasRun known b left old mid v ahead n i k z =
     )
 
 -- a fault that all texts with this beginning have
-fault_told : (lang : Language) (known : KnownText) (text : List ℕ) (old new : KnownText) (w out : List ℕ) (limits : Limits) (items : List lang.Item)
-    (n m : ℕ) (kind : LineKind) → IsTextOf known text → m ≡ n → script_of lang text ≡ ended_script limits items (stopped n kind)
-    → lang.Prints limits items out → IsBuffered old (to new w) out → RunsAll lang known (Some (m, kind)) (IsBuffered old (to new w))
-fault_told lang known text old new w out limits items n m kind whole same e prints held = record {
+fault_told : (lang : Language) (known : KnownText) (text : List ℕ) (old new : KnownText) (w out : List ℕ) (heading : Heading) (items : List lang.Item)
+    (n m : ℕ) (kind : LineKind) → IsTextOf known text → m ≡ n → script_of lang text ≡ ended_script heading items (stopped n kind)
+    → lang.Prints heading.limits items out → IsBuffered old (to new w) out → RunsAll lang known (Some (m, kind)) (IsBuffered old (to new w))
+fault_told lang known text old new w out heading items n m kind whole same e prints held = record {
   text = text;
   out = out;
   whole = whole;
   faults = ap (λ (s : Script lang.Item). s.fault) e ∙ ap (λ (k : ℕ). Some (k, kind)) (sym same);
-  printed = all_printed lang text out limits items (stopped n kind) e prints;
+  printed = all_printed lang text out heading items (stopped n kind) e prints;
   told = held;
 }
 
@@ -209,34 +208,34 @@ pub ended_cut : (lang : Language) (HasRun : Stage lang) (known b left old mid : 
     → IsAtEnd (prepend_known ahead left) → EndsUpTo lang known left ahead old (to mid v) (Err (Line n Cut))
 ended_cut lang HasRun known b left old mid v ahead line n i free some q z =
     let c = prepend_known ahead left in
-    let e = comes_cut lang i.done line i.ran.limits i.ran.items n i.comes free some in
+    let e = comes_cut lang i.done line i.ran.heading i.ran.items n i.comes free some in
     let whole = whole_text known c (i.done ++ line) (consumes_then known b c i.done line i.taken q) z in (
-      inl (fault_told lang known (i.done ++ line) old mid v i.ran.out i.ran.limits i.ran.items n n Cut whole refl e i.prints i.held),
+      inl (fault_told lang known (i.done ++ line) old mid v i.ran.out i.ran.heading i.ran.items n n Cut whole refl e i.prints i.held),
       takes_next lang HasRun known b c old mid v line n n i refl q (of_line line free),
     )
 
 -- a fault that no line alone shows
-fault_found : (lang : Language) (known : KnownText) (done line behind : List ℕ) (old new : KnownText) (w out : List ℕ) (limits : Limits)
+fault_found : (lang : Language) (known : KnownText) (done line behind : List ℕ) (old new : KnownText) (w out : List ℕ) (heading : Heading)
     (items : List lang.Item) (n m : ℕ) (kind : LineKind) (item : lang.Item) → IsTextOf known ((done ++ (line ++ 10 ∷ [])) ++ behind)
-    → Comes lang done limits items n → HasNoNewline line → item_at lang n (take 65 line) ≡ Ok item → m ≡ length items + 2
-    → ((more : List lang.Item) → lang.Finds limits (items ++ item ∷ more) (length items + 2) kind out) → lang.Prints limits items out → IsBuffered old (to new w) out
+    → Comes lang done heading items n → HasNoNewline line → item_at lang heading.version n (take 65 line) ≡ Ok item → m ≡ length items + 2
+    → ((more : List lang.Item) → lang.Finds heading.limits (items ++ item ∷ more) (length items + 2) kind out) → lang.Prints heading.limits items out → IsBuffered old (to new w) out
     → FindsFault lang known m kind (IsBuffered old (to new w))
-fault_found lang known done line behind old new w out limits items n m kind item whole comes free e same finds prints held =
+fault_found lang known done line behind old new w out heading items n m kind item whole comes free e same finds prints held =
     let text = (done ++ (line ++ 10 ∷ [])) ++ behind in
-    let more = asked_from lang (n + 1) behind in
-    let is : script_of lang text ≡ going limits items (asked_then n (Ok item) more) = line_comes lang done line behind limits items n (Ok item) comes free e in
-    let found : lang.Finds limits (items ++ item ∷ more.items) m kind out =
-    subst (λ (k : ℕ). lang.Finds limits (items ++ item ∷ more.items) k kind out) (sym same) (finds more.items) in
-    let Found : Script lang.Item → Type 0 = λ s. lang.Finds limits s.items m kind out in
-    let there : Found (going limits items (asked_then n (Ok item) more)) = found in
+    let more = asked_from lang heading.version (n + 1) behind in
+    let is : script_of lang text ≡ going heading items (asked_then n (Ok item) more) = line_comes lang done line behind heading items n (Ok item) comes free e in
+    let found : lang.Finds heading.limits (items ++ item ∷ more.items) m kind out =
+    subst (λ (k : ℕ). lang.Finds heading.limits (items ++ item ∷ more.items) k kind out) (sym same) (finds more.items) in
+    let Found : Script lang.Item → Type 0 = λ s. lang.Finds heading.limits s.items m kind out in
+    let there : Found (going heading items (asked_then n (Ok item) more)) = found in
     record {
       text = text;
-      limits = limits;
+      heading = heading;
       out = out;
       whole = whole;
-      opened = ap (λ (s : Script lang.Item). s.limits) is;
+      opened = ap (λ (s : Script lang.Item). s.heading) is;
       finds = subst Found (sym is) there;
-      printed = some_printed lang text out limits items (asked_then n (Ok item) more) is prints;
+      printed = some_printed lang text out heading items (asked_then n (Ok item) more) is prints;
       told = held;
     }
 
@@ -244,7 +243,7 @@ fault_found lang known done line behind old new w out limits items n m kind item
 pub ended_line : (lang : Language) (Before After : Stage lang) (known b left old mid new : KnownText) (v w ahead line shown kept : List ℕ) (n : ℕ)
     (fault : RunFault) (i : Going lang Before known b old mid v n) → HasNoNewline line → Consumes b (prepend_known ahead left) (line ++ 10 ∷ [])
     → shown ≡ kept → kept ≡ take 65 line
-    → RunsLine lang After i.ran (line_at lang n shown) (to mid v) (to new w) (Err fault) → EndsUpTo lang known left ahead old (to new w) (Err fault)
+    → RunsLine lang After i.ran (line_at lang i.ran.heading.version n shown) (to mid v) (to new w) (Err fault) → EndsUpTo lang known left ahead old (to new w) (Err fault)
 ended_line lang Before After known b left old mid new v w ahead line shown kept n Read i free q same e r = absurd r
 ended_line lang Before After known b left old mid new v w ahead line shown kept n Memory i free q same e r =
     stops_inside lang Before known b (prepend_known ahead left) old mid new v w (line ++ 10 ∷ []) n IsOfLine i q (of_whole_line line free) r
@@ -254,15 +253,15 @@ ended_line lang Before After known b left old mid new v w ahead line shown kept 
     let c = prepend_known ahead left in
     let x = text_of known c (i.done ++ (line ++ 10 ∷ [])) (consumes_then known b c i.done (line ++ 10 ∷ []) i.taken q) in
     let text = (i.done ++ (line ++ 10 ∷ [])) ++ x.0 in
-    let seen : item_at lang n (take 65 line) ≡ item_at lang n shown = ap (item_at lang n) (sym e) ∙ ap (item_at lang n) (sym same) in
+    let seen : item_at lang i.ran.heading.version n (take 65 line) ≡ item_at lang i.ran.heading.version n shown = ap (item_at lang i.ran.heading.version n) (sym e) ∙ ap (item_at lang i.ran.heading.version n) (sym same) in
     let held = holds_same old mid new v w i.ran.out i.held r.2 in
     let fault : RunsAll lang known (Some (m, kind)) (IsBuffered old (to new w)) ⊎ FindsFault lang known m kind (IsBuffered old (to new w)) =
     elim r.1 [
       | inl own ↦
-          (let o = comes_fault lang i.done line x.0 i.ran.limits i.ran.items n kind i.comes free (seen ∙ own) in
-          inl (fault_told lang known text old new w i.ran.out i.ran.limits i.ran.items n m kind x.1 r.0 o i.prints held))
+          (let o = comes_fault lang i.done line x.0 i.ran.heading i.ran.items n kind i.comes free (seen ∙ own) in
+          inl (fault_told lang known text old new w i.ran.out i.ran.heading i.ran.items n m kind x.1 r.0 o i.prints held))
       | inr found ↦
-          inr (fault_found lang known i.done line x.0 old new w i.ran.out i.ran.limits i.ran.items n m kind found.0 x.1 i.comes free (seen ∙ found.1)
+          inr (fault_found lang known i.done line x.0 old new w i.ran.out i.ran.heading i.ran.items n m kind found.0 x.1 i.comes free (seen ∙ found.1)
           (r.0 ∙ i.counted) found.2 i.prints held)
     ] in
     (fault, takes_next lang Before known b c old mid v (line ++ 10 ∷ []) n m i r.0 q (of_whole_line line free))
@@ -270,20 +269,20 @@ ended_line lang Before After known b left old mid new v w ahead line shown kept 
 -- a line was run
 pub goes_on : (lang : Language) (Before After : Stage lang) (known b c old mid new : KnownText) (v w line shown kept : List ℕ) (n : ℕ)
     (i : Going lang Before known b old mid v n) → Prints lang After → HasNoNewline line → Consumes b c (line ++ 10 ∷ []) → shown ≡ kept
-    → kept ≡ take 65 line → RunsLine lang After i.ran (line_at lang n shown) (to mid v) (to new w) (Ok tt)
+    → kept ≡ take 65 line → RunsLine lang After i.ran (line_at lang i.ran.heading.version n shown) (to mid v) (to new w) (Ok tt)
     → (n + 1 ≤ 100001) × Going lang After known c old new w (n + 1)
 goes_on lang Before After known b c old mid new v w line shown kept n i told free q same e r =
     let item = r.1.0 in
-    let few : n ≤ 100000 = before_last lang n shown item r.1.1 in (
+    let few : n ≤ 100000 = before_last lang i.ran.heading.version n shown item r.1.1 in (
       omega (arith, few),
       record {
         done = i.done ++ (line ++ 10 ∷ []);
-        ran = record { limits = i.ran.limits; items = i.ran.items ++ item ∷ []; out = i.ran.out ++ r.0 };
+        ran = record { heading = i.ran.heading; items = i.ran.items ++ item ∷ []; out = i.ran.out ++ r.0 };
         taken = consumes_then known b c i.done (line ++ 10 ∷ []) i.taken q;
         held = holds_then old mid new v w i.ran.out r.0 i.held r.2;
-        comes = comes_on lang i.done line i.ran.limits i.ran.items n item i.comes free (ap (item_at lang n) (sym e) ∙ ap (item_at lang n) (sym same) ∙ r.1.1);
+        comes = comes_on lang i.done line i.ran.heading i.ran.items n item i.comes free (ap (item_at lang i.ran.heading.version n) (sym e) ∙ ap (item_at lang i.ran.heading.version n) (sym same) ∙ r.1.1);
         has_run = r.1.2;
-        prints = told i.ran.limits (i.ran.items ++ item ∷ []) (i.ran.out ++ r.0) r.1.2;
+        prints = told i.ran.heading (i.ran.items ++ item ∷ []) (i.ran.out ++ r.0) r.1.2;
         counted = omega (arith, i.counted, length-append i.ran.items (item ∷ []));
         whole = whole_on i.done line i.whole free;
         lines = count_on i.done line n i.whole free i.lines;
@@ -292,10 +291,10 @@ goes_on lang Before After known b c old mid new v w line shown kept n i told fre
 
 -- a line's item was run, and what it prints was put behind what waits
 pub line_put : (lang : Language) (HasRun : Stage lang) (before : RunSoFar lang) (number : ℕ) (line text : List ℕ) (old new : Outgoing) (result : RunEnd)
-    → length line ≤ 64 → number ≤ 100000 → TakesItem lang HasRun before (lang.read line) text (Ok tt)
-    → Puts old.waiting old.written text new.waiting new.written result → RunsLine lang HasRun before (line_at lang number line) old new result
+    → length line ≤ 64 → number ≤ 100000 → TakesItem lang HasRun before (lang.read before.heading.version line) text (Ok tt)
+    → Puts old.waiting old.written text new.waiting new.written result → RunsLine lang HasRun before (line_at lang before.heading.version number line) old new result
 line_put lang HasRun before number line text old new (Ok done) short few took p =
-    (text, (took.0, plain_item lang number line short few ∙ took.1, took.2), (p.0, p.2, sym p.1))
+    (text, (took.0, plain_item lang before.heading.version number line short few ∙ took.1, took.2), (p.0, p.2, sym p.1))
 line_put lang HasRun before number line text old new (Err Memory) short few took p = (p.0, p.2, sym p.1)
 line_put lang HasRun before number line text old new (Err Write) short few took p = p
 line_put lang HasRun before number line text old new (Err Read) short few took p = absurd p
@@ -303,14 +302,14 @@ line_put lang HasRun before number line text old new (Err (Line m kind)) short f
 
 -- a line can't be run, and nothing was put
 pub line_faulty : (lang : Language) (before : RunSoFar lang) (number : ℕ) (line : List ℕ) (kind : LineKind)
-    → length line ≤ 64 → number ≤ 100000 → HasFault lang before (lang.read line) kind → HasFault lang before (item_at lang number line) kind
+    → length line ≤ 64 → number ≤ 100000 → HasFault lang before (lang.read before.heading.version line) kind → HasFault lang before (item_at lang before.heading.version number line) kind
 line_faulty lang before number line kind short few h =
-    subst (λ (read : Result lang.Item LineKind). HasFault lang before read kind) (sym (plain_item lang number line short few)) h
+    subst (λ (read : Result lang.Item LineKind). HasFault lang before read kind) (sym (plain_item lang before.heading.version number line short few)) h
 
 -- a script without a header prints nothing
 nothing_to_print : (lang : Language) (text : List ℕ) (kind : LineKind) → script_of lang text ≡ without_header kind → PrintsAll lang text []
 nothing_to_print lang text kind e =
-    let Printed : Script lang.Item → Type 0 = λ s. PrintsFrom lang s.limits s.items [] in
+    let Printed : Script lang.Item → Type 0 = λ s. PrintsFrom lang s.heading s.items [] in
     let none : Printed (without_header kind) = refl in subst Printed (sym e) none
 
 -- the run stops inside the first line
@@ -392,12 +391,12 @@ pub goes_first : (lang : Language) (HasRun : Stage lang) (a b old new : KnownTex
     → IsOpened lang HasRun a b text → Puts w old text rest new (Ok tt) → Going lang HasRun a b old new rest 2
 goes_first lang HasRun a b old new text w rest told e k p = record {
   done = k.line ++ 10 ∷ [];
-  ran = record { limits = k.limits; items = []; out = text };
+  ran = record { heading = k.heading; items = []; out = text };
   taken = k.taken;
   held = (p.0, p.2, sym p.1 ∙ ap (λ (t : List ℕ). t ++ text) e);
-  comes = comes_first lang k.line k.limits k.free k.header;
+  comes = comes_first lang k.line k.heading k.free k.header;
   has_run = k.new_one;
-  prints = told k.limits [] text k.new_one;
+  prints = told k.heading [] text k.new_one;
   counted = refl;
   whole = one_line_whole k.line k.free;
   lines = ap (λ (ls : List (List ℕ)). length ls + 1) (one_line k.line k.free);
@@ -419,11 +418,10 @@ pub takes_cut : (a b : KnownText) (line : List ℕ) → HasNoNewline line → Co
 takes_cut a b line free q = takes_first a b line q (of_line line free)
 
 -- what the first line gives, by what is kept of it
-pub header_given : (lang : Language) (kind : HeaderKind) (line kept shown : List ℕ) (read : Result Limits LineKind) → kept ≡ take 65 line → shown ≡ kept
-    → kind ≡ lang.kind → read ≡ (if nat_lt 64 (length shown) then Err Long else header_of kind shown) → header_at lang line ≡ read
-header_given lang kind line kept shown read e same k h =
-    sym (kept_header lang line) ∙ ap (header_at lang) (sym e) ∙ ap (header_at lang) (sym same)
-    ∙ sym (subst (λ (x : HeaderKind). read ≡ (if nat_lt 64 (length shown) then Err Long else header_of x shown)) k h)
+pub header_given : (lang : Language) (line kept shown : List ℕ) (read : Result Heading LineKind) → kept ≡ take 65 line → shown ≡ kept
+    → read ≡ header_at lang shown → header_at lang line ≡ read
+header_given lang line kept shown read e same h =
+    sym (kept_header lang line) ∙ ap (header_at lang) (sym e) ∙ ap (header_at lang) (sym same) ∙ sym h
 
 -- a fault that is handed on
 pub handed_on : {T : Type 0} (r : Result T RunFault) (fault : RunFault) → IsErrAnd r (λ e. e ≡ fault) → r ≡ Err fault
@@ -504,7 +502,7 @@ pub ran_all_drained : (lang : Language) (HasRun : Stage lang) (known old mid new
     → Appends mid new w → HasRunAll lang HasRun known (Appends old new)
 ran_all_drained lang HasRun known old mid new w h k = record {
   text = h.text;
-  limits = h.limits;
+  heading = h.heading;
   items = h.items;
   out = h.out;
   whole = h.whole;
@@ -518,7 +516,7 @@ found_drained : (lang : Language) (known old mid new : KnownText) (w : List ℕ)
     → Appends mid new w → FindsFault lang known n kind (Appends old new)
 found_drained lang known old mid new w n kind h k = record {
   text = h.text;
-  limits = h.limits;
+  heading = h.heading;
   out = h.out;
   whole = h.whole;
   opened = h.opened;

@@ -1,14 +1,14 @@
 -- What a text asks for, line after line.
 use Rattle.std.proofs.Common.{◌≡◌, ◌⊎◌, ℕ, Bool, true, false, ◌==◌, if◌then◌else◌, ◌+◌, ◌<◌, ◌≤◌, List, [], ◌∷◌, ◌++◌, length, take, Some, None, Result, Ok, Err, refl, sym, ap, ◌∙◌, append_assoc, arith, inl, inr, length-append}
 use Rattle.std.proofs.lemmas.{Bool.{ne_eqb, lt-ltb, le-ltb, cases_lt}, List.{append-nil, take_all, length-take}}
-use Rattle.ulfm_model.specs.declared.limits.Limits.{Limits}
+use Rattle.ulfm_script.specs.declared.{heading.Heading.{Heading}, version.Version.{Version}}
 use Rattle.ulfm_script.specs.declared.line_kind.LineKind.{LineKind}
 use Rattle.ulfm_script.specs.declared.line_kind.LineKind.TheVariants.{Cut, Header}
 use Rattle.ulfm_script.specs.{Buffers.{HasNoNewline}, Scripts.{Parsed, Language, Script, asked_by, asked_last, asked_then, header_at, item_at, lines_from, no_lines, rest_from, script_by, script_of, stopped, with_header, without_header}, Written.{IsBeginning}}
 
--- what a text asks for whose first line has this number
-abbrev pub asked_from : (lang : Language) → ℕ → List ℕ → Parsed lang.Item
-asked_from lang number text = asked_by lang number (lines_from [] text) (rest_from [] text)
+-- what a text asks for whose first line has this number, in a script of this version
+abbrev pub asked_from : (lang : Language) → Version → ℕ → List ℕ → Parsed lang.Item
+asked_from lang version number text = asked_by lang version number (lines_from [] text) (rest_from [] text)
 
 -- a line up to its newline is the first of the lines behind it
 pub lines_step : (front line rest : List ℕ) → HasNoNewline line → lines_from front (line ++ 10 ∷ rest) ≡ (front ++ line) ∷ lines_from [] rest
@@ -35,13 +35,13 @@ pub regroup : (done line rest : List ℕ) → (done ++ (line ++ 10 ∷ [])) ++ r
 regroup done line rest = append_assoc done (line ++ 10 ∷ []) rest ∙ ap (λ (t : List ℕ). done ++ t) (append_assoc line (10 ∷ []) rest)
 
 -- the first 65 bytes of a line tell its item
-pub kept_item : (lang : Language) (number : ℕ) (line : List ℕ) → item_at lang number (take 65 line) ≡ item_at lang number line
-kept_item lang number line = elim (cases_lt 64 (length line)) [
+pub kept_item : (lang : Language) (version : Version) (number : ℕ) (line : List ℕ) → item_at lang version number (take 65 line) ≡ item_at lang version number line
+kept_item lang version number line = elim (cases_lt 64 (length line)) [
   | inl long ↦ rw (lt-ltb 64 (length line) long, lt-ltb 64 (length (take 65 line)) (omega (arith, length-take 65 line))) refl
-  | inr short ↦ ap (item_at lang number) (take_all 65 line (omega arith))
+  | inr short ↦ ap (item_at lang version number) (take_all 65 line (omega arith))
 ]
 
--- and its limits
+-- and what it gives as the first
 pub kept_header : (lang : Language) (line : List ℕ) → header_at lang (take 65 line) ≡ header_at lang line
 kept_header lang line = elim (cases_lt 64 (length line)) [
   | inl long ↦ rw (lt-ltb 64 (length line) long, lt-ltb 64 (length (take 65 line)) (omega (arith, length-take 65 line))) refl
@@ -49,103 +49,103 @@ kept_header lang line = elim (cases_lt 64 (length line)) [
 ]
 
 -- a line that is not too long, within the lines that a script may have, gives what its words give
-pub plain_item : (lang : Language) (number : ℕ) (line : List ℕ) → length line ≤ 64 → number ≤ 100000 → item_at lang number line ≡ lang.read line
-plain_item lang number line h k = rw (le-ltb 64 (length line) h, le-ltb 100000 number k) refl
+pub plain_item : (lang : Language) (version : Version) (number : ℕ) (line : List ℕ) → length line ≤ 64 → number ≤ 100000 → item_at lang version number line ≡ lang.read version line
+plain_item lang version number line h k = rw (le-ltb 64 (length line) h, le-ltb 100000 number k) refl
 
 -- line 100,001 has no item
-past_last : (lang : Language) (number : ℕ) (line : List ℕ) (item : lang.Item) → 100000 < number → item_at lang number line ≡ Ok item → ⊥
-past_last lang number line item past = elim (cases_lt 64 (length line)) as (λ _. item_at lang number line ≡ Ok item → ⊥) [
+past_last : (lang : Language) (version : Version) (number : ℕ) (line : List ℕ) (item : lang.Item) → 100000 < number → item_at lang version number line ≡ Ok item → ⊥
+past_last lang version number line item past = elim (cases_lt 64 (length line)) as (λ _. item_at lang version number line ≡ Ok item → ⊥) [
   | inl long ↦ rw (lt-ltb 64 (length line) long) (λ e. cc)
   | inr short ↦ rw (le-ltb 64 (length line) short, lt-ltb 100000 number past) (λ e. cc)
 ]
 
 -- a line with an item stands within these lines
-pub before_last : (lang : Language) (number : ℕ) (line : List ℕ) (item : lang.Item) → item_at lang number line ≡ Ok item → number ≤ 100000
-before_last lang number line item e = elim (cases_lt 100000 number) [
-  | inl past ↦ absurd (past_last lang number line item past e)
+pub before_last : (lang : Language) (version : Version) (number : ℕ) (line : List ℕ) (item : lang.Item) → item_at lang version number line ≡ Ok item → number ≤ 100000
+before_last lang version number line item e = elim (cases_lt 100000 number) [
+  | inl past ↦ absurd (past_last lang version number line item past e)
   | inr fits ↦ fits
 ]
 
 -- a script with these items so far
-abbrev pub going : {X : Type 0} → Limits → List X → Parsed X → Script X
-going limits items asked = record { limits = Some limits; items = items ++ asked.items; fault = asked.fault }
+abbrev pub going : {X : Type 0} → Heading → List X → Parsed X → Script X
+going heading items asked = record { heading = Some heading; items = items ++ asked.items; fault = asked.fault }
 
--- the script of every text that begins with done has these limits and items, and goes on with the line of this number
-abbrev pub Comes : (lang : Language) → List ℕ → Limits → List lang.Item → ℕ → Type 0
-Comes lang done limits items number = (rest : List ℕ) → script_of lang (done ++ rest) ≡ going limits items (asked_from lang number rest)
+-- the script of every text that begins with done has this first line and these items, and goes on with the line of this number
+abbrev pub Comes : (lang : Language) → List ℕ → Heading → List lang.Item → ℕ → Type 0
+Comes lang done heading items number = (rest : List ℕ) → script_of lang (done ++ rest) ≡ going heading items (asked_from lang heading.version number rest)
 
-line_next : (lang : Language) (number : ℕ) (line rest : List ℕ) → HasNoNewline line
-    → asked_from lang number (line ++ 10 ∷ rest) ≡ asked_then number (item_at lang number line) (asked_from lang (number + 1) rest)
-line_next lang number line rest h = rw (lines_step [] line rest h, rest_step [] line rest h) refl
+line_next : (lang : Language) (version : Version) (number : ℕ) (line rest : List ℕ) → HasNoNewline line
+    → asked_from lang version number (line ++ 10 ∷ rest) ≡ asked_then number (item_at lang version number line) (asked_from lang version (number + 1) rest)
+line_next lang version number line rest h = rw (lines_step [] line rest h, rest_step [] line rest h) refl
 
 -- a line more
-pub line_comes : (lang : Language) (done line rest : List ℕ) (limits : Limits) (items : List lang.Item) (number : ℕ) (read : Result lang.Item LineKind)
-    → Comes lang done limits items number → HasNoNewline line → item_at lang number (take 65 line) ≡ read
-    → script_of lang ((done ++ (line ++ 10 ∷ [])) ++ rest) ≡ going limits items (asked_then number read (asked_from lang (number + 1) rest))
-line_comes lang done line rest limits items number read so_far free e =
+pub line_comes : (lang : Language) (done line rest : List ℕ) (heading : Heading) (items : List lang.Item) (number : ℕ) (read : Result lang.Item LineKind)
+    → Comes lang done heading items number → HasNoNewline line → item_at lang heading.version number (take 65 line) ≡ read
+    → script_of lang ((done ++ (line ++ 10 ∷ [])) ++ rest) ≡ going heading items (asked_then number read (asked_from lang heading.version (number + 1) rest))
+line_comes lang done line rest heading items number read so_far free e =
     ap (script_of lang) (regroup done line rest) ∙ so_far (line ++ 10 ∷ rest)
-    ∙ ap (going limits items) (line_next lang number line rest free ∙ ap (λ (r : Result lang.Item LineKind). asked_then number r (asked_from lang (number + 1) rest)) (sym (kept_item lang number line) ∙ e))
+    ∙ ap (going heading items) (line_next lang heading.version number line rest free ∙ ap (λ (r : Result lang.Item LineKind). asked_then number r (asked_from lang heading.version (number + 1) rest)) (sym (kept_item lang heading.version number line) ∙ e))
 
 -- a line with an item
-pub comes_on : (lang : Language) (done line : List ℕ) (limits : Limits) (items : List lang.Item) (number : ℕ) (item : lang.Item)
-    → Comes lang done limits items number → HasNoNewline line → item_at lang number (take 65 line) ≡ Ok item
-    → Comes lang (done ++ (line ++ 10 ∷ [])) limits (items ++ item ∷ []) (number + 1)
-comes_on lang done line limits items number item so_far free e rest =
-    let asked = asked_from lang (number + 1) rest in
-    let put : List lang.Item → Script lang.Item = λ all. record { limits = Some limits; items = all; fault = asked.fault } in
-    line_comes lang done line rest limits items number (Ok item) so_far free e ∙ ap put (sym (append_assoc items (item ∷ []) asked.items))
+pub comes_on : (lang : Language) (done line : List ℕ) (heading : Heading) (items : List lang.Item) (number : ℕ) (item : lang.Item)
+    → Comes lang done heading items number → HasNoNewline line → item_at lang heading.version number (take 65 line) ≡ Ok item
+    → Comes lang (done ++ (line ++ 10 ∷ [])) heading (items ++ item ∷ []) (number + 1)
+comes_on lang done line heading items number item so_far free e rest =
+    let asked = asked_from lang heading.version (number + 1) rest in
+    let put : List lang.Item → Script lang.Item = λ all. record { heading = Some heading; items = all; fault = asked.fault } in
+    line_comes lang done line rest heading items number (Ok item) so_far free e ∙ ap put (sym (append_assoc items (item ∷ []) asked.items))
 
 -- a script that ends here
-abbrev pub ended_script : {X : Type 0} → Limits → List X → Parsed X → Script X
-ended_script limits items asked = record { limits = Some limits; items = items; fault = asked.fault }
+abbrev pub ended_script : {X : Type 0} → Heading → List X → Parsed X → Script X
+ended_script heading items asked = record { heading = Some heading; items = items; fault = asked.fault }
 
-last_items : {X : Type 0} (limits : Limits) (items : List X) (asked : Parsed X) → asked.items ≡ [] → going limits items asked ≡ ended_script limits items asked
-last_items {X} limits items asked none =
-    let put : List X → Script X = λ all. record { limits = Some limits; items = all; fault = asked.fault } in
+last_items : {X : Type 0} (heading : Heading) (items : List X) (asked : Parsed X) → asked.items ≡ [] → going heading items asked ≡ ended_script heading items asked
+last_items {X} heading items asked none =
+    let put : List X → Script X = λ all. record { heading = Some heading; items = all; fault = asked.fault } in
     ap put (ap (λ (cs : List X). items ++ cs) none ∙ append-nil items)
 
 -- the line of this number has a fault
-pub comes_fault : (lang : Language) (done line rest : List ℕ) (limits : Limits) (items : List lang.Item) (number : ℕ) (kind : LineKind)
-    → Comes lang done limits items number → HasNoNewline line → item_at lang number (take 65 line) ≡ Err kind
-    → script_of lang ((done ++ (line ++ 10 ∷ [])) ++ rest) ≡ ended_script limits items (stopped number kind)
-comes_fault lang done line rest limits items number kind so_far free e =
-    line_comes lang done line rest limits items number (Err kind) so_far free e ∙ last_items limits items (stopped number kind) refl
+pub comes_fault : (lang : Language) (done line rest : List ℕ) (heading : Heading) (items : List lang.Item) (number : ℕ) (kind : LineKind)
+    → Comes lang done heading items number → HasNoNewline line → item_at lang heading.version number (take 65 line) ≡ Err kind
+    → script_of lang ((done ++ (line ++ 10 ∷ [])) ++ rest) ≡ ended_script heading items (stopped number kind)
+comes_fault lang done line rest heading items number kind so_far free e =
+    line_comes lang done line rest heading items number (Err kind) so_far free e ∙ last_items heading items (stopped number kind) refl
 
 -- the text ends
-pub comes_end : (lang : Language) (done : List ℕ) (limits : Limits) (items : List lang.Item) (number : ℕ) → Comes lang done limits items number
-    → script_of lang done ≡ ended_script limits items (asked_last number [])
-comes_end lang done limits items number so_far =
-    ap (script_of lang) (sym (append-nil done)) ∙ so_far [] ∙ last_items limits items (asked_last number []) refl
+pub comes_end : (lang : Language) (done : List ℕ) (heading : Heading) (items : List lang.Item) (number : ℕ) → Comes lang done heading items number
+    → script_of lang done ≡ ended_script heading items (asked_last number [])
+comes_end lang done heading items number so_far =
+    ap (script_of lang) (sym (append-nil done)) ∙ so_far [] ∙ last_items heading items (asked_last number []) refl
 
 last_cut : (X : Type 0) (number : ℕ) (line : List ℕ) → 0 < length line → asked_last {X = X} number line ≡ stopped number Cut
 last_cut X number [] h = absurd (omega arith)
 last_cut X number (x ∷ xs) h = refl
 
-cut_next : (lang : Language) (number : ℕ) (line : List ℕ) → HasNoNewline line → 0 < length line → asked_from lang number line ≡ stopped number Cut
-cut_next lang number line free some = rw (lines_none [] line free, rest_all [] line free) (last_cut lang.Item number line some)
+cut_next : (lang : Language) (version : Version) (number : ℕ) (line : List ℕ) → HasNoNewline line → 0 < length line → asked_from lang version number line ≡ stopped number Cut
+cut_next lang version number line free some = rw (lines_none [] line free, rest_all [] line free) (last_cut lang.Item number line some)
 
 -- the text ends inside the line of this number
-pub comes_cut : (lang : Language) (done line : List ℕ) (limits : Limits) (items : List lang.Item) (number : ℕ) → Comes lang done limits items number
-    → HasNoNewline line → 0 < length line → script_of lang (done ++ line) ≡ ended_script limits items (stopped number Cut)
-comes_cut lang done line limits items number so_far free some =
-    so_far line ∙ ap (going limits items) (cut_next lang number line free some) ∙ last_items limits items (stopped number Cut) refl
+pub comes_cut : (lang : Language) (done line : List ℕ) (heading : Heading) (items : List lang.Item) (number : ℕ) → Comes lang done heading items number
+    → HasNoNewline line → 0 < length line → script_of lang (done ++ line) ≡ ended_script heading items (stopped number Cut)
+comes_cut lang done line heading items number so_far free some =
+    so_far line ∙ ap (going heading items) (cut_next lang heading.version number line free some) ∙ last_items heading items (stopped number Cut) refl
 
 first_next : (lang : Language) (line rest : List ℕ) → HasNoNewline line
-    → script_of lang ((line ++ 10 ∷ []) ++ rest) ≡ with_header (header_at lang line) (asked_from lang 2 rest)
+    → script_of lang ((line ++ 10 ∷ []) ++ rest) ≡ with_header (header_at lang line) (λ version. asked_from lang version 2 rest)
 unfolding script_of
 first_next lang line rest h = rw (append_assoc line (10 ∷ []) rest, lines_step [] line rest h, rest_step [] line rest h) refl
 
 -- behind a header
-pub comes_first : (lang : Language) (line : List ℕ) (limits : Limits) → HasNoNewline line → header_at lang line ≡ Ok limits
-    → Comes lang (line ++ 10 ∷ []) limits [] 2
-comes_first lang line limits free e rest =
-    first_next lang line rest free ∙ ap (λ (r : Result Limits LineKind). with_header r (asked_from lang 2 rest)) e
+pub comes_first : (lang : Language) (line : List ℕ) (heading : Heading) → HasNoNewline line → header_at lang line ≡ Ok heading
+    → Comes lang (line ++ 10 ∷ []) heading [] 2
+comes_first lang line heading free e rest =
+    first_next lang line rest free ∙ ap (λ (r : Result Heading LineKind). with_header r (λ version. asked_from lang version 2 rest)) e
 
 -- a first line that is no header
 pub comes_unopened : (lang : Language) (line rest : List ℕ) (kind : LineKind) → HasNoNewline line → header_at lang line ≡ Err kind
     → script_of lang ((line ++ 10 ∷ []) ++ rest) ≡ without_header kind
 comes_unopened lang line rest kind free e =
-    first_next lang line rest free ∙ ap (λ (r : Result Limits LineKind). with_header r (asked_from lang 2 rest)) e
+    first_next lang line rest free ∙ ap (λ (r : Result Heading LineKind). with_header r (λ version. asked_from lang version 2 rest)) e
 
 -- an empty text
 pub no_header : (lang : Language) → script_of lang [] ≡ without_header Header
@@ -218,30 +218,30 @@ then_begins number (Err kind) front all h = ([], refl)
 then_begins {X} number (Ok item) front all h = (h.0, ap (λ (t : List X). item ∷ t) h.1)
 
 -- what lines ask for are the first items of these and more lines
-asked_begins : (lang : Language) (number : ℕ) (lines more : List (List ℕ)) (last rest : List ℕ)
-    → IsBeginning (asked_by lang number lines last).items (asked_by lang number (lines ++ more) rest).items
-asked_begins lang number [] more last rest =
-    none_begins (asked_last {X = lang.Item} number last).items (asked_by lang number more rest).items (asked_last_items lang.Item number last)
-asked_begins lang number (line ∷ lines) more last rest =
-    then_begins number (item_at lang number line) (asked_by lang (number + 1) lines last) (asked_by lang (number + 1) (lines ++ more) rest)
-    (asked_begins lang (number + 1) lines more last rest)
+asked_begins : (lang : Language) (version : Version) (number : ℕ) (lines more : List (List ℕ)) (last rest : List ℕ)
+    → IsBeginning (asked_by lang version number lines last).items (asked_by lang version number (lines ++ more) rest).items
+asked_begins lang version number [] more last rest =
+    none_begins (asked_last {X = lang.Item} number last).items (asked_by lang version number more rest).items (asked_last_items lang.Item number last)
+asked_begins lang version number (line ∷ lines) more last rest =
+    then_begins number (item_at lang version number line) (asked_by lang version (number + 1) lines last) (asked_by lang version (number + 1) (lines ++ more) rest)
+    (asked_begins lang version (number + 1) lines more last rest)
 
 -- the script is that of a text with more behind it: without a header, or with the same one and the same first items
 abbrev pub BeginsWith : {X : Type 0} → Script X → Script X → Type 0
-BeginsWith front script = (front.limits ≡ None) ⊎ ((front.limits ≡ script.limits) × IsBeginning front.items script.items)
+BeginsWith front script = (front.heading ≡ None) ⊎ ((front.heading ≡ script.heading) × IsBeginning front.items script.items)
 
-headers_begin : (lang : Language) (header : Result Limits LineKind) (lines more : List (List ℕ)) (last rest : List ℕ)
-    → BeginsWith (with_header header (asked_by lang 2 lines last)) (with_header header (asked_by lang 2 (lines ++ more) rest))
+headers_begin : (lang : Language) (header : Result Heading LineKind) (lines more : List (List ℕ)) (last rest : List ℕ)
+    → BeginsWith (with_header header (λ version. asked_by lang version 2 lines last)) (with_header header (λ version. asked_by lang version 2 (lines ++ more) rest))
 headers_begin lang (Err kind) lines more last rest = inl refl
-headers_begin lang (Ok limits) lines more last rest = inr (refl, asked_begins lang 2 lines more last rest)
+headers_begin lang (Ok heading) lines more last rest = inr (refl, asked_begins lang heading.version 2 lines more last rest)
 
-no_lines_limits : (X : Type 0) (last : List ℕ) → (no_lines {X = X} last).limits ≡ None
-no_lines_limits X [] = refl
-no_lines_limits X (x ∷ last) = refl
+no_lines_heading : (X : Type 0) (last : List ℕ) → (no_lines {X = X} last).heading ≡ None
+no_lines_heading X [] = refl
+no_lines_heading X (x ∷ last) = refl
 
 scripts_begin : (lang : Language) (lines more : List (List ℕ)) (last rest : List ℕ)
     → BeginsWith (script_by lang lines last) (script_by lang (lines ++ more) rest)
-scripts_begin lang [] more last rest = inl (no_lines_limits lang.Item last)
+scripts_begin lang [] more last rest = inl (no_lines_heading lang.Item last)
 scripts_begin lang (line ∷ lines) more last rest = headers_begin lang (header_at lang line) lines more last rest
 
 pub script_begins : (lang : Language) (text rest : List ℕ) → BeginsWith (script_of lang text) (script_of lang (text ++ rest))

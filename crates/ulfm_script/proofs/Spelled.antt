@@ -3,11 +3,13 @@ use Rattle.std.proofs.Common.{◌≡◌, ℕ, ◌<◌, List, [], ◌∷◌, ◌+
 use Rattle.std.specs.{Prelude.{◌⊎◌, codes, IfOk}, Fmt.{decimal}, Str.{bytes_eq}}
 use Rattle.std.proofs.lemmas.{List.{append-nil}, Slice.Eq.{bytes_eq-Decides}}
 use Rattle.ulfm_laws.specs.declared.flag_and.FlagAnd.{FlagAnd}
-use Rattle.ulfm_model.specs.declared.call.Call.TheVariants.{Fail, GetFailed, Ack, Agree, Shrink, Barrier, Poll, Revoke, IsRevoked, Free}
+use Rattle.ulfm_model.specs.declared.call.Call.TheVariants.{Fail, GetFailed, Ack, FailureAck, FailureGetAcked, Agree, Shrink, Barrier, Poll, Revoke, IsRevoked, Free}
 use Rattle.ulfm_script.specs.declared.line_kind.LineKind.{LineKind}
 use Rattle.ulfm_script.specs.declared.line_kind.LineKind.TheVariants.{Verb}
-use Rattle.ulfm_script.specs.{Calls.{ScriptCall, read_rank_comm, fail_of, ack_of, agree_of, read_plain_call, call_from, call_of}, Digits.{read_rank, read_comm, read_number, read_flag, half_digits, spelled_flag}, Spelling.{IsOnComm, Spells, SpellsAs, is_padded, spelled_text}, Steps.{◌>>=◌}, Words.{first_word, one_of, two_of, three_of}}
-use Rattle.ulfm_script.proofs.{Hexadecimal.{flag_found, padded_told, spelled_flag_again}, Numerals.{number_again, number_found, number_to_again, number_to_found}, WordLemmas.{IsWord, decimal_is_word, joined, joined_word, one_again, one_found, same_done, spelled_is_word, step_found, three_again, three_found, two_again, two_found}}
+use Rattle.ulfm_script.specs.declared.version.Version.{Version}
+use Rattle.ulfm_script.specs.declared.version.Version.TheVariants.{First, Second}
+use Rattle.ulfm_script.specs.{Calls.{ScriptCall, read_rank_comm, fail_of, ack_of, agree_of, of_second, read_plain_call, call_from, call_in, call_of}, Digits.{MayPadIn, read_rank, read_comm, read_number, read_flag_in, spelled_flag}, Spelling.{IsOnComm, Spells, SpellsIn, SpellsAs, is_padded, spelled_text}, Steps.{◌>>=◌}, Words.{first_word, one_of, two_of, three_of}}
+use Rattle.ulfm_script.proofs.{Hexadecimal.{flag_in_again, flag_in_found, padded_told}, Numerals.{number_again, number_found, number_to_again, number_to_found}, WordLemmas.{IsWord, decimal_is_word, joined, joined_word, one_again, one_found, same_done, spelled_is_word, step_found, three_again, three_found, two_again, two_found}}
 
 -- a rank that was printed is read
 pub rank_again : (rank : ℕ) → rank < 1024 → read_rank (decimal rank) ≡ Ok rank
@@ -21,9 +23,9 @@ comm_again comm h = number_to_again 255 comm (omega arith) (omega (arith, h))
 pub number_is_word : (n : ℕ) → n < 10000 → IsWord (decimal n)
 number_is_word n h = decimal_is_word n (omega (arith, h))
 
-fail_again : (rank : ℕ) → rank < 1024 → call_of (codes "fail " ++ decimal rank) ≡ Ok (Fail rank)
-unfolding call_of fail_of
-fail_again rank h = rw (one_again (decimal rank) (number_is_word rank (omega (arith, h))), rank_again rank h) refl
+fail_again : (version : Version) (rank : ℕ) → rank < 1024 → call_in version (codes "fail " ++ decimal rank) ≡ Ok (Fail rank)
+unfolding call_in fail_of
+fail_again version rank h = rw (one_again (decimal rank) (number_is_word rank (omega (arith, h))), rank_again rank h) refl
 
 -- two words, as a rank and a communicator are written
 abbrev place_text : ℕ → ℕ → List ℕ
@@ -37,45 +39,53 @@ place_again rank comm h k =
 plain_again : (call_at : ℕ → ℕ → ScriptCall) (rank comm : ℕ) → rank < 1024 → comm < 256 → read_plain_call call_at (Some (place_text rank comm)) ≡ Ok (call_at rank comm)
 plain_again call_at rank comm h k = rw (place_again rank comm h k) refl
 
-ack_again : (rank comm count : ℕ) → rank < 1024 → comm < 256 → count < 10000 → call_of (codes "ack " ++ (decimal rank ++ 32 ∷ (decimal comm ++ 32 ∷ decimal count))) ≡ Ok (Ack rank comm count)
-unfolding call_of ack_of
-ack_again rank comm count h k l =
+ack_again : (version : Version) (rank comm count : ℕ) → rank < 1024 → comm < 256 → count < 10000 → call_in version (codes "ack " ++ (decimal rank ++ 32 ∷ (decimal comm ++ 32 ∷ decimal count))) ≡ Ok (Ack rank comm count)
+unfolding call_in ack_of
+ack_again version rank comm count h k l =
     rw (three_again (decimal rank) (decimal comm) (decimal count) (number_is_word rank (omega (arith, h))) (number_is_word comm (omega (arith, k))) (number_is_word count l), rank_again rank h, comm_again comm k, number_again count l) refl
 
-agree_again : (rank comm : ℕ) (padded : Bool) (flag : FlagAnd) → rank < 1024 → comm < 256 → call_of (codes "agree " ++ (decimal rank ++ 32 ∷ (decimal comm ++ 32 ∷ spelled_flag padded flag))) ≡ Ok (Agree rank comm flag)
-unfolding call_of agree_of
-agree_again rank comm padded flag h k =
-    rw (three_again (decimal rank) (decimal comm) (spelled_flag padded flag) (number_is_word rank (omega (arith, h))) (number_is_word comm (omega (arith, k))) (spelled_is_word padded flag), rank_again rank h, comm_again comm k, spelled_flag_again padded flag) refl
+agree_again : (version : Version) (rank comm : ℕ) (padded : Bool) (flag : FlagAnd) → MayPadIn version padded flag → rank < 1024 → comm < 256 → call_in version (codes "agree " ++ (decimal rank ++ 32 ∷ (decimal comm ++ 32 ∷ spelled_flag padded flag))) ≡ Ok (Agree rank comm flag)
+unfolding call_in agree_of
+agree_again version rank comm padded flag may h k =
+    rw (three_again (decimal rank) (decimal comm) (spelled_flag padded flag) (number_is_word rank (omega (arith, h))) (number_is_word comm (omega (arith, k))) (spelled_is_word padded flag), rank_again rank h, comm_again comm k, flag_in_again version padded flag may) refl
 
 plain_line : (verb : List ℕ) (rank comm : ℕ) → verb ++ (decimal rank ++ 32 ∷ (decimal comm ++ [])) ≡ verb ++ (decimal rank ++ 32 ∷ decimal comm)
 plain_line verb rank comm = ap (λ (t : List ℕ). verb ++ (decimal rank ++ 32 ∷ t)) (append-nil (decimal comm))
 
 -- what is spelled so is read
+pub spelled_in_again : (version : Version) (line : List ℕ) (call : ScriptCall) → SpellsIn version line call → call_in version line ≡ Ok call
+unfolding call_in
+spelled_in_again version line (Fail rank) h = ap (call_in version) h.1 ∙ fail_again version rank h.0
+spelled_in_again version line (GetFailed rank comm) h = ap (call_in version) (h.line_is ∙ plain_line (codes "get ") rank comm) ∙ plain_again GetFailed rank comm h.rank_fits h.comm_fits
+spelled_in_again version line (Ack rank comm count) h = ap (call_in version) h.1.line_is ∙ ack_again version rank comm count h.1.rank_fits h.1.comm_fits h.0
+spelled_in_again First line (FailureAck rank comm) h = absurd (let e = h.0 in cc e)
+spelled_in_again Second line (FailureAck rank comm) h = ap (call_in Second) (h.1.line_is ∙ plain_line (codes "failure_ack ") rank comm) ∙ plain_again FailureAck rank comm h.1.rank_fits h.1.comm_fits
+spelled_in_again First line (FailureGetAcked rank comm) h = absurd (let e = h.0 in cc e)
+spelled_in_again Second line (FailureGetAcked rank comm) h = ap (call_in Second) (h.1.line_is ∙ plain_line (codes "failure_get_acked ") rank comm) ∙ plain_again FailureGetAcked rank comm h.1.rank_fits h.1.comm_fits
+spelled_in_again version line (Agree rank comm flag) h = ap (call_in version) h.2.line_is ∙ agree_again version rank comm h.0 flag h.1 h.2.rank_fits h.2.comm_fits
+spelled_in_again version line (Shrink rank comm) h = ap (call_in version) (h.line_is ∙ plain_line (codes "shrink ") rank comm) ∙ plain_again Shrink rank comm h.rank_fits h.comm_fits
+spelled_in_again version line (Barrier rank comm) h = ap (call_in version) (h.line_is ∙ plain_line (codes "barrier ") rank comm) ∙ plain_again Barrier rank comm h.rank_fits h.comm_fits
+spelled_in_again version line (Poll rank comm) h = ap (call_in version) (h.line_is ∙ plain_line (codes "poll ") rank comm) ∙ plain_again Poll rank comm h.rank_fits h.comm_fits
+spelled_in_again version line (Revoke rank comm) h = ap (call_in version) (h.line_is ∙ plain_line (codes "revoke ") rank comm) ∙ plain_again Revoke rank comm h.rank_fits h.comm_fits
+spelled_in_again version line (IsRevoked rank comm) h = ap (call_in version) (h.line_is ∙ plain_line (codes "isrevoked ") rank comm) ∙ plain_again IsRevoked rank comm h.rank_fits h.comm_fits
+spelled_in_again version line (Free rank comm) h = ap (call_in version) (h.line_is ∙ plain_line (codes "free ") rank comm) ∙ plain_again Free rank comm h.rank_fits h.comm_fits
+
+-- .. in the first version
 pub spelled_again : (line : List ℕ) (call : ScriptCall) → Spells line call → call_of line ≡ Ok call
-unfolding call_of
-spelled_again line (Fail rank) h = ap call_of h.1 ∙ fail_again rank h.0
-spelled_again line (GetFailed rank comm) h = ap call_of (h.line_is ∙ plain_line (codes "get ") rank comm) ∙ plain_again GetFailed rank comm h.rank_fits h.comm_fits
-spelled_again line (Ack rank comm count) h = ap call_of h.1.line_is ∙ ack_again rank comm count h.1.rank_fits h.1.comm_fits h.0
-spelled_again line (Agree rank comm flag) h = ap call_of h.2.line_is ∙ agree_again rank comm h.0 flag h.2.rank_fits h.2.comm_fits
-spelled_again line (Shrink rank comm) h = ap call_of (h.line_is ∙ plain_line (codes "shrink ") rank comm) ∙ plain_again Shrink rank comm h.rank_fits h.comm_fits
-spelled_again line (Barrier rank comm) h = ap call_of (h.line_is ∙ plain_line (codes "barrier ") rank comm) ∙ plain_again Barrier rank comm h.rank_fits h.comm_fits
-spelled_again line (Poll rank comm) h = ap call_of (h.line_is ∙ plain_line (codes "poll ") rank comm) ∙ plain_again Poll rank comm h.rank_fits h.comm_fits
-spelled_again line (Revoke rank comm) h = ap call_of (h.line_is ∙ plain_line (codes "revoke ") rank comm) ∙ plain_again Revoke rank comm h.rank_fits h.comm_fits
-spelled_again line (IsRevoked rank comm) h = ap call_of (h.line_is ∙ plain_line (codes "isrevoked ") rank comm) ∙ plain_again IsRevoked rank comm h.rank_fits h.comm_fits
-spelled_again line (Free rank comm) h = ap call_of (h.line_is ∙ plain_line (codes "free ") rank comm) ∙ plain_again Free rank comm h.rank_fits h.comm_fits
+spelled_again line call h = spelled_in_again First line call h
 
 -- a verb whose fields were read stands at the line's beginning
-abbrev Reads : (verb : List ℕ) → (Option (List ℕ) → Result ScriptCall LineKind) → Type 0
-Reads verb fields_of = (fields : Option (List ℕ)) (call : ScriptCall) → fields_of fields ≡ Ok call → Spells (joined verb fields) call
+abbrev Reads : Version → (verb : List ℕ) → (Option (List ℕ) → Result ScriptCall LineKind) → Type 0
+Reads version verb fields_of = (fields : Option (List ℕ)) (call : ScriptCall) → fields_of fields ≡ Ok call → SpellsIn version (joined verb fields) call
 
-fail_found : Reads (codes "fail") fail_of
+fail_found : (version : Version) → Reads version (codes "fail") fail_of
 unfolding fail_of
-fail_found fields call e =
+fail_found version fields call e =
     let a = step_found (one_of fields) (λ word. read_rank word >>= λ rank. Ok (Fail rank)) call e in
     let b = step_found (read_rank a.0) (λ rank. Ok (Fail rank)) call a.2 in
     let r = number_to_found 1023 b.0 a.0 b.1 in
     let line : joined (codes "fail") fields ≡ codes "fail " ++ decimal b.0 = ap (joined (codes "fail")) (one_found fields a.0 a.1) ∙ ap (λ (t : List ℕ). codes "fail " ++ t) r.1 in
-    subst (Spells (joined (codes "fail") fields)) (same_done (Fail b.0) call b.2) (omega (arith, r.0), line)
+    subst (SpellsIn version (joined (codes "fail") fields)) (same_done (Fail b.0) call b.2) (omega (arith, r.0), line)
 
 -- the rank and the communicator of two words
 abbrev on_comm : {A : Type 0} → (ℕ → ℕ → Result A LineKind) → List ℕ → List ℕ → Result A LineKind
@@ -119,45 +129,45 @@ three_line verb fields a b last text rank comm e h k i j l = record {
 }
 
 -- its verb is spelled with those alone
-abbrev IsPlain : (verb : List ℕ) → (ℕ → ℕ → ScriptCall) → Type 0
-IsPlain verb call_at = (line : List ℕ) (rank comm : ℕ) → IsOnComm line (verb ++ 32 ∷ []) rank comm [] → Spells line (call_at rank comm)
+abbrev IsPlain : Version → (verb : List ℕ) → (ℕ → ℕ → ScriptCall) → Type 0
+IsPlain version verb call_at = (line : List ℕ) (rank comm : ℕ) → IsOnComm line (verb ++ 32 ∷ []) rank comm [] → SpellsIn version line (call_at rank comm)
 
 abbrev pair : ℕ → ℕ → Result (ℕ × ℕ) LineKind
 pair rank comm = Ok (rank, comm)
 
-plain_found : (verb : List ℕ) (call_at : ℕ → ℕ → ScriptCall) → IsPlain verb call_at → Reads verb (read_plain_call call_at)
+plain_found : (version : Version) (verb : List ℕ) (call_at : ℕ → ℕ → ScriptCall) → IsPlain version verb call_at → Reads version verb (read_plain_call call_at)
 unfolding read_rank_comm
-plain_found verb call_at spells fields call e =
+plain_found version verb call_at spells fields call e =
     let x = step_found (read_rank_comm fields) (λ place. Ok (call_at place.0 place.1)) call e in
     let w = step_found (two_of fields) (λ w. on_comm pair w.0 w.1) x.0 x.1 in
     let p = place_found pair w.0.0 w.0.1 x.0 w.2 in
     let is : call_at p.rank p.comm ≡ call = ap (λ (at : ℕ × ℕ). call_at at.0 at.1) (same_done (p.rank, p.comm) x.0 p.rest) ∙ same_done (call_at x.0.0 x.0.1) call x.2 in
-    subst (Spells (joined verb fields)) is (spells (joined verb fields) p.rank p.comm (two_line verb fields w.0.0 w.0.1 p.rank p.comm (two_found fields w.0 w.1) p.rank_fits p.comm_fits p.a_is p.b_is))
+    subst (SpellsIn version (joined verb fields)) is (spells (joined verb fields) p.rank p.comm (two_line verb fields w.0.0 w.0.1 p.rank p.comm (two_found fields w.0 w.1) p.rank_fits p.comm_fits p.a_is p.b_is))
 
 abbrev ack_rest : List ℕ → ℕ → ℕ → Result ScriptCall LineKind
 ack_rest word rank comm = read_number word >>= λ count. Ok (Ack rank comm count)
 
-ack_found : Reads (codes "ack") ack_of
+ack_found : (version : Version) → Reads version (codes "ack") ack_of
 unfolding ack_of
-ack_found fields call e =
+ack_found version fields call e =
     let w = step_found (three_of fields) (λ w. on_comm (ack_rest w.2) w.0 w.1) call e in
     let p = place_found (ack_rest w.0.2) w.0.0 w.0.1 call w.2 in
     let n = step_found (read_number w.0.2) (λ count. Ok (Ack p.rank p.comm count)) call p.rest in
     let f = number_found w.0.2 n.0 n.1 in
-    subst (Spells (joined (codes "ack") fields)) (same_done (Ack p.rank p.comm n.0) call n.2)
+    subst (SpellsIn version (joined (codes "ack") fields)) (same_done (Ack p.rank p.comm n.0) call n.2)
     (f.0, three_line (codes "ack") fields w.0.0 w.0.1 w.0.2 (decimal n.0) p.rank p.comm (three_found fields w.0 w.1) p.rank_fits p.comm_fits p.a_is p.b_is f.1)
 
-abbrev agree_rest : List ℕ → ℕ → ℕ → Result ScriptCall LineKind
-agree_rest word rank comm = read_flag word >>= λ flag. Ok (Agree rank comm flag)
+abbrev agree_rest : Version → List ℕ → ℕ → ℕ → Result ScriptCall LineKind
+agree_rest version word rank comm = read_flag_in version word >>= λ flag. Ok (Agree rank comm flag)
 
-agree_found : Reads (codes "agree") agree_of
+agree_found : (version : Version) → Reads version (codes "agree") (agree_of version)
 unfolding agree_of
-agree_found fields call e =
-    let w = step_found (three_of fields) (λ w. on_comm (agree_rest w.2) w.0 w.1) call e in
-    let p = place_found (agree_rest w.0.2) w.0.0 w.0.1 call w.2 in
-    let n = step_found (read_flag w.0.2) (λ flag. Ok (Agree p.rank p.comm flag)) call p.rest in
-    let f = flag_found w.0.2 n.0 n.1 in
-    subst (Spells (joined (codes "agree") fields)) (same_done (Agree p.rank p.comm n.0) call n.2)
+agree_found version fields call e =
+    let w = step_found (three_of fields) (λ w. on_comm (agree_rest version w.2) w.0 w.1) call e in
+    let p = place_found (agree_rest version w.0.2) w.0.0 w.0.1 call w.2 in
+    let n = step_found (read_flag_in version w.0.2) (λ flag. Ok (Agree p.rank p.comm flag)) call p.rest in
+    let f = flag_in_found version w.0.2 n.0 n.1 in
+    subst (SpellsIn version (joined (codes "agree") fields)) (same_done (Agree p.rank p.comm n.0) call n.2)
     (f.padded, f.may_pad, three_line (codes "agree") fields w.0.0 w.0.1 w.0.2 (spelled_flag f.padded n.0) p.rank p.comm (three_found fields w.0 w.1) p.rank_fits p.comm_fits p.a_is p.b_is f.word_is)
 
 -- one of two ways
@@ -174,30 +184,42 @@ verb_found Tells word verb fields fields_of other found reads rest e = elim (cho
   | inr that ↦ rest that.1
 ]
 
-no_verb : (line : List ℕ) (call : ScriptCall) → (let r : Result ScriptCall LineKind = Err Verb in r) ≡ Ok call → Spells line call
-no_verb line call e = absurd cc
+no_verb : (version : Version) (line : List ℕ) (call : ScriptCall) → (let r : Result ScriptCall LineKind = Err Verb in r) ≡ Ok call → SpellsIn version line call
+no_verb version line call e = absurd cc
 
-read_from : (word : List ℕ) (fields : Option (List ℕ)) (call : ScriptCall) → call_from (word, fields) ≡ Ok call → Spells (joined word fields) call
-read_from word fields call e = verb_found Spells word (codes "fail") fields fail_of _ call fail_found
-    (verb_found Spells word (codes "get") fields (read_plain_call GetFailed) _ call (plain_found (codes "get") GetFailed (λ line rank comm h. h))
-    (verb_found Spells word (codes "ack") fields ack_of _ call ack_found
-    (verb_found Spells word (codes "agree") fields agree_of _ call agree_found
-    (verb_found Spells word (codes "shrink") fields (read_plain_call Shrink) _ call (plain_found (codes "shrink") Shrink (λ line rank comm h. h))
-    (verb_found Spells word (codes "barrier") fields (read_plain_call Barrier) _ call (plain_found (codes "barrier") Barrier (λ line rank comm h. h))
-    (verb_found Spells word (codes "poll") fields (read_plain_call Poll) _ call (plain_found (codes "poll") Poll (λ line rank comm h. h))
-    (verb_found Spells word (codes "revoke") fields (read_plain_call Revoke) _ call (plain_found (codes "revoke") Revoke (λ line rank comm h. h))
-    (verb_found Spells word (codes "isrevoked") fields (read_plain_call IsRevoked) _ call (plain_found (codes "isrevoked") IsRevoked (λ line rank comm h. h))
-    (verb_found Spells word (codes "free") fields (read_plain_call Free) _ call (plain_found (codes "free") Free (λ line rank comm h. h)) (no_verb (joined word fields) call)))))))))) e
+-- a verb of the second version alone
+second_found : (version : Version) (verb : List ℕ) (call_at : ℕ → ℕ → ScriptCall) → IsPlain Second verb call_at → Reads version verb (λ fields. of_second version (read_plain_call call_at fields))
+second_found First verb call_at spells fields call e = absurd (cc e)
+second_found Second verb call_at spells fields call e = plain_found Second verb call_at spells fields call e
+
+read_from : (version : Version) (word : List ℕ) (fields : Option (List ℕ)) (call : ScriptCall) → call_from version (word, fields) ≡ Ok call → SpellsIn version (joined word fields) call
+read_from version word fields call e = verb_found (SpellsIn version) word (codes "fail") fields fail_of _ call (fail_found version)
+    (verb_found (SpellsIn version) word (codes "get") fields (read_plain_call GetFailed) _ call (plain_found version (codes "get") GetFailed (λ line rank comm h. h))
+    (verb_found (SpellsIn version) word (codes "ack") fields ack_of _ call (ack_found version)
+    (verb_found (SpellsIn version) word (codes "agree") fields (agree_of version) _ call (agree_found version)
+    (verb_found (SpellsIn version) word (codes "shrink") fields (read_plain_call Shrink) _ call (plain_found version (codes "shrink") Shrink (λ line rank comm h. h))
+    (verb_found (SpellsIn version) word (codes "barrier") fields (read_plain_call Barrier) _ call (plain_found version (codes "barrier") Barrier (λ line rank comm h. h))
+    (verb_found (SpellsIn version) word (codes "poll") fields (read_plain_call Poll) _ call (plain_found version (codes "poll") Poll (λ line rank comm h. h))
+    (verb_found (SpellsIn version) word (codes "revoke") fields (read_plain_call Revoke) _ call (plain_found version (codes "revoke") Revoke (λ line rank comm h. h))
+    (verb_found (SpellsIn version) word (codes "isrevoked") fields (read_plain_call IsRevoked) _ call (plain_found version (codes "isrevoked") IsRevoked (λ line rank comm h. h))
+    (verb_found (SpellsIn version) word (codes "free") fields (read_plain_call Free) _ call (plain_found version (codes "free") Free (λ line rank comm h. h))
+    (verb_found (SpellsIn version) word (codes "failure_ack") fields (λ f. of_second version (read_plain_call FailureAck f)) _ call (second_found version (codes "failure_ack") FailureAck (λ line rank comm h. (refl, h)))
+    (verb_found (SpellsIn version) word (codes "failure_get_acked") fields (λ f. of_second version (read_plain_call FailureGetAcked f)) _ call (second_found version (codes "failure_get_acked") FailureGetAcked (λ line rank comm h. (refl, h)))
+    (no_verb version (joined word fields) call)))))))))))) e
 
 -- what is read is spelled so
+pub read_in_spelled : (version : Version) (line : List ℕ) (call : ScriptCall) → call_in version line ≡ Ok call → SpellsIn version line call
+unfolding call_in
+read_in_spelled version line call e = subst (λ (t : List ℕ). SpellsIn version t call) (joined_word line) (read_from version (first_word line).0 (first_word line).1 call e)
+
+-- .. in the first version
 pub read_is_spelled : (line : List ℕ) (call : ScriptCall) → call_of line ≡ Ok call → Spells line call
-unfolding call_of
-read_is_spelled line call e = subst (λ (t : List ℕ). Spells t call) (joined_word line) (read_from (first_word line).0 (first_word line).1 call e)
+read_is_spelled line call e = read_in_spelled First line call e
 
 -- the same at a result
-pub found : (line : List ℕ) (r : Result ScriptCall LineKind) → r ≡ call_of line → IfOk r (λ call. Spells line call)
-found line (Ok call) e = read_is_spelled line call (sym e)
-found line (Err kind) e = tt
+pub found : (version : Version) (line : List ℕ) (r : Result ScriptCall LineKind) → r ≡ call_in version line → IfOk r (λ call. SpellsIn version line call)
+found version line (Ok call) e = read_in_spelled version line call (sym e)
+found version line (Err kind) e = tt
 
 -- how a line spells its call's flag is told by its length
 told_padded : (line : List ℕ) (rank comm : ℕ) (flag : FlagAnd) (h : Spells line (Agree rank comm flag)) → is_padded line (Agree rank comm flag) ≡ h.0
@@ -213,6 +235,8 @@ pub spelled_is : (line : List ℕ) (call : ScriptCall) → Spells line call → 
 spelled_is line (Fail rank) h = h.1
 spelled_is line (GetFailed rank comm) h = h.line_is
 spelled_is line (Ack rank comm count) h = h.1.line_is
+spelled_is line (FailureAck rank comm) h = h.1.line_is
+spelled_is line (FailureGetAcked rank comm) h = h.1.line_is
 spelled_is line (Agree rank comm flag) h = h.2.line_is ∙ ap (λ (padded : Bool). spelled_text padded (Agree rank comm flag)) (sym (told_padded line rank comm flag h))
 spelled_is line (Shrink rank comm) h = h.line_is
 spelled_is line (Barrier rank comm) h = h.line_is

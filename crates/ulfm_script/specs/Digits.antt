@@ -1,8 +1,10 @@
 -- Numbers and flags in words.
-use Rattle.std.specs.Prelude.{ℕ, zero, suc, ◌+◌, ◌*◌, ◌-◌, ◌/◌, ◌%◌, ◌^◌, ◌<◌, Bool, true, false, ⊤, ◌&&◌, ◌||◌, ◌==◌, nat_lt, nat_le, if◌then◌else◌}
+use Rattle.std.specs.Prelude.{ℕ, zero, suc, ◌+◌, ◌*◌, ◌-◌, ◌/◌, ◌%◌, ◌^◌, ◌<◌, Bool, true, false, ⊤, ◌&&◌, ◌||◌, ◌==◌, ◌≡◌, nat_lt, nat_le, if◌then◌else◌}
 use Rattle.std.specs.Prelude.{List, [], ◌∷◌, ◌++◌, length, slice_index, Option, Some, None, Result, Ok, Err}
 use Rattle.ulfm_laws.specs.declared.flag_and.FlagAnd.{FlagAnd}
 use Rattle.ulfm_laws.specs.{Flags.{flag_unpack}, Ranges.{payload_bits}}
+use Rattle.ulfm_script.specs.declared.version.Version.{Version}
+use Rattle.ulfm_script.specs.declared.version.Version.TheVariants.{First, Second}
 use Rattle.ulfm_script.specs.declared.line_kind.LineKind.{LineKind}
 use Rattle.ulfm_script.specs.declared.line_kind.LineKind.TheVariants.{Number, Flag}
 use Rattle.ulfm_script.specs.Steps.{◌>>=◌, or_fault}
@@ -63,6 +65,11 @@ unfoldable pub read_flag : List ℕ → Result FlagAnd LineKind
 read_flag word =
     if spells_flag (length word) then (digits_after Flag 16 hex_of 0 word >>= λ n. or_fault Flag (flag_unpack n)) else Err Flag
 
+-- a flag in a script of this version: in the second it has all its digits
+unfoldable pub read_flag_in : Version → List ℕ → Result FlagAnd LineKind
+read_flag_in First word = read_flag word
+read_flag_in Second word = if length word == whole_digits then read_flag word else Err Flag
+
 -- the digit of a value below 16
 abbrev pub hex_digit : ℕ → ℕ
 hex_digit n = if nat_lt n 10 then 48 + n else 87 + n
@@ -97,3 +104,8 @@ spelled_flag true flag = padded_text flag
 abbrev pub MayPad : Bool → FlagAnd → Type 0
 MayPad false flag = ⊤
 MayPad true flag = flag.bits < 16 ^ half_digits
+
+-- .. in a script of this version
+abbrev pub MayPadIn : Version → Bool → FlagAnd → Type 0
+MayPadIn First padded flag = MayPad padded flag
+MayPadIn Second padded flag = padded ≡ true

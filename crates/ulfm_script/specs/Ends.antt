@@ -1,7 +1,7 @@
 -- How running the text of a script ends, whatever kind of script it is.
 use Rattle.std.specs.Prelude.{◌≡◌, ◌⊎◌, ℕ, ◌+◌, ◌≤◌, List, [], ◌∷◌, ◌++◌, length, Option, Some, None, IfSome, Result, Ok, Err}
 use Rattle.std.specs.Io.KnownBytes.{Appends, Consumes, IsAtEnd, prepend_known}
-use Rattle.ulfm_model.specs.declared.limits.Limits.{Limits}
+use Rattle.ulfm_script.specs.declared.{heading.Heading.{Heading}, version.Version.{Version}}
 use Rattle.ulfm_script.specs.declared.line_kind.LineKind.{LineKind}
 use Rattle.ulfm_script.specs.declared.fault.RunFault.{RunFault}
 use Rattle.ulfm_script.specs.declared.fault.RunFault.TheVariants.{Line, Memory, Read, Write}
@@ -9,19 +9,19 @@ use Rattle.ulfm_script.specs.{Buffers.{HasNoNewline, IsOfLine}, Written.{IsBegin
 use Rattle.ulfm_script.specs.Scripts.{Language, header_at, item_at, lines_from, rest_from, script_of, without_header}
 
 -- what these items print on a new world of these limits; a script without a header prints nothing
-abbrev pub PrintsFrom : (lang : Language) → Option Limits → List lang.Item → List ℕ → Type 0
+abbrev pub PrintsFrom : (lang : Language) → Option Heading → List lang.Item → List ℕ → Type 0
 PrintsFrom lang None items out = out ≡ []
-PrintsFrom lang (Some limits) items out = lang.Prints limits items out
+PrintsFrom lang (Some heading) items out = lang.Prints heading.limits items out
 
 -- the first items of a text print this, or nothing is printed
 abbrev pub PrintsSome : Language → List ℕ → List ℕ → Type 0
 PrintsSome lang text out =
     let script = script_of lang text in
-    (out ≡ []) ⊎ ((first : List lang.Item) × IsBeginning first script.items × PrintsFrom lang script.limits first out)
+    (out ≡ []) ⊎ ((first : List lang.Item) × IsBeginning first script.items × PrintsFrom lang script.heading first out)
 
 -- all items of a text print this
 abbrev pub PrintsAll : Language → List ℕ → List ℕ → Type 0
-PrintsAll lang text out = let script = script_of lang text in PrintsFrom lang script.limits script.items out
+PrintsAll lang text out = let script = script_of lang text in PrintsFrom lang script.heading script.items out
 
 -- the bytes that a reader has left, or that a writer has, where they are known
 abbrev pub KnownText : Type 0
@@ -56,11 +56,11 @@ pub record RunsAll (lang : Language) (known : KnownText) (fault : Option (ℕ ×
 -- The run of a reader's whole text that found a fault which no line alone shows: what the items before it print is told.
 pub record FindsFault (lang : Language) (known : KnownText) (number : ℕ) (kind : LineKind) (Told : Claim) : Type 0 where
   pub text : List ℕ
-  pub limits : Limits
+  pub heading : Heading
   pub out : List ℕ
   pub whole : IsTextOf known text
-  pub opened : (script_of lang text).limits ≡ Some limits
-  pub finds : lang.Finds limits (script_of lang text).items number kind out
+  pub opened : (script_of lang text).heading ≡ Some heading
+  pub finds : lang.Finds heading.limits (script_of lang text).items number kind out
   pub printed : PrintsSome lang text out
   pub told : Told out
 
@@ -123,29 +123,29 @@ EndsUpTo lang known left ahead old new result = Ends lang known left ahead (IsBu
 abbrev pub EndsAlone : Language → KnownText → KnownText → KnownText → KnownText → RunEnd → Type 0
 EndsAlone lang known left old new result = (ahead : List ℕ) × (length ahead ≤ 8192) × EndsThrough lang known left ahead old new result
 
--- what a machine has run and printed: its world's limits, the items, and the output
+-- what a machine has run and printed: its script's first line, the items, and the output
 abbrev pub Stage : Language → Type 1
-Stage lang = Limits → List lang.Item → List ℕ → Type 0
+Stage lang = Heading → List lang.Item → List ℕ → Type 0
 
 -- A machine has run all items of a reader's whole text, which has no fault: what it printed is told.
 pub record HasRunAll (lang : Language) (HasRun : Stage lang) (known : KnownText) (Told : Claim) : Type 0 where
   pub text : List ℕ
-  pub limits : Limits
+  pub heading : Heading
   pub items : List lang.Item
   pub out : List ℕ
   pub whole : IsTextOf known text
-  pub script_is : script_of lang text ≡ record { limits = Some limits; items = items; fault = None }
-  pub has_run : HasRun limits items out
+  pub script_is : script_of lang text ≡ record { heading = Some heading; items = items; fault = None }
+  pub has_run : HasRun heading items out
   pub told : Told out
 
 -- a machine was opened by the first line, and printed this
 pub record IsOpened (lang : Language) (HasRun : Stage lang) (old new : KnownText) (text : List ℕ) : Type 0 where
   pub line : List ℕ
-  pub limits : Limits
+  pub heading : Heading
   pub free : HasNoNewline line
-  pub header : header_at lang line ≡ Ok limits
+  pub header : header_at lang line ≡ Ok heading
   pub taken : Consumes old new (line ++ 10 ∷ [])
-  pub new_one : HasRun limits [] text
+  pub new_one : HasRun heading [] text
 
 -- A machine was opened by the first line; or the text's script has no header; or memory was refused or the reader failed. In these three cases a
 -- part of the first line was taken, or all of it. Where the reader failed, nothing is pending.
@@ -157,9 +157,9 @@ Opens lang HasRun text old new bytes (Err Memory) = (part : List ℕ) × IsOfLin
 Opens lang HasRun text old new bytes (Err Read) = (part : List ℕ) × HasNoNewline part × (bytes ≡ []) × Consumes old new part
 Opens lang HasRun text old new bytes (Err Write) = ⊥
 
--- what was run of a script so far: its world's limits, the items, and what they printed
+-- what was run of a script so far: its first line, the items, and what they printed
 pub record RunSoFar (lang : Language) : Type 0 where
-  pub limits : Limits
+  pub heading : Heading
   pub items : List lang.Item
   pub out : List ℕ
 
@@ -168,12 +168,12 @@ abbrev pub HasFault : (lang : Language) → RunSoFar lang → Result lang.Item L
 HasFault lang before read kind =
     (read ≡ Err kind)
     ⊎ ((item : lang.Item) × (read ≡ Ok item)
-    × ((behind : List lang.Item) → lang.Finds before.limits (before.items ++ item ∷ behind) (length before.items + 2) kind before.out))
+    × ((behind : List lang.Item) → lang.Finds before.heading.limits (before.items ++ item ∷ behind) (length before.items + 2) kind before.out))
 
 -- a line with this item or fault was run behind what was run, and printed this; or it can't be run
 abbrev pub TakesItem : (lang : Language) → Stage lang → RunSoFar lang → Result lang.Item LineKind → List ℕ → Result (Unit {0}) LineKind → Type 0
 TakesItem lang HasRun before read text (Ok done) =
-    (item : lang.Item) × (read ≡ Ok item) × HasRun before.limits (before.items ++ item ∷ []) (before.out ++ text)
+    (item : lang.Item) × (read ≡ Ok item) × HasRun before.heading (before.items ++ item ∷ []) (before.out ++ text)
 TakesItem lang HasRun before read text (Err kind) = HasFault lang before read kind
 
 -- a line of a script as it is read: its number, and its item or its first fault
@@ -181,9 +181,9 @@ pub record ScriptLine (lang : Language) : Type 0 where
   pub number : ℕ
   pub read : Result lang.Item LineKind
 
--- the line of this number with this text
-abbrev pub line_at : (lang : Language) → ℕ → List ℕ → ScriptLine lang
-line_at lang number text = record { number = number; read = item_at lang number text }
+-- the line of this number with this text, in a script of this version
+abbrev pub line_at : (lang : Language) → Version → ℕ → List ℕ → ScriptLine lang
+line_at lang version number text = record { number = number; read = item_at lang version number text }
 
 -- A line was run behind what was run, and what it prints is written or waits behind what waited before. Where it has a fault or memory was refused,
 -- what waited is written or waits, and nothing more. Where the writer failed, a beginning of what waited is written.

@@ -1,5 +1,5 @@
 -- What running a script of calls writes.
-use Rattle.std.specs.Prelude.{◌≡◌, ℕ, List, [], ◌∷◌, ◌++◌}
+use Rattle.std.specs.Prelude.{◌≡◌, ℕ, List, [], ◌∷◌, ◌++◌, take}
 use Rattle.ulfm_laws.specs.declared.flag_and.FlagAnd.{FlagAnd}
 use Rattle.ulfm_laws.specs.Flags.{flag_meld}
 use Rattle.ulfm_model.specs.declared.call.Call.{Call}
@@ -7,8 +7,8 @@ use Rattle.ulfm_model.specs.declared.limits.Limits.{Limits}
 use Rattle.ulfm_model.specs.declared.reply.Reply.{Reply}
 use Rattle.ulfm_model.specs.declared.reply.Reply.TheVariants.{Shrunk, FailedGroup}
 use Rattle.ulfm_model.specs.{Answers.{traits_of}, History.{failed, members}, Runs.{IsStep, State, new_state}}
-use Rattle.ulfm_script.specs.declared.header_kind.HeaderKind.TheVariants.{Calls}
-use Rattle.ulfm_script.specs.{Calls.{ScriptCall, call_of}, Ends.{EndsAlone, EndsThrough, KnownText, RunEnd}, Printed.{reply_text}, Scripts.{Language}}
+use Rattle.ulfm_script.specs.declared.{heading.Heading.{Heading}, version.Version.{Version}}
+use Rattle.ulfm_script.specs.{Calls.{ScriptCall, call_in}, Ends.{EndsAlone, EndsThrough, KnownText, RunEnd}, Headers.{call_heading}, Printed.{reply_text}, Scripts.{Language}}
 
 -- the replies of calls one after another, each by its own caller
 abbrev pub AreReplies : {P : Type 0} → (P → P → P) → State P → List (Call P) → List (Reply P) → Type 0
@@ -33,10 +33,10 @@ members_at state c = members state.limits.ranks state.history c
 abbrev pub Steps : ScriptState → ScriptCall → Reply FlagAnd → ScriptState → Type 0
 Steps old call reply new = IsStep flag_meld old (traits_of call).by call reply new
 
--- the group that a reply is about: the new communicator's members, or the failed group of communicator c, which the call named
+-- the group that a reply is about: the new communicator's members, or so many of the failed group of communicator c, which the call named
 abbrev pub reply_group : ScriptState → ℕ → Reply FlagAnd → List ℕ
 reply_group state c (Shrunk j context size) = members_at state j
-reply_group state c (FailedGroup count) = failed_at state c
+reply_group state c (FailedGroup count) = take count (failed_at state c)
 reply_group state c reply = []
 
 -- the line that the reply to a call prints, by the state after it
@@ -67,9 +67,14 @@ ArePrinted state calls out = (replies : List (Reply FlagAnd)) × AreReplies flag
 abbrev pub PrintsCalls : Limits → List ScriptCall → List ℕ → Type 0
 PrintsCalls limits calls out = (last : ScriptState) × Prints (new_state limits) calls out last
 
--- scripts of calls; each call that can be read can be run
+-- scripts of calls, of either version; each call that can be read can be run
 abbrev pub call_scripts : Language
-call_scripts = record { Item = ScriptCall; kind = Calls; read = call_of; Prints = PrintsCalls; Finds = λ limits calls number kind out. ⊥ }
+call_scripts = record { Item = ScriptCall; heading = call_heading; read = call_in; Prints = PrintsCalls; Finds = λ limits calls number kind out. ⊥ }
+
+-- A machine in this state has answered these calls behind this first line, in whose version it reads: these are the lines that they print.
+pub record HasAnswered (version : Version) (state : ScriptState) (heading : Heading) (calls : List ScriptCall) (out : List ℕ) : Type 0 where
+  pub same : version ≡ heading.version
+  pub prints : Prints (new_state heading.limits) calls out state
 
 -- a run through a buffer that the caller sees: what was to be taken, what the reader has left and what is read ahead; what the writer had
 -- and has

@@ -1,33 +1,34 @@
 //! Scripts of calls, run on anything that answers its calls.
 ghost use Rattle.std.specs.Prelude.{◌≡◌, ℕ, List, [], OnOk};
-ghost use Rattle.ulfm_model.specs.declared.limits.Limits.{Limits};
 ghost use Rattle.ulfm_model.specs.Runs.{new_state};
 ghost use Rattle.ulfm_script.specs.Buffers.{pending, unread};
-ghost use Rattle.ulfm_script.specs.Runs.{PrintsReply, Prints, RunsBuffered, RunsThrough, call_scripts};
+ghost use Rattle.ulfm_script.specs.Runs.{HasAnswered, PrintsReply, RunsBuffered, RunsThrough, call_scripts};
 ghost use Rattle.ulfm_script.specs.Spelling.{IsSpelled};
 
 use crate::buffers::Input;
-use crate::calls::read_call;
+use crate::calls::read_call_of;
 use crate::engine::{end_of, run_text, run_text_through};
 use crate::fault::RunFault;
-use crate::header_kind::HeaderKind;
+use crate::header::read_call_heading;
+use crate::heading::Heading;
 use crate::interpreter::Interpreter;
 use crate::last_group::LastGroup;
 use crate::line_kind::LineKind;
 use crate::machine::Machine;
 use crate::printing::print_reply;
+use crate::version::Version;
 use std::alloc::{AllocError, Allocator};
 use std::io::{Read, Write};
 use ulfm_laws::FlagAnd;
-use ulfm_model::{Call, Limits};
+use ulfm_model::Call;
 
 /// The bytes of most replies' lines.
 const ROOM: usize = 64;
 
 /// Runs the script that the reader gives on a new machine, writes a line for each call, and flushes the writer.
 ///
-/// The first line is `ulfm 1 RANKS COMMS ROUNDS`, the world's limits; each other line is a call as [`crate::read_call`] reads
-/// it, and gives one line as [`crate::print_reply`] prints it. Want of memory is never printed as a reply.
+/// The first line is `ulfm 1 RANKS COMMS ROUNDS` or `ulfm 2 ..`, the version and the world's limits; each other line is a call as
+/// [`crate::read_call_of`] reads it in this version, and gives one line as [`crate::print_reply`] prints it. Want of memory is never printed as a reply.
 ///
 /// At `Ok` the whole text was read, and exactly its output was written. At `Line` the fault is the first of the text, in the order of
 /// [`crate::LineKind`] within a line, and exactly the output of the lines before was written; of what stands behind that line the
@@ -68,6 +69,7 @@ pub fn run_script_through<M: Machine<A>, A: Allocator + Copy, R: Read, W: Write>
 /// A machine, and the lines of its replies.
 #[derive(Drop)]
 struct CallLines<M, A: Allocator> {
+    version: Version,
     machine: M,
     group: Vec<u16, A>,
     last: LastGroup<A>,
@@ -79,18 +81,19 @@ impl<M: Machine<A>, A: Allocator + Copy> Interpreter<A> for CallLines<M, A> {
 
     ghost lang = { call_scripts };
 
-    ghost HasRun = { λ plan it limits calls out. Prints (new_state limits) calls out (M.state it.machine) };
+    ghost HasRun = { λ plan it heading calls out. HasAnswered it.version (M.state it.machine) heading calls out };
 
     ghost text = { λ it. it.text.items };
 
-    fn kind() -> HeaderKind {
-        HeaderKind::Calls
+    fn heading(line: &[u8]) -> Result<Heading, LineKind> {
+        read_call_heading(line)
     }
 
-    fn open(alloc: A, limits: Limits, _plan: ()) -> Result<Self, AllocError> {
+    fn open(alloc: A, heading: Heading, _plan: ()) -> Result<Self, AllocError> {
         let text = Vec::with_capacity(alloc, ROOM)?;
-        let machine = M::open(alloc, limits)?;
+        let machine = M::open(alloc, heading.limits)?;
         Ok(CallLines {
+            version: heading.version,
             machine,
             group: Vec::new(alloc),
             last: LastGroup::new(alloc),
@@ -99,7 +102,7 @@ impl<M: Machine<A>, A: Allocator + Copy> Interpreter<A> for CallLines<M, A> {
     }
 
     fn run(&mut self, line: &[u8]) -> Result<Result<(), LineKind>, AllocError> {
-        match read_call(line) {
+        match read_call_of(self.version, line) {
             Ok(call) => {
                 answer(
                     &mut self.machine,
@@ -118,7 +121,7 @@ impl<M: Machine<A>, A: Allocator + Copy> Interpreter<A> for CallLines<M, A> {
         &self.text
     }
 
-    ghost prints = { λ plan it limits calls out ran. (M.state it.machine, ran) };
+    ghost prints = { λ plan it heading calls out ran. (M.state it.machine, ran.prints) };
 }
 
 /// Answers a call by the machine, and makes the line that it prints.

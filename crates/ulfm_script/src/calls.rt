@@ -1,14 +1,16 @@
 //! The calls of a script, line by line.
 ghost use Rattle.std.specs.Prelude.{◌≡◌, ℕ, List, Option, Ok, IfOk};
-ghost use Rattle.ulfm_script.specs.Calls.{ScriptCall, call_from, call_of, read_rank_comm, fail_of, ack_of, agree_of, read_plain_call};
-ghost use Rattle.ulfm_script.specs.Verbs.{call_at, found_call, plain_word, verb_call, verb_word};
-ghost use Rattle.ulfm_script.specs.Spelling.{Spells, is_padded, spelled_text};
+ghost use Rattle.ulfm_script.specs.Calls.{ScriptCall, call_from, call_in, call_of, read_rank_comm, fail_of, ack_of, agree_of, read_plain_call};
+ghost use Rattle.ulfm_script.specs.Verbs.{call_at, found_call, plain_in, plain_word, verb_call, verb_word};
+ghost use Rattle.ulfm_script.specs.Spelling.{Spells, SpellsIn, is_padded, spelled_text};
 ghost use Rattle.ulfm_script.specs.Words.{rest_at};
+ghost use Rattle.ulfm_script.specs.declared.version.Version.{Version as VersionOf};
 
 use crate::digits::{HALF_DIGITS, LEAST_LONG};
 use crate::line_kind::LineKind;
+use crate::version::Version;
 use crate::words::{
-    LAST_COMM, LAST_RANK, one_word, read_flag, read_number, read_number_to, split_word,
+    LAST_COMM, LAST_RANK, one_word, read_flag_in, read_number, read_number_to, split_word,
     three_words, two_words,
 };
 use ulfm_laws::FlagAnd;
@@ -30,7 +32,24 @@ pub fn read_call(line: &[u8]) -> Result<Call<FlagAnd>, LineKind>
     ensures only { (call : ScriptCall) → Spells line.now call → result ≡ Ok call }
     ensures exact { result ≡ call_of line.now }
 {
-    parse_call(line)
+    parse_call(Version::First, line)
+}
+
+/// The call of one line of a script of this version, without its newline, or the first fault in it from `verb` on.
+///
+/// The second version has the lines of the first, as [`read_call`] reads them, and `failure_ack R C` and `failure_get_acked R C`. In it a flag has sixteen
+/// digits.
+///
+/// ```
+/// assert!(rt; read_call_of(Version::Second, b"failure_ack 0 1") == Ok(Call::FailureAck { rank, comm }));
+/// assert!(rt; read_call_of(Version::First, b"failure_ack 0 1") == Err(LineKind::Verb));
+/// ```
+pub fn read_call_of(version: Version, line: &[u8]) -> Result<Call<FlagAnd>, LineKind>
+    ensures found { IfOk result (λ call. SpellsIn version line.now call) }
+    ensures only { (call : ScriptCall) → SpellsIn version line.now call → result ≡ Ok call }
+    ensures exact { result ≡ call_in version line.now }
+{
+    parse_call(version, line)
 }
 
 /// Whether a line that spells this call has all digits of its flag, though the upper half is 0.
@@ -56,20 +75,20 @@ fn has_padding(line: &[u8], call: &Call<FlagAnd>) -> bool
     }
 }
 
-#[tactic(auto, unfolding(crate::specs::Calls::call_of))]
-fn parse_call(line: &[u8]) -> Result<Call<FlagAnd>, LineKind>
-    ensures { result ≡ call_of line.now }
+#[tactic(auto, unfolding(crate::specs::Calls::call_in))]
+fn parse_call(version: Version, line: &[u8]) -> Result<Call<FlagAnd>, LineKind>
+    ensures { result ≡ call_in version line.now }
 {
     let (word, fields) = split_word(line);
     match find_verb(word) {
-        Some(verb) => read_fields(verb, fields),
+        Some(verb) => read_fields(version, verb, fields),
         None => Err(LineKind::Verb),
     }
 }
 
 /// The verb that a word spells.
 fn find_verb(word: &[u8]) -> Option<Verb>
-    ensures { (rest : Option (List ℕ)) → found_call result rest ≡ call_from (word.now, rest) }
+    ensures { (version : VersionOf) (rest : Option (List ℕ)) → found_call version result rest ≡ call_from version (word.now, rest) }
 {
     let verbs = [
         Verb::Fail,
@@ -82,6 +101,8 @@ fn find_verb(word: &[u8]) -> Option<Verb>
         Verb::Plain(Plain::Revoke),
         Verb::Plain(Plain::IsRevoked),
         Verb::Plain(Plain::Free),
+        Verb::Plain(Plain::FailureAck),
+        Verb::Plain(Plain::FailureGetAcked),
     ];
     for verb in &verbs {
         if word == verb_word(*verb) {
@@ -110,6 +131,8 @@ fn plain_word(plain: Plain) -> &'static [u8]
 {
     match plain {
         Plain::GetFailed => b"get",
+        Plain::FailureAck => b"failure_ack",
+        Plain::FailureGetAcked => b"failure_get_acked",
         Plain::Shrink => b"shrink",
         Plain::Barrier => b"barrier",
         Plain::Poll => b"poll",
@@ -120,14 +143,18 @@ fn plain_word(plain: Plain) -> &'static [u8]
 }
 
 /// The call of a verb, by its fields.
-fn read_fields(verb: Verb, fields: Option<&[u8]>) -> Result<Call<FlagAnd>, LineKind>
-    ensures { result ≡ verb_call verb (rest_at fields.entry) }
+fn read_fields(
+    version: Version,
+    verb: Verb,
+    fields: Option<&[u8]>,
+) -> Result<Call<FlagAnd>, LineKind>
+    ensures { result ≡ verb_call version verb (rest_at fields.entry) }
 {
     match verb {
         Verb::Fail => read_fail(fields),
         Verb::Ack => read_ack(fields),
-        Verb::Agree => read_agree(fields),
-        Verb::Plain(plain) => read_plain(plain, fields),
+        Verb::Agree => read_agree(version, fields),
+        Verb::Plain(plain) => read_plain_in(version, plain, fields),
     }
 }
 
@@ -144,12 +171,28 @@ enum Verb {
 #[derive(Clone, Copy)]
 enum Plain {
     GetFailed,
+    FailureAck,
+    FailureGetAcked,
     Shrink,
     Barrier,
     Poll,
     Revoke,
     IsRevoked,
     Free,
+}
+
+/// A plain call of a script of this version, by its fields.
+fn read_plain_in(
+    version: Version,
+    plain: Plain,
+    fields: Option<&[u8]>,
+) -> Result<Call<FlagAnd>, LineKind>
+    ensures { result ≡ plain_in version plain (rest_at fields.entry) }
+{
+    match (version, plain) {
+        (Version::First, Plain::FailureAck | Plain::FailureGetAcked) => Err(LineKind::Verb),
+        _ => read_plain(plain, fields),
+    }
 }
 
 /// A plain call, by its fields.
@@ -166,6 +209,8 @@ fn plain_call(plain: Plain, rank: u16, comm: u16) -> Call<FlagAnd>
 {
     match plain {
         Plain::GetFailed => Call::GetFailed { rank, comm },
+        Plain::FailureAck => Call::FailureAck { rank, comm },
+        Plain::FailureGetAcked => Call::FailureGetAcked { rank, comm },
         Plain::Shrink => Call::Shrink { rank, comm },
         Plain::Barrier => Call::Barrier { rank, comm },
         Plain::Poll => Call::Poll { rank, comm },
@@ -207,12 +252,12 @@ fn read_ack(fields: Option<&[u8]>) -> Result<Call<FlagAnd>, LineKind>
 }
 
 #[tactic(auto, unfolding(crate::specs::Calls::agree_of))]
-fn read_agree(fields: Option<&[u8]>) -> Result<Call<FlagAnd>, LineKind>
-    ensures { result ≡ agree_of (rest_at fields.entry) }
+fn read_agree(version: Version, fields: Option<&[u8]>) -> Result<Call<FlagAnd>, LineKind>
+    ensures { result ≡ agree_of version (rest_at fields.entry) }
 {
     let (rank, comm, value) = three_words(fields)?;
     let rank = read_number_to(LAST_RANK, rank)?;
     let comm = read_number_to(LAST_COMM, comm)?;
-    let value = read_flag(value)?;
+    let value = read_flag_in(version, value)?;
     Ok(Call::Agree { rank, comm, value })
 }

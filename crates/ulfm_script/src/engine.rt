@@ -1,22 +1,19 @@
 //! The engine that runs the text of a script, over anything that runs its lines.
-ghost use Rattle.std.specs.Prelude.{◌≡◌, [], length, nat_lt, Err, IfOk, if◌then◌else◌};
+ghost use Rattle.std.specs.Prelude.{◌≡◌, [], IfOk};
 ghost use Rattle.std.specs.Io.KnownBytes.{Appends};
 ghost use Rattle.ulfm_model.specs.Words.{MayOpen};
 ghost use Rattle.ulfm_script.specs.Buffers.{outgoing, pending, waiting, unread};
 ghost use Rattle.ulfm_script.specs.Ends.{EndsAlone, EndsThrough, EndsUpTo, HasRunAll, IsOpened, KnownText, Opens, RunSoFar, RunsLine, ended, line_at};
-ghost use Rattle.ulfm_script.specs.Headers.{header_of};
+ghost use Rattle.ulfm_script.specs.Scripts.{header_at};
 ghost use Rattle.ulfm_script.specs.Written.{IsBuffered};
-ghost use Rattle.ulfm_script.specs.declared.line_kind.LineKind.TheVariants.{Long};
 
 use crate::buffers::{Input, LineEnd, Output};
 use crate::fault::RunFault;
-use crate::header::read_header;
-use crate::header_kind::HeaderKind;
+use crate::heading::Heading;
 use crate::interpreter::Interpreter;
 use crate::line_kind::LineKind;
 use std::alloc::Allocator;
 use std::io::{Read, Write};
-use ulfm_model::Limits;
 
 /// The most bytes that a line may have, without its newline.
 const LONGEST: usize = 64;
@@ -150,7 +147,7 @@ fn run_opened<M: Interpreter<A>, A: Allocator + Copy, R: Read, W: Write>(
     unreachable!()
 }
 
-/// A machine of the limits in the first line.
+/// A machine of what the first line gives.
 fn open_machine<M: Interpreter<A>, A: Allocator + Copy, R: Read>(
     alloc: A,
     plan: M::Plan,
@@ -170,22 +167,22 @@ fn open_machine<M: Interpreter<A>, A: Allocator + Copy, R: Read>(
             let kind = LineKind::Cut;
             Err(RunFault::Line { number: 1, kind })
         }
-        LineEnd::Newline => match first_limits(M::kind(), line) {
-            Ok(limits) => Ok(M::open(alloc, limits, plan)?),
+        LineEnd::Newline => match first_line::<M, A>(line) {
+            Ok(heading) => Ok(M::open(alloc, heading, plan)?),
             Err(kind) => Err(RunFault::Line { number: 1, kind }),
         },
     }
 }
 
-/// The limits that a first line gives, or its fault.
-fn first_limits(kind: HeaderKind, line: &[u8]) -> Result<Limits, LineKind>
-    ensures exact { result ≡ (if nat_lt 64 (length line.now) then Err Long else header_of kind line.now) }
-    ensures opens { IfOk result (λ limits. MayOpen limits) }
+/// What a first line gives, or its fault.
+fn first_line<M: Interpreter<A>, A: Allocator>(line: &[u8]) -> Result<Heading, LineKind>
+    ensures exact { result ≡ header_at M.lang line.now }
+    ensures opens { IfOk result (λ heading. MayOpen heading.limits) }
 {
     if line.len() > LONGEST {
         return Err(LineKind::Long);
     }
-    read_header(kind, line)
+    M::heading(line)
 }
 
 /// Runs one line.
@@ -196,8 +193,8 @@ fn run_line<M: Interpreter<A>, A: Allocator, W: Write>(
     number: u32,
     line: &[u8],
 ) -> Result<(), RunFault>
-    ensures { (plan : M.Plan) (before : RunSoFar M.lang) → M.HasRun plan machine.old before.limits before.items before.out
-        → RunsLine M.lang (M.HasRun plan machine.new) before (line_at M.lang number line.now) (outgoing W.contents output.old writer.old)
+    ensures { (plan : M.Plan) (before : RunSoFar M.lang) → M.HasRun plan machine.old before.heading before.items before.out
+        → RunsLine M.lang (M.HasRun plan machine.new) before (line_at M.lang before.heading.version number line.now) (outgoing W.contents output.old writer.old)
         (outgoing W.contents output.new writer.new) result }
 {
     if line.len() > LONGEST {

@@ -185,6 +185,8 @@ fn verb(call: &Call<FlagAnd>) -> &'static [u8]
         Call::Fail { .. } => b"fail ",
         Call::GetFailed { .. } => b"get ",
         Call::Ack { .. } => b"ack ",
+        Call::FailureAck { .. } => b"failure_ack ",
+        Call::FailureGetAcked { .. } => b"failure_get_acked ",
         Call::Agree { .. } => b"agree ",
         Call::Shrink { .. } => b"shrink ",
         Call::Barrier { .. } => b"barrier ",
@@ -216,6 +218,8 @@ fn print_fields<A: Allocator>(
             text.extend_from_slice(digits.text())
         }
         Call::GetFailed { rank, comm }
+        | Call::FailureAck { rank, comm }
+        | Call::FailureGetAcked { rank, comm }
         | Call::Shrink { rank, comm }
         | Call::Barrier { rank, comm }
         | Call::Poll { rank, comm }

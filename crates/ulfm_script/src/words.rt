@@ -1,11 +1,12 @@
 //! The words of a line, and the numbers and flags that they are.
 ghost use Rattle.std.specs.Prelude.{◌≡◌, ◌≤◌, length};
-ghost use Rattle.ulfm_script.specs.Digits.{digit_of, digits_after, hex_of, number_in, read_number, read_point, number_to, read_flag, read_printed_flag, whole_digits};
+ghost use Rattle.ulfm_script.specs.Digits.{digit_of, digits_after, hex_of, number_in, read_number, read_point, number_to, read_flag, read_printed_flag, whole_digits, read_flag_in};
 ghost use Rattle.ulfm_script.specs.Words.{first_word, next_word, one_of, two_of, three_of, four_of, rest_at, word_seen, two_at, three_at, four_at, Gives};
 ghost use Rattle.ulfm_script.specs.declared.line_kind.LineKind.TheVariants.{Flag};
 
 use crate::digits::{HALF_DIGITS, WHOLE_DIGITS, printed_digits};
 use crate::line_kind::LineKind;
+use crate::version::Version;
 use ulfm_laws::FlagAnd;
 
 /// The greatest rank that a script may name.
@@ -149,6 +150,17 @@ pub fn read_flag(word: &[u8]) -> Result<FlagAnd, LineKind>
     }
     let bits = read_hex(word)?;
     Ok(FlagAnd { bits })
+}
+
+/// A flag in a script of this version: in the second it has all its digits.
+#[tactic(auto, unfolding(crate::specs::Digits::read_flag_in))]
+pub fn read_flag_in(version: Version, word: &[u8]) -> Result<FlagAnd, LineKind>
+    ensures { result ≡ read_flag_in version word.now }
+{
+    if version == Version::Second && word.len() != WHOLE_DIGITS {
+        return Err(LineKind::Flag);
+    }
+    read_flag(word)
 }
 
 /// A flag that has as many digits as are printed.

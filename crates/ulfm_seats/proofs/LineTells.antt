@@ -24,7 +24,9 @@ use Rattle.ulfm_seats.specs.Walks.{stage}
 pub by_its_rank : (asked : Call FlagAnd) → IsByRank asked → (traits_of asked).by ≡ Caller.Rank (rank_of asked)
 by_its_rank (call.Fail rank) own = absurd (own rank refl)
 by_its_rank (call.GetFailed rank c) own = refl
+by_its_rank (call.FailureGetAcked rank c) own = refl
 by_its_rank (call.Ack rank c count) own = refl
+by_its_rank (call.FailureAck rank c) own = refl
 by_its_rank (call.Agree rank c value) own = refl
 by_its_rank (call.Shrink rank c) own = refl
 by_its_rank (call.Barrier rank c) own = refl

@@ -567,16 +567,16 @@ abbrev cleared : EngineState → List ℕ → EngineState
 cleared was text = record was { text = text }
 
 module _ (plan : Failing) (was own : EngineState) (before : RunSoFar failing_scripts) (line : List ℕ) (step : ScriptStep)
-    (h : HasFailed plan was before.limits before.items before.out) (e : step_line_of line ≡ Ok step) where
+    (h : HasFailed plan was before.heading.limits before.items before.out) (e : step_line_of line ≡ Ok step) where
   -- the lines that were told before stand
-  pub rests_cleared : (text : List ℕ) → RestsAt (cleared was text) before.limits h.trace h.rest
-  rests_cleared text = retold was text before.limits h.trace h.rest h.rests
+  pub rests_cleared : (text : List ℕ) → RestsAt (cleared was text) before.heading.limits h.trace h.rest
+  rests_cleared text = retold was text before.heading.limits h.trace h.rest h.rests
 
   -- a line was run
-  pub takes_failing : (text : List ℕ) → text ≡ [] → own.plan ≡ was.plan → RunsStep (cleared was text) own before.limits h.trace h.rest step
-      → TakesItem failing_scripts (HasFailed plan own) before (step_line_of line) own.text (Ok tt)
+  pub takes_failing : (text : List ℕ) → text ≡ [] → own.plan ≡ was.plan → RunsStep (cleared was text) own before.heading.limits h.trace h.rest step
+      → TakesItem failing_scripts (λ heading. HasFailed plan own heading.limits) before (step_line_of line) own.text (Ok tt)
   takes_failing text none same t =
-      let limits = before.limits in
+      let limits = before.heading.limits in
       let told : own.text ≡ lines_text t.whole = t.told ∙ ap (λ (x : List ℕ). x ++ lines_text t.whole) none in
       let follows : Follows (nothing limits) (before.items ++ step ∷ []) (h.rest ++ t.piece) =
       follows_append (nothing limits) before.items (step ∷ []) h.rest t.piece h.follows
@@ -596,11 +596,11 @@ module _ (plan : Failing) (was own : EngineState) (before : RunSoFar failing_scr
       )
 
   -- a line begins a call of a rank that has one under way
-  pub finds_failing : IsOpenCall (said_by (nothing before.limits) h.trace) step → HasFault failing_scripts before (step_line_of line) Open
+  pub finds_failing : IsOpenCall (said_by (nothing before.heading.limits) h.trace) step → HasFault failing_scripts before (step_line_of line) Open
   unfolding fails_after
   finds_failing is =
       let lines : List ScriptStep = before.items in
-      let found : (behind : List ScriptStep) → FindsOpenBehind before.limits (lines ++ step ∷ behind) (length lines + 2) Open before.out = λ behind. record {
+      let found : (behind : List ScriptStep) → FindsOpenBehind before.heading.limits (lines ++ step ∷ behind) (length lines + 2) Open before.out = λ behind. record {
         first = lines;
         asked = is.0;
         padded = is.1.0;
@@ -611,22 +611,22 @@ module _ (plan : Failing) (was own : EngineState) (before : RunSoFar failing_scr
         at = was.plan.at;
         r = was.plan.rank;
         made = was.made;
-        fails = fails_after plan was before.limits lines before.out h;
+        fails = fails_after plan was before.heading.limits lines before.out h;
         is_open = is.2;
       } in
       inr (step, e, found)
 
 -- what was run by a plan fails its rank
-pub all_failing : (plan : Failing) (own : EngineState) (known old new : KnownText) → HasRunAll failing_scripts (HasFailed plan own) known (Appends old new)
+pub all_failing : (plan : Failing) (own : EngineState) (known old new : KnownText) → HasRunAll failing_scripts (λ heading. HasFailed plan own heading.limits) known (Appends old new)
     → RunsFailing plan.at plan.rank own.made known old new
 all_failing plan own known old new h =
     record {
       text = h.text;
-      limits = h.limits;
+      heading = h.heading;
       items = h.items;
       out = h.out;
       whole = h.whole;
       script_is = h.script_is;
-      has_run = subst (λ (x : Failing). FailsAfter x.at x.rank own.made h.limits h.items h.out) h.has_run.plan_is (fails_after plan own h.limits h.items h.out h.has_run);
+      has_run = subst (λ (x : Failing). FailsAfter x.at x.rank own.made h.heading.limits h.items h.out) h.has_run.plan_is (fails_after plan own h.heading.limits h.items h.out h.has_run);
       told = h.told;
     }

@@ -36,10 +36,10 @@ runs_then {P} meld old mid new lines more trace piece h k = record {
 
 -- a line was run, and its piece of the trace was told
 pub takes_line : (Before After : TraceState → Type 0) (before : RunSoFar step_scripts) (line old text : List ℕ) (step : ScriptStep)
-    (h : Traces Before before.limits before.items before.out) → step_line_of line ≡ Ok step → old ≡ [] → TellsStep After h.1 step taken.Run old text
-    → TakesItem step_scripts (Traces After) before (step_line_of line) text (Ok tt)
+    (h : Traces Before before.heading.limits before.items before.out) → step_line_of line ≡ Ok step → old ≡ [] → TellsStep After h.1 step taken.Run old text
+    → TakesItem step_scripts (λ heading. Traces After heading.limits) before (step_line_of line) text (Ok tt)
 takes_line Before After before line old text step h e none t =
-    let limits = before.limits in
+    let limits = before.heading.limits in
     let piece = lines_text t.0 in
     let told : text ≡ piece = t.4 ∙ ap (λ (bytes : List ℕ). bytes ++ piece) none in
     let all : before.out ++ text ≡ trace_text limits (h.0 ++ t.0) =
@@ -50,11 +50,11 @@ takes_line Before After before line old text step h e none t =
 
 -- a line begins a call of a rank that has one under way
 pub finds_open : (Before : TraceState → Type 0) (before : RunSoFar step_scripts) (line : List ℕ) (step : ScriptStep)
-    (h : Traces Before before.limits before.items before.out) → step_line_of line ≡ Ok step → IsOpenCall h.1 step
+    (h : Traces Before before.heading.limits before.items before.out) → step_line_of line ≡ Ok step → IsOpenCall h.1 step
     → HasFault step_scripts before (step_line_of line) Open
 finds_open Before before line step h e is =
     let lines : List ScriptStep = before.items in
-    let found : (behind : List ScriptStep) → FindsOpenCall before.limits (lines ++ step ∷ behind) (length lines + 2) Open before.out = λ behind. (
+    let found : (behind : List ScriptStep) → FindsOpenCall before.heading.limits (lines ++ step ∷ behind) (length lines + 2) Open before.out = λ behind. (
       h.0,
       refl,
       record {

@@ -7,7 +7,7 @@ use Rattle.ulfm_model.specs.Answers.{traits_of}
 use Rattle.ulfm_script.specs.declared.header_kind.HeaderKind.TheVariants.{Steps}
 use Rattle.ulfm_script.specs.declared.line_kind.LineKind.{LineKind}
 use Rattle.ulfm_script.specs.declared.line_kind.LineKind.TheVariants.{Open}
-use Rattle.ulfm_script.specs.{Ends.{HasRunAll, KnownText}, Scripts.{Language}}
+use Rattle.ulfm_script.specs.{Ends.{HasRunAll, KnownText}, Headers.{heading_of}, Scripts.{Language}}
 use Rattle.std.specs.Io.KnownBytes.{Appends}
 use Rattle.ulfm_trace_model.specs.declared.{line.Line.{Line}, step_line.StepLine.TheVariants.{Before, Called, Failed, Finished, Stepped}}
 use Rattle.ulfm_trace_model.specs.{Follows.{Follows, IsPiece}, Traces.{IsLegalTrace, IsOpen, Told, nothing, said_by}}
@@ -86,12 +86,13 @@ pub record FindsOpenBehind (limits : Limits) (lines : List ScriptStep) (number :
 
 -- scripts of single steps, with a rank that is declared in between
 abbrev pub failing_scripts : Language
-failing_scripts = record { Item = ScriptStep; kind = Steps; read = step_line_of; Prints = FailsSomewhere; Finds = FindsOpenBehind }
+failing_scripts =
+    record { Item = ScriptStep; heading = heading_of Steps; read = λ version. step_line_of; Prints = FailsSomewhere; Finds = FindsOpenBehind }
 
 -- The script of the reader's whole text was run, which has no fault, and rank r was declared behind step `at`, or the script was too short: what
 -- the reader had, what the writer had and has, and the number of steps.
 abbrev pub RunsFailing : ℕ → ℕ → ℕ → KnownText → KnownText → KnownText → Type 0
-RunsFailing at r number known old new = HasRunAll failing_scripts (FailsAfter at r number) known (Appends old new)
+RunsFailing at r number known old new = HasRunAll failing_scripts (λ heading. FailsAfter at r number heading.limits) known (Appends old new)
 
 -- while the declaration is still to come, nothing is left out, and no more steps were made than come before it
 abbrev pub LeavesSoFar : Limits → Failing → Bool → ℕ → Lines → Lines → Type 0

@@ -5,7 +5,7 @@ use Rattle.ulfm_model.specs.declared.limits.Limits.{Limits}
 use Rattle.ulfm_script.specs.declared.header_kind.HeaderKind.TheVariants.{Steps, Trace}
 use Rattle.ulfm_script.specs.declared.line_kind.LineKind.{LineKind}
 use Rattle.ulfm_script.specs.declared.line_kind.LineKind.TheVariants.{Open}
-use Rattle.ulfm_script.specs.{Ends.{EndsAlone, EndsThrough, KnownText, RunEnd}, Headers.{header_text}, Scripts.{Language}}
+use Rattle.ulfm_script.specs.{Ends.{EndsAlone, EndsThrough, KnownText, RunEnd}, Headers.{header_text, heading_of}, Scripts.{Language}}
 use Rattle.ulfm_trace_model.specs.{Follows.{FindsOpen, Runs}, Traces.{Told, nothing}}
 use Rattle.ulfm_lines.specs.{LineTexts.{lines_text}, StepLines.{ScriptStep, step_line_of}, Stepped.{TraceState}}
 
@@ -34,7 +34,8 @@ FindsOpenCall limits lines number kind out =
 
 -- scripts of single steps
 abbrev pub step_scripts : Language
-step_scripts = record { Item = ScriptStep; kind = Steps; read = step_line_of; Prints = PrintsTrace; Finds = FindsOpenCall }
+step_scripts =
+    record { Item = ScriptStep; heading = heading_of Steps; read = λ version. step_line_of; Prints = PrintsTrace; Finds = FindsOpenCall }
 
 -- a run through a buffer that the caller sees: what was to be taken, what the reader has left and what is read ahead; what the writer had
 -- and has

@@ -8,8 +8,8 @@ use std::io::{Read, Write};
 use ulfm_lines::{StepMachine, Taken, Teller, read_step_line};
 use ulfm_model::Limits;
 use ulfm_script::{
-    HeaderKind, Input, Interpreter, LineKind, RunFault, end_of, print_header, run_text,
-    run_text_through,
+    HeaderKind, Heading, Input, Interpreter, LineKind, RunFault, end_of, print_header,
+    read_heading, run_text, run_text_through,
 };
 
 /// Runs the script of single steps that the reader gives on a new machine, writes a legal trace that follows it, and flushes the
@@ -67,17 +67,17 @@ impl<M: StepMachine<A>, A: Allocator + Copy> Interpreter<A> for StepLines<M, A> 
 
     ghost lang = { step_scripts };
 
-    ghost HasRun = { λ plan it limits lines out. Traces (M.Stands it.machine) limits lines out };
+    ghost HasRun = { λ plan it heading lines out. Traces (M.Stands it.machine) heading.limits lines out };
 
     ghost text = { λ it. it.teller.text.items };
 
-    fn kind() -> HeaderKind {
-        HeaderKind::Steps
+    fn heading(line: &[u8]) -> Result<Heading, LineKind> {
+        read_heading(HeaderKind::Steps, line)
     }
 
-    fn open(alloc: A, limits: Limits, _plan: ()) -> Result<Self, AllocError> {
-        let teller = tell_header(alloc, limits)?;
-        let machine = M::open(alloc, limits)?;
+    fn open(alloc: A, heading: Heading, _plan: ()) -> Result<Self, AllocError> {
+        let teller = tell_header(alloc, heading.limits)?;
+        let machine = M::open(alloc, heading.limits)?;
         Ok(StepLines { machine, teller })
     }
 
@@ -98,7 +98,7 @@ impl<M: StepMachine<A>, A: Allocator + Copy> Interpreter<A> for StepLines<M, A> 
         &self.teller.text
     }
 
-    ghost prints = { λ plan it limits lines out ran. (ran.0, ran.1, ran.2, ran.4) };
+    ghost prints = { λ plan it heading lines out ran. (ran.0, ran.1, ran.2, ran.4) };
 }
 
 /// A teller that has told the trace's first line.

@@ -13,8 +13,9 @@ use std::alloc::{AllocError, Allocator};
 use std::io::{Read, Write};
 use ulfm_laws::FlagAnd;
 use ulfm_lines::{Reach, StepMachine, Taken, Teller, count_up, read_step_line};
-use ulfm_model::Limits;
-use ulfm_script::{HeaderKind, Interpreter, LineKind, RunFault, end_of, run_text};
+use ulfm_script::{
+    HeaderKind, Heading, Interpreter, LineKind, RunFault, end_of, read_heading, run_text,
+};
 use ulfm_trace_model::StepLine;
 
 /// Runs a script as [`crate::run_step_script`] does, and declares a rank, whole, as the outside does, right after this atomic step of the
@@ -167,17 +168,17 @@ impl<M: StepMachine<A>, A: Allocator + Copy> Interpreter<A> for FailingLines<M, 
 
     ghost lang = { failing_scripts };
 
-    ghost HasRun = { λ plan it limits lines out. HasFailed plan (state_of M.Stands it) limits lines out };
+    ghost HasRun = { λ plan it heading lines out. HasFailed plan (state_of M.Stands it) heading.limits lines out };
 
     ghost text = { λ it. it.teller.text.items };
 
-    fn kind() -> HeaderKind {
-        HeaderKind::Steps
+    fn heading(line: &[u8]) -> Result<Heading, LineKind> {
+        read_heading(HeaderKind::Steps, line)
     }
 
-    fn open(alloc: A, limits: Limits, plan: Failing) -> Result<Self, AllocError> {
-        let teller = tell_header(alloc, limits)?;
-        let machine = M::open(alloc, limits)?;
+    fn open(alloc: A, heading: Heading, plan: Failing) -> Result<Self, AllocError> {
+        let teller = tell_header(alloc, heading.limits)?;
+        let machine = M::open(alloc, heading.limits)?;
         let mut lines = FailingLines {
             machine,
             teller,
@@ -206,7 +207,7 @@ impl<M: StepMachine<A>, A: Allocator + Copy> Interpreter<A> for FailingLines<M, 
         &self.teller.text
     }
 
-    ghost prints = { λ plan it limits lines out ran. (
+    ghost prints = { λ plan it heading lines out ran. (
       it.plan.at,
       it.plan.rank,
       it.made,

@@ -34,7 +34,9 @@ started old x y request offer look r event (call.Agree rank c value) starts adds
 started old x y request offer look r event (call.Shrink rank c) starts adds = ap step_of (sym adds.1)
 started old x y request offer look r event (call.Fail rank) starts adds = absurd starts
 started old x y request offer look r event (call.GetFailed rank c) starts adds = absurd starts
+started old x y request offer look r event (call.FailureGetAcked rank c) starts adds = absurd starts
 started old x y request offer look r event (call.Ack rank c count) starts adds = absurd starts
+started old x y request offer look r event (call.FailureAck rank c) starts adds = absurd starts
 started old x y request offer look r event (call.Barrier rank c) starts adds = absurd starts
 started old x y request offer look r event (call.Poll rank c) starts adds = absurd starts
 started old x y request offer look r event (call.Revoke rank c) starts adds = absurd starts

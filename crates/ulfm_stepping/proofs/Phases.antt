@@ -25,7 +25,9 @@ starts_no_poll old own x request other offer (call.Agree rank c value) starts po
 starts_no_poll old own x request other offer (call.Shrink rank c) starts polls = cc polls
 starts_no_poll old own x request other offer (call.Fail rank) starts polls = starts
 starts_no_poll old own x request other offer (call.GetFailed rank c) starts polls = starts
+starts_no_poll old own x request other offer (call.FailureGetAcked rank c) starts polls = starts
 starts_no_poll old own x request other offer (call.Ack rank c count) starts polls = starts
+starts_no_poll old own x request other offer (call.FailureAck rank c) starts polls = starts
 starts_no_poll old own x request other offer (call.Barrier rank c) starts polls = starts
 starts_no_poll old own x request other offer (call.Poll rank c) starts polls = starts
 starts_no_poll old own x request other offer (call.Revoke rank c) starts polls = starts

@@ -88,7 +88,9 @@ module _ {P : Type 0} (meld : P → P → P) (limits : Limits) (view : AtPoint P
   replies_relook (call.Poll rank c) shrinks refusal r = shrink_relooks rank c (held_at old c) refusal shrinks r
   replies_relook (call.Fail rank) shrinks refusal r = absurd (cc shrinks)
   replies_relook (call.GetFailed rank c) shrinks refusal r = absurd (cc shrinks)
+  replies_relook (call.FailureGetAcked rank c) shrinks refusal r = absurd (cc shrinks)
   replies_relook (call.Ack rank c count) shrinks refusal r = absurd (cc shrinks)
+  replies_relook (call.FailureAck rank c) shrinks refusal r = absurd (cc shrinks)
   replies_relook (call.Agree rank c value) shrinks refusal r = absurd (cc shrinks)
   replies_relook (call.Shrink rank c) shrinks refusal r = absurd (cc shrinks)
   replies_relook (call.Barrier rank c) shrinks refusal r = absurd (cc shrinks)

@@ -15,7 +15,9 @@ refusal_held : {P : Type 0} (old : Record) (s : List ℕ) (asked : Call P) (held
 refusal_held old s asked None = refl
 refusal_held old s (call.Fail rank) (Some x) = refl
 refusal_held old s (call.GetFailed rank c) (Some x) = refl
+refusal_held old s (call.FailureGetAcked rank c) (Some x) = refl
 refusal_held old s (call.Ack rank c count) (Some x) = refl
+refusal_held old s (call.FailureAck rank c) (Some x) = refl
 refusal_held old s (call.Agree rank c value) (Some x) = refl
 refusal_held old s (call.Shrink rank c) (Some x) = refl
 refusal_held old s (call.Barrier rank c) (Some x) = refl
@@ -43,7 +45,9 @@ module _ {P : Type 0} (meld : P → P → P) (limits : Limits) (view : AtPoint P
   by_reseen asked reply None None r = absurd r
   by_reseen (call.Fail rank) reply (Some x) None r = r
   by_reseen (call.GetFailed rank c) reply (Some x) None r = r
+  by_reseen (call.FailureGetAcked rank c) reply (Some x) None r = r
   by_reseen (call.Ack rank c count) reply (Some x) None r = r
+  by_reseen (call.FailureAck rank c) reply (Some x) None r = r
   by_reseen (call.Agree rank c value) reply (Some x) None r = start_reseen x (Flag value) reply r
   by_reseen (call.Shrink rank c) reply (Some x) None r = start_reseen x (Ctx (free_ids old.held)) reply r
   by_reseen (call.Barrier rank c) reply (Some x) None r = r

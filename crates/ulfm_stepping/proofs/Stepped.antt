@@ -28,7 +28,9 @@ use Rattle.ulfm_stepping.proofs.{Replying.{by_append, reply_answers}, Reseen.{ow
 widened : {P : Type 0} (look : List ℕ) (r : ℕ) (x : Held) (asked : Call P) (event : Event P) → CallAdds [] r x asked event → CallAdds look r x asked event
 widened look r x (call.Fail rank) event a = absurd a
 widened look r x (call.GetFailed rank c) event a = absurd a
+widened look r x (call.FailureGetAcked rank c) event a = absurd a
 widened look r x (call.Ack rank c count) event a = absurd a
+widened look r x (call.FailureAck rank c) event a = absurd a
 widened look r x (call.Agree rank c value) event a = a
 widened look r x (call.Shrink rank c) event a = a
 widened look r x (call.Barrier rank c) event a = a

@@ -19,6 +19,7 @@ impl<A: Allocator + Copy + Drop> LineJudge<A> for Judge<FlagAnd, A> {
         Judge::open(alloc, limits)
     }
 
+    #[inline(always)]
     fn take(&mut self, line: &Line<FlagAnd>, group: &[u16]) -> Result<Option<Why>, AllocError> {
         self.take(line, group)
     }

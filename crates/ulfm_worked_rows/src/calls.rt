@@ -47,7 +47,7 @@ pub const THREE_FLAGS: Row = Row {
 };
 
 /// What scripts of calls print, and the faults that end them.
-pub const ROWS: [Row; 24] = [
+pub const ROWS: [Row; 27] = [
     Row {
         name: "acknowledged_by_all",
         script: "ulfm 1 3 1 4\nfail 2\nack 0 0 1\nack 1 0 1\nagree 0 0 0000000f\nagree 1 0 0000003c\npoll 0 0\npoll 1 0\n",
@@ -161,6 +161,27 @@ pub const ROWS: [Row; 24] = [
         errors: "",
         status: 0,
     },
+    Row {
+        name: "all_acknowledged",
+        script: "ulfm 1 2 1 4\nack 0 0 1024\nack 0 0 3\nagree 0 0 0000000f\n",
+        output: "acked 0\nacked 0\nstarted\n",
+        errors: "",
+        status: 0,
+    },
+    Row {
+        name: "names_of_2013",
+        script: "ulfm 2 3 1 4\nfailure_get_acked 0 0\nfail 2\nfail 1\nack 0 0 1\nfailure_get_acked 0 0\nfailure_ack 0 0\nfailure_get_acked 0 0\nagree 0 0 000000000000000f\npoll 0 0\nfailure_ack 1 0\n",
+        output: "failed none\ndeclared\ndeclared\nacked 1\nfailed 2\nacked 2\nfailed 2 1\nstarted\nagreed 0000000f failed 2 clean\nrefused 1 self-failed\n",
+        errors: "",
+        status: 0,
+    },
+    Row {
+        name: "short_flag",
+        script: "ulfm 2 3 1 4\nagree 0 0 0000000f\n",
+        output: "",
+        errors: "ulfm: line 2: flag\n",
+        status: 1,
+    },
     ONE_RANK,
     Row {
         name: "pending_then_decided",
@@ -186,6 +207,24 @@ pub const ROWS: [Row; 24] = [
         status: 0,
     },
     THREE_FLAGS,
+];
+
+/// Scripts of the first version, and those of the second that they become.
+pub const MIGRATED: [Row; 2] = [
+    Row {
+        name: "all_acknowledged",
+        script: "ulfm 1 2 1 4\nack 0 0 1024\nack 0 0 3\nagree 0 0 0000000f\n",
+        output: "ulfm 2 2 1 4\nfailure_ack 0 0\nack 0 0 3\nagree 0 0 000000000000000f\n",
+        errors: "",
+        status: 0,
+    },
+    Row {
+        name: "second_version",
+        script: "ulfm 2 2 1 4\nfailure_ack 0 0\nack 0 0 3\nagree 0 0 000000000000000f\n",
+        output: "",
+        errors: "ulfm: line 1: header\n",
+        status: 1,
+    },
 ];
 
 /// A script with a reply of each form, for devices and memory that fail.

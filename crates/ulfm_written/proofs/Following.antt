@@ -9,7 +9,8 @@ use Rattle.ulfm_model.specs.Answers.{traits_of}
 use Rattle.ulfm_model.proofs.Lists.{each_append}
 use Rattle.ulfm_script.specs.declared.line_kind.{LineKind.{LineKind}, LineKind.TheVariants.{Lines, Long}}
 use Rattle.ulfm_script.specs.Scripts.{Parsed, Language, asked_by, asked_last, asked_then, item_at}
-use Rattle.ulfm_script.specs.declared.header_kind.HeaderKind.TheVariants.{Steps}
+use Rattle.ulfm_script.specs.declared.{header_kind.HeaderKind.TheVariants.{Steps}, version.Version.{Version}}
+use Rattle.ulfm_script.specs.Headers.{heading_of}
 use Rattle.ulfm_script.proofs.ScriptLemmas.{before_last}
 use Rattle.ulfm_trace_model.specs.declared.{line.Line.{Line}, step_line.StepLine.TheVariants.{Before, Called, Failed, Finished, Stepped}}
 use Rattle.ulfm_trace_model.specs.{Follows.{AreOf, Follows, IsAtOnce, IsPiece, fail_event, is_of, is_reply}, Traces.{Told, said_by}}
@@ -93,11 +94,11 @@ follows_begins now (line ∷ lines) trace steps is =
 
 -- the lines of a script of steps, whatever it prints and finds
 abbrev pub StepLanguage : (Limits → List ScriptStep → List ℕ → Type 0) → (Limits → List ScriptStep → ℕ → LineKind → List ℕ → Type 0) → Language
-StepLanguage Prints Finds = record { Item = ScriptStep; kind = Steps; read = step_line_of; Prints = Prints; Finds = Finds }
+StepLanguage Prints Finds = record { Item = ScriptStep; heading = heading_of Steps; read = λ version. step_line_of; Prints = Prints; Finds = Finds }
 
 module _ (Prints : Limits → List ScriptStep → List ℕ → Type 0) (Finds : Limits → List ScriptStep → ℕ → LineKind → List ℕ → Type 0) where
-  item_read : (number : ℕ) (line : List ℕ) (step : ScriptStep) → item_at (StepLanguage Prints Finds) number line ≡ Ok step → step_line_of line ≡ Ok step
-  item_read number line step is = go (nat_lt 64 (length line)) (nat_lt 100000 number) is
+  item_read : (version : Version) (number : ℕ) (line : List ℕ) (step : ScriptStep) → item_at (StepLanguage Prints Finds) version number line ≡ Ok step → step_line_of line ≡ Ok step
+  item_read version number line step is = go (nat_lt 64 (length line)) (nat_lt 100000 number) is
     where
       go : (long late : Bool) → (if long then Err Long else (if late then Err Lines else step_line_of line)) ≡ Ok step → step_line_of line ≡ Ok step
       go true late is = absurd (cc is)
@@ -105,22 +106,22 @@ module _ (Prints : Limits → List ScriptStep → List ℕ → Type 0) (Finds : 
       go false false is = is
 
   -- what lines ask for up to their first fault are steps, and with the header there are at most 100,000
-  pub lines_spell : (number : ℕ) (lines : List (List ℕ)) (rest : List ℕ)
-      → AllByRecursion IsSpelledStep (asked_by (StepLanguage Prints Finds) number lines rest).items × (length (asked_by (StepLanguage Prints Finds) number lines rest).items ≤ 100001 - number)
-  lines_spell number [] rest = go rest
+  pub lines_spell : (version : Version) (number : ℕ) (lines : List (List ℕ)) (rest : List ℕ)
+      → AllByRecursion IsSpelledStep (asked_by (StepLanguage Prints Finds) version number lines rest).items × (length (asked_by (StepLanguage Prints Finds) version number lines rest).items ≤ 100001 - number)
+  lines_spell version number [] rest = go rest
     where
       go : (rest : List ℕ) → AllByRecursion IsSpelledStep (asked_last {X = ScriptStep} number rest).items × (length (asked_last {X = ScriptStep} number rest).items ≤ 100001 - number)
       go [] = (tt, omega arith)
       go (x ∷ xs) = (tt, omega arith)
-  lines_spell number (line ∷ lines) rest =
-      go (item_at (StepLanguage Prints Finds) number line) refl (asked_by (StepLanguage Prints Finds) (number + 1) lines rest) (lines_spell (number + 1) lines rest)
+  lines_spell version number (line ∷ lines) rest =
+      go (item_at (StepLanguage Prints Finds) version number line) refl (asked_by (StepLanguage Prints Finds) version (number + 1) lines rest) (lines_spell version (number + 1) lines rest)
     where
-      go : (read : Result ScriptStep LineKind) → item_at (StepLanguage Prints Finds) number line ≡ read → (more : Parsed ScriptStep)
+      go : (read : Result ScriptStep LineKind) → item_at (StepLanguage Prints Finds) version number line ≡ read → (more : Parsed ScriptStep)
           → AllByRecursion IsSpelledStep more.items × (length more.items ≤ 100001 - (number + 1))
           → AllByRecursion IsSpelledStep (asked_then number read more).items × (length (asked_then number read more).items ≤ 100001 - number)
       go (Err kind) is more behind = (tt, omega arith)
       go (Ok step) is more behind =
           let few = behind.1 in
-          let before = before_last (StepLanguage Prints Finds) number line step is in
-          let spelled = steps_found line (Ok step) (sym (item_read number line step is)) in
+          let before = before_last (StepLanguage Prints Finds) version number line step is in
+          let spelled = steps_found line (Ok step) (sym (item_read version number line step is)) in
           (((line, spelled), behind.0), omega (arith, few, before))

@@ -8,7 +8,7 @@ use Rattle.ulfm_laws.specs.{Flags.{flag_meld}, declared.flag_and.FlagAnd.{FlagAn
 use Rattle.ulfm_model.specs.declared.{call.Call.{Call}, event.Caller.{Caller}, event.Entry.{Entry}, limits.Limits.{Limits}, reply.Reply.{Reply}}
 use Rattle.ulfm_model.specs.{History.{History, IsLegal, first_ranks, has}, Records.{Fits, Record, new_record}}
 use Rattle.ulfm_model.proofs.{Histories.{legal_push}, LeftRuns.{call_fits, left_keeps}, LeftSound.{new_fits}, Lists.{all_has, each_filter, each_from, each_push, find_holds}, Stable.{fits_stays}}
-use Rattle.ulfm_script.specs.Spelling.{IsSpelled}
+use Rattle.ulfm_script.specs.Spelling.{Spells}
 use Rattle.ulfm_trace_model.specs.declared.line.Line.{Line}
 use Rattle.ulfm_trace_model.specs.{Laws.{IsAnswer, IsRanksAnswer}, Traces.{MayCome, Under, after, after_reply, call_by, caller_of, found_by, is_owned, nothing, record_in, records_after, same_caller, taken_in, with_event}}
 use Rattle.ulfm_trace_model.proofs.{Callers.{each_change, same_is}, Kept.{find_other_record}}
@@ -19,9 +19,13 @@ use Rattle.ulfm_lines.specs.{LineTexts.{TraceEvent, TraceLine}, Stepped.{TraceSt
 abbrev record_at : List Record → ℕ → Option Record
 record_at records r = find (λ own. own.number == r) records
 
+-- a call that some line of a trace spells
+abbrev pub IsOfTraces : Call FlagAnd → Type 0
+IsOfTraces asked = (line : List ℕ) × Spells line asked
+
 -- a call under way
 pub record Begun (limits : Limits) (h : History FlagAnd) (records : List Record) (u : Under FlagAnd) : Type 0 where
-  pub spelled : IsSpelled u.asked
+  pub spelled : IsOfTraces u.asked
   pub begun : u.begun ≤ length h
   pub fits : (r : ℕ) (own : Record) → caller_of u ≡ Caller.Rank r → record_at records r ≡ Some own → Fits flag_meld limits (take u.begun h) own
 
@@ -110,7 +114,7 @@ not_is true is = absurd (cc is)
 not_is false is = refl
 
 -- a call that begins
-kept_called : (now : TraceState) (asked : Call FlagAnd) → IsSpelled asked → Keeps now → Keeps (after now (Line.Called asked false))
+kept_called : (now : TraceState) (asked : Call FlagAnd) → IsOfTraces asked → Keeps now → Keeps (after now (Line.Called asked false))
 kept_called now asked spelled kept =
     let whole : take (length now.history) now.history ≡ now.history = ap (take (length now.history)) (sym (append-nil now.history)) ∙ take-append_seam now.history [] in
     let u : Under FlagAnd = record { asked = asked; begun = length now.history; look = None; own = [] } in

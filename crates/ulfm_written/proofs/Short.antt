@@ -1,82 +1,22 @@
 -- Texts of lines are short, and have no newline in them.
-use Rattle.std.proofs.Common.{◌≡◌, ◌≢◌, ℕ, zero, suc, ◌+◌, ◌*◌, ◌/◌, ◌%◌, ◌<◌, ◌≤◌, ◌==◌, Bool, true, false, not, List, [], ◌∷◌, ◌++◌, length, length-append, Some, None, refl, arith, inl, inr}
+use Rattle.std.proofs.Common.{◌≡◌, ℕ, ◌+◌, ◌*◌, ◌<◌, ◌≤◌, ◌==◌, Bool, true, false, not, List, [], ◌∷◌, ◌++◌, length, Some, None, refl, subst, arith}
 use Rattle.std.specs.{Prelude.{codes}, Fmt.{decimal}, List.{list_all}}
-use Rattle.std.proofs.lemmas.{Bool.{and_parts, cases_lt, eq-eqb, le-ltb, lt-ltb}, Fmt.{digits_decimal, length-decimal-le}}
+use Rattle.std.proofs.lemmas.{Fmt.{digits_decimal, length-decimal-le}}
 use Rattle.ulfm_laws.specs.declared.flag_and.FlagAnd.{FlagAnd}
 use Rattle.ulfm_model.specs.declared.{contribution.Offer.{Offer}, contribution.Offer.TheVariants.{Flag, Ctx}, event.Caller.{Caller}, event.Caller.TheVariants.{Outside, Rank}, limits.Limits.{Limits}}
 use Rattle.ulfm_model.specs.declared.{event.Event.TheVariants.{Fail, Settle, Mark, Arrive, Revoke, Spawn}, refusal.Refusal.{Refusal}, reply.Reply.{Reply}}
-use Rattle.ulfm_model.specs.declared.call.Call.TheVariants as call
 use Rattle.ulfm_model.specs.declared.refusal.Refusal.TheVariants as refusal
 use Rattle.ulfm_model.specs.declared.reply.Reply.TheVariants as reply
 use Rattle.ulfm_model.specs.{Words.{MayOpen}}
-use Rattle.ulfm_model.proofs.Lists.{each_append}
 use Rattle.ulfm_script.specs.declared.header_kind.HeaderKind.TheVariants.{Trace}
-use Rattle.ulfm_script.specs.{Buffers.{HasNoNewline}, Calls.{ScriptCall}, Digits.{flag_text, hex_digit, hex_digits, padded_text, printed_digits, spelled_flag, whole_digits}, Headers.{header_text}, Printed.{failed_text, ranks_text, refused_text, reply_text, shrunk_text}, Spelling.{IsSpelledAs, spelled_text, on_comm_text}}
-use Rattle.ulfm_script.proofs.{Hexadecimal.{spelled_few}, Numerals.{AreDigits, own}}
+use Rattle.ulfm_script.specs.{Calls.{ScriptCall}, Digits.{flag_text}, Headers.{header_text}, Printed.{failed_text, ranks_text, refused_text, reply_text, shrunk_text}, Spelling.{IsSpelledAs, spelled_text}}
+use Rattle.ulfm_script.proofs.{Numerals.{own}, Short.{Short, digits_free, header_short as any_header_short, joins, line_short as spelling_short, lit, none, num, spaced, spelled_short, wider}, Spelled.{spelled_as}}
+use Rattle.ulfm_script.specs.declared.version.Version.TheVariants.{First}
 use Rattle.ulfm_trace_model.specs.declared.line.Line.TheVariants.{Called, Looked, Happened, Replied}
 use Rattle.ulfm_lines.specs.{LineTexts.{TraceEvent, TraceLine, caller_text, event_text, given_text, line_text, mask_flag, offer_text, place_text}, Telling.{AreRanks, CallerFits, EventFits, LineFits, PlaceFits, ReplyFits}}
 
--- at most so many bytes, none of them a newline
-pub record Short (most : ℕ) (text : List ℕ) : Type 0 where
-  pub few : length text ≤ most
-  pub free : HasNoNewline text
-
-joins : {m n : ℕ} {a b : List ℕ} → Short m a → Short n b → Short (m + n) (a ++ b)
-joins {a = a} {b = b} x y = record { few = omega (arith, x.few, y.few, length-append a b); free = each_append (λ z. z ≢ 10) a b x.free y.free }
-
--- behind a space
-spaced : {n : ℕ} {b : List ℕ} → Short n b → Short (suc n) (32 ∷ b)
-spaced y = record { few = omega (arith, y.few); free = ((λ e. cc e), y.free) }
-
-pub wider : {m n : ℕ} {a : List ℕ} → Short m a → m ≤ n → Short n a
-wider x le = record { few = omega (arith, x.few, le); free = x.free }
-
-none : Short 0 []
-none = record { few = omega arith; free = tt }
-
--- a text that is written out
-not_both : (b : Bool) → not b ≡ true → b ≡ true → ⊥
-not_both true m n = cc m
-not_both false m n = cc n
-
-not_ten : (x : ℕ) → not (x == 10) ≡ true → x ≢ 10
-not_ten x m = λ e. not_both (x == 10) m (eq-eqb x 10 e)
-
-lit : (xs : List ℕ) → list_all (λ x. not (x == 10)) xs ≡ true → Short (length xs) xs
-lit xs is = record { few = omega arith; free = go xs is }
-  where
-    go : (ys : List ℕ) → list_all (λ x. not (x == 10)) ys ≡ true → HasNoNewline ys
-    go [] is = tt
-    go (y ∷ ys) is = let both = and_parts (not (y == 10)) (list_all (λ x. not (x == 10)) ys) is in (not_ten y both.0, go ys both.1)
-
--- digits
-digits_free : (ds : List ℕ) → AreDigits ds → HasNoNewline ds
-digits_free [] h = tt
-digits_free (c ∷ cs) h = ((λ e. omega (arith, h.0, e)), digits_free cs h.1)
-
-num : (n : ℕ) → n < 10000 → Short 4 (decimal n)
-num n lt = record { few = length-decimal-le 4 n (omega arith) (omega (arith, lt)) (omega (arith, lt)); free = digits_free (decimal n) (digits_decimal own n (omega (arith, lt))) }
-
 point : (n : ℕ) → n < 10000000 → Short 7 (decimal n)
 point n lt = record { few = length-decimal-le 7 n (omega arith) (omega (arith, lt)) (omega (arith, lt)); free = digits_free (decimal n) (digits_decimal own n (omega (arith, lt))) }
-
-hex_free : (d : ℕ) → hex_digit d ≢ 10
-hex_free d e = elim (cases_lt d 10) [
-  | inl low ↦ (let k : 48 + d ≡ 10 = rw (lt-ltb d 10 low) at e in omega (arith, k))
-  | inr high ↦ (let k : 87 + d ≡ 10 = rw (le-ltb d 10 high) at e in omega (arith, k))
-]
-
-hexes_free : (count n : ℕ) → HasNoNewline (hex_digits count n)
-hexes_free zero n = tt
-hexes_free (suc count) n = each_append (λ x. x ≢ 10) (hex_digits count (n / 16)) (hex_digit (n % 16) ∷ []) (hexes_free count (n / 16)) (hex_free (n % 16), tt)
-
-flag_is_free : (padded : Bool) (flag : FlagAnd) → HasNoNewline (spelled_flag padded flag)
-unfolding flag_text padded_text
-flag_is_free false flag = hexes_free (printed_digits flag) flag.bits
-flag_is_free true flag = hexes_free whole_digits flag.bits
-
-spelled_short : (padded : Bool) (flag : FlagAnd) → Short 16 (spelled_flag padded flag)
-spelled_short padded flag = record { few = (spelled_few padded flag).1; free = flag_is_free padded flag }
 
 flag_short : (flag : FlagAnd) → Short 16 (flag_text flag)
 flag_short flag = spelled_short false flag
@@ -95,20 +35,8 @@ place_short : (a b c : ℕ) → a < 10000 → b < 10000 → c < 10000 → Short 
 place_short a b c x y z = joins (num a x) (spaced (joins (num b y) (spaced (num c z))))
 
 -- a call
-on_short : (rank comm : ℕ) (behind : List ℕ) → rank < 1024 → comm < 256 → Short 17 behind → Short 26 (on_comm_text rank comm behind)
-on_short rank comm behind x y b = joins (num rank (omega (arith, x))) (spaced (joins (num comm (omega (arith, y))) b))
-
-call_short : (padded : Bool) (asked : ScriptCall) → IsSpelledAs padded asked → Short 40 (spelled_text padded asked)
-call_short padded (call.Fail rank) is = wider (joins (lit (codes "fail ") refl) (num rank (let lt = is.1.spells.0 in omega (arith, lt)))) (omega arith)
-call_short padded (call.GetFailed rank comm) is = wider (joins (lit (codes "get ") refl) (on_short rank comm [] is.1.spells.rank_fits is.1.spells.comm_fits (wider none (omega arith)))) (omega arith)
-call_short padded (call.Ack rank comm count) is = wider (joins (lit (codes "ack ") refl) (on_short rank comm (32 ∷ decimal count) is.1.spells.1.rank_fits is.1.spells.1.comm_fits (wider (spaced (num count is.1.spells.0)) (omega arith)))) (omega arith)
-call_short padded (call.Agree rank comm flag) is = wider (joins (lit (codes "agree ") refl) (on_short rank comm (32 ∷ spelled_flag padded flag) is.1.spells.2.rank_fits is.1.spells.2.comm_fits (spaced (spelled_short padded flag)))) (omega arith)
-call_short padded (call.Shrink rank comm) is = wider (joins (lit (codes "shrink ") refl) (on_short rank comm [] is.1.spells.rank_fits is.1.spells.comm_fits (wider none (omega arith)))) (omega arith)
-call_short padded (call.Barrier rank comm) is = wider (joins (lit (codes "barrier ") refl) (on_short rank comm [] is.1.spells.rank_fits is.1.spells.comm_fits (wider none (omega arith)))) (omega arith)
-call_short padded (call.Poll rank comm) is = wider (joins (lit (codes "poll ") refl) (on_short rank comm [] is.1.spells.rank_fits is.1.spells.comm_fits (wider none (omega arith)))) (omega arith)
-call_short padded (call.Revoke rank comm) is = wider (joins (lit (codes "revoke ") refl) (on_short rank comm [] is.1.spells.rank_fits is.1.spells.comm_fits (wider none (omega arith)))) (omega arith)
-call_short padded (call.IsRevoked rank comm) is = wider (joins (lit (codes "isrevoked ") refl) (on_short rank comm [] is.1.spells.rank_fits is.1.spells.comm_fits (wider none (omega arith)))) (omega arith)
-call_short padded (call.Free rank comm) is = wider (joins (lit (codes "free ") refl) (on_short rank comm [] is.1.spells.rank_fits is.1.spells.comm_fits (wider none (omega arith)))) (omega arith)
+call_short : (padded : Bool) (asked : ScriptCall) → IsSpelledAs padded asked → Short 44 (spelled_text padded asked)
+call_short padded asked is = subst (Short 44) (spelled_as padded is.0 asked is.1) (spelling_short First is.0 asked is.1.spells)
 
 -- an event
 offer_short : (offer : Offer FlagAnd) → Short 21 (offer_text offer)
@@ -207,9 +135,4 @@ line_short group (Replied by at (Some told)) fits few =
 
 -- a header
 pub header_short : (limits : Limits) → MayOpen limits → Short 8192 (header_text Trace limits)
-header_short limits wide =
-    let k = wide.in_range in
-    let ranks : limits.ranks < 10000 = omega (arith, k.ranks) in
-    let comms : limits.comms < 10000 = omega (arith, k.comms) in
-    let rounds : limits.rounds < 10000 = omega (arith, k.rounds) in
-    wider (joins (lit (codes "ulfm-trace") refl) (joins (lit (codes " 1 ") refl) (joins (num limits.ranks ranks) (spaced (joins (num limits.comms comms) (spaced (num limits.rounds rounds))))))) (omega arith)
+header_short limits wide = wider (any_header_short Trace limits wide) (omega arith)

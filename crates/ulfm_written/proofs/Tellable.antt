@@ -11,18 +11,18 @@ use Rattle.ulfm_model.specs.declared.call.Call.TheVariants as call
 use Rattle.ulfm_model.specs.declared.call.Request.TheVariants as request
 use Rattle.ulfm_model.specs.declared.refusal.Refusal.TheVariants as refusal
 use Rattle.ulfm_model.specs.declared.reply.Reply.TheVariants as reply
-use Rattle.ulfm_model.specs.Answers.{AnswersFail, AgreeReplies, DoneOrFound, IsReply, IsSelfFailed, PollReplies, Replies, RepliesBy, ShrinkReplies, SpawnReplies, StartReplies, barrier_reply, closed, comm_of, first_refusal, rank_of, refusal_of, refusal_on, traits_of}
+use Rattle.ulfm_model.specs.Answers.{AnswersFail, AgreeReplies, DoneOrFound, IsReply, IsSelfFailed, PollReplies, Replies, RepliesBy, ShrinkReplies, SpawnReplies, StartReplies, barrier_reply, closed, comm_of, first_refusal, most_failures, rank_of, refusal_of, refusal_on, traits_of}
 use Rattle.ulfm_model.specs.History.{History, IsLegal, MayFollow, decision, failed, failures, has, has_arrived, is_revoked, known_of, members, says, round}
 use Rattle.ulfm_model.specs.{Records.{Fits, FitsHeld, Held, Record, held_at, new_held}, Words.{MayOpen}}
 use Rattle.ulfm_model.proofs.{Contexts.{context_below}, Groups.{members_few}, Histories.{by_events, legal_parts}, LeftFits.{held_fits}, Lists.{all_has, each_filter, each_from, each_push, length-filter-le}}
 use Rattle.ulfm_words.specs.Places.{IsCell}
 use Rattle.ulfm_words.proofs.Ranks.{failures_le, members_below, place_within, spawns_below}
-use Rattle.ulfm_script.specs.{Calls.{ScriptCall}, Spelling.{IsSpelled}}
+use Rattle.ulfm_script.specs.Calls.{ScriptCall}
 use Rattle.ulfm_trace_model.specs.declared.line.Line.{Line}
 use Rattle.ulfm_trace_model.specs.{Laws.{IsAnswer}, Traces.{AnswersCall, AnswersRank, MayCome, Under, call_by, found_by, listed, record_in, taken_in, view_at}}
 use Rattle.ulfm_lines.specs.{LineTexts.{TraceEvent, TraceLine}, Stepped.{TraceState}, Telling.{AreRanks, CallerFits, EventFits, LineFits, PlaceFits, ReplyFits}}
 use Rattle.ulfm_written.specs.Calls.{CalledFits}
-use Rattle.ulfm_written.proofs.{Lasting.{IsAnswered, IsUnder, Keeps, left_fits, under}, Sizes.{events_few}}
+use Rattle.ulfm_written.proofs.{Lasting.{IsAnswered, IsOfTraces, IsUnder, Keeps, left_fits, under}, Sizes.{events_few}}
 
 -- the ranks that a line lists: nobody where it is no reply
 abbrev pub told_group : List ℕ → TraceLine → List ℕ
@@ -44,10 +44,12 @@ some_has [] r is = absurd (cc is)
 some_has (x ∷ xs) r is = omega arith
 
 -- a call that is spelled is in the name of a caller that a line can name
-spelled_caller : (asked : ScriptCall) → IsSpelled asked → CallerFits (traits_of asked).by
+spelled_caller : (asked : ScriptCall) → IsOfTraces asked → CallerFits (traits_of asked).by
 spelled_caller (call.Fail rank) is = tt
 spelled_caller (call.GetFailed rank comm) is = is.1.rank_fits
+spelled_caller (call.FailureGetAcked rank comm) is = is.1.1.rank_fits
 spelled_caller (call.Ack rank comm count) is = is.1.1.rank_fits
+spelled_caller (call.FailureAck rank comm) is = is.1.1.rank_fits
 spelled_caller (call.Agree rank comm flag) is = is.1.2.rank_fits
 spelled_caller (call.Shrink rank comm) is = is.1.rank_fits
 spelled_caller (call.Barrier rank comm) is = is.1.rank_fits
@@ -68,7 +70,9 @@ first_not_memory (test ∷ tests) one all is = go test.0 is (first_not_memory te
 tests_not_memory : (asked : ScriptCall) (own : Record) (x : Held) → AllByRecursion (λ (test : Bool × Refusal). test.1 ≢ refusal.OutOfMemory) ((traits_of asked).tests own x)
 tests_not_memory (call.Fail rank) own x = tt
 tests_not_memory (call.GetFailed rank comm) own x = tt
+tests_not_memory (call.FailureGetAcked rank comm) own x = tt
 tests_not_memory (call.Ack rank comm count) own x = tt
+tests_not_memory (call.FailureAck rank comm) own x = tt
 tests_not_memory (call.Agree rank comm flag) own x = ((λ e. cc e), ((λ e. cc e), tt))
 tests_not_memory (call.Shrink rank comm) own x = ((λ e. cc e), ((λ e. cc e), ((λ e. cc e), tt)))
 tests_not_memory (call.Barrier rank comm) own x = ((λ e. cc e), ((λ e. cc e), tt))
@@ -147,8 +151,8 @@ module _ (now : TraceState) (wide : MayOpen now.limits) (kept : Keeps now) where
   caller_fits : (by : Caller) (u : Under FlagAnd) → call_by now by ≡ Some u → CallerFits by
   caller_fits by u at = let is = under now by u kept at in subst CallerFits is.mine (spelled_caller u.asked is.begun.spelled)
 
-  -- a reply at a point to a call
-  module _ (u : Under FlagAnd) (point : ℕ) where
+  -- a reply at a point to a call that a line of a trace spells
+  module _ (u : Under FlagAnd) (spelled : IsOfTraces u.asked) (point : ℕ) where
     abbrev past : History FlagAnd
     past = take point now.history
 
@@ -168,6 +172,17 @@ module _ (now : TraceState) (wide : MayOpen now.limits) (kept : Keeps now) where
 
     acks : (count : ℕ) → count ≤ 1024 → CanTell (reply.Acked count)
     acks count few = ((omega (arith, few), refl), omega arith)
+
+    -- an acknowledgement of so many
+    acks_most : (c count : ℕ) (x : Held) (told : Reply FlagAnd) → x.acked ≤ 1024 → told ≡ reply.Acked (max x.acked (min count (length (failed now.limits.ranks past c)))) → CanTell told
+    acks_most c count x told few is =
+        let all = failed_few now.limits wide past past_legal c in
+        let less = min-le_right count (length (failed now.limits.ranks past c)) in
+        subst CanTell (sym is) (acks (max x.acked (min count (length (failed now.limits.ranks past c)))) (max-le few (omega (arith, all, less))))
+
+    -- traces don't have the query of the acknowledged
+    no_query : (rank c : ℕ) → call.FailureGetAcked rank c ≡ u.asked → ⊥
+    no_query rank c same = let of = subst IsOfTraces (sym same) spelled in cc (of.1.0)
 
     starts : (own : Record) (x : Held) (offer : _) (told : Reply FlagAnd) → StartReplies (view_at now u point) own x offer told → CanTell told
     starts own x offer told (inl is) = subst CanTell (sym is.0) (refl, omega arith)
@@ -241,10 +256,9 @@ module _ (now : TraceState) (wide : MayOpen now.limits) (kept : Keeps now) where
         → Replies flag_meld now.limits (view_at now u point) own x asked told → CanTell told
     replies own x (call.Fail rank) told same few left is = absurd is
     replies own x (call.GetFailed rank c) told same few left is = subst CanTell (sym is.1) (lists_failed c (ap comm_of same))
-    replies own x (call.Ack rank c count) told same few left is =
-        let all = failed_few now.limits wide past past_legal c in
-        let less = min-le_right count (length (failed now.limits.ranks past c)) in
-        subst CanTell (sym is.1) (acks (max x.acked (min count (length (failed now.limits.ranks past c)))) (max-le few (omega (arith, all, less))))
+    replies own x (call.FailureGetAcked rank c) told same few left is = absurd (no_query rank c same)
+    replies own x (call.Ack rank c count) told same few left is = acks_most c count x told few is.1
+    replies own x (call.FailureAck rank c) told same few left is = acks_most c most_failures x told few is.1
     replies own x (call.Agree rank c value) told same few left is = starts own x _ told is
     replies own x (call.Shrink rank c) told same few left is = starts own x _ told is
     replies own x (call.Barrier rank c) told same few left is =
@@ -303,7 +317,8 @@ module _ (now : TraceState) (wide : MayOpen now.limits) (kept : Keeps now) where
       let u = may.call in
       let same : answered.0 ≡ u = cc (answered.1, may.is_open) in
       let answer : IsAnswer flag_meld now by u point told = subst (λ (v : Under FlagAnd). IsAnswer flag_meld now by v point told) same answered.2 in
-      let can = call_answers u point by told (under now by u kept may.is_open) answer may.answers in
+      let under_way = under now by u kept may.is_open in
+      let can = call_answers u under_way.begun.spelled point by told under_way answer may.answers in
       let about = may.lists in
       let size = events_few flag_meld now.limits wide now.history kept.legal in
       let small = wide.small in

@@ -6,8 +6,8 @@ use Rattle.ulfm_laws.specs.{Flags.{flag_meld}, declared.flag_and.FlagAnd.{FlagAn
 use Rattle.ulfm_model.specs.declared.limits.Limits.{Limits}
 use Rattle.ulfm_model.specs.{History.{IsLegal}, Words.{MayOpen, size_of}}
 use Rattle.ulfm_model.proofs.Lists.{each_append}
-use Rattle.ulfm_script.specs.declared.{header_kind.HeaderKind.TheVariants.{Steps, Trace}, line_kind.LineKind.{LineKind}, line_kind.LineKind.TheVariants.{Limits as BadLimits, Long}}
-use Rattle.ulfm_script.specs.{Written.{IsBeginning}, Ends.{EndsAlone, FindsFault, PrintsAll, PrintsSome, RunEnd, KnownText, PrintsFrom, RunsAll}, Headers.{form_from, header_of, header_text, is_up_to, may_open}, Scripts.{Language, Script, asked_by, header_at, lines_from, no_lines, rest_from, script_by, script_of, with_header}, Words.{first_word}}
+use Rattle.ulfm_script.specs.declared.{header_kind.HeaderKind.TheVariants.{Steps, Trace}, heading.Heading.{Heading}, line_kind.LineKind.{LineKind}, line_kind.LineKind.TheVariants.{Limits as BadLimits, Long}}
+use Rattle.ulfm_script.specs.{Written.{IsBeginning}, Ends.{EndsAlone, FindsFault, PrintsAll, PrintsSome, RunEnd, KnownText, PrintsFrom, RunsAll}, Headers.{form_from, header_of, header_text, heading_of, in_version, is_up_to, may_open, version_of}, Scripts.{Language, Script, asked_by, header_at, lines_from, no_lines, rest_from, script_by, script_of, with_header}, Words.{first_word}}
 use Rattle.ulfm_script.proofs.{ScriptLemmas.{lines_step, rest_step}, WordLemmas.{step_found}}
 use Rattle.ulfm_trace_model.specs.declared.{line.Line.{Line}, step_line.StepLine.TheVariants.{Failed}}
 use Rattle.ulfm_trace_model.specs.{Traces.{AreLegalAfter, IsLegalTrace, MayCome, Told, after, nothing, said_by}}
@@ -22,7 +22,8 @@ use Rattle.ulfm_written.specs.Written.{GotLegal, IsFoundLegal, IsNoneOrLegal, Wr
 use Rattle.ulfm_script.specs.declared.fault.RunFault.TheVariants as fault
 use Rattle.ulfm_written.specs.Calls.{AllFit, CalledFits, calls_in}
 use Rattle.ulfm_written.proofs.{Counts.{lines_few}, Following.{StepLanguage, calls_append, follows_begins, lines_spell, piece_begins}, Lasting.{IsAnswered, Keeps, kept_after, kept_nothing}}
-use Rattle.ulfm_written.proofs.{Short.{Short, header_short, line_short}, Sizes.{events_few}, Tellable.{IsTellable, line_tells, told_group}}
+use Rattle.ulfm_script.proofs.Short.{Short}
+use Rattle.ulfm_written.proofs.{Short.{header_short, line_short}, Sizes.{events_few}, Tellable.{IsTellable, line_tells, told_group}}
 
 -- each line can be told
 abbrev AllTellable : TraceLines → Type 0
@@ -180,6 +181,16 @@ header_opens line limits is =
     let both = opened (may_open a.0) a.0 limits a.2 in
     subst MayOpen both.1 (opens_if a.0 both.0)
 
+heading_opens : (line : List ℕ) (heading : Heading) → heading_of Steps line ≡ Ok heading → MayOpen heading.limits
+heading_opens line heading is = go (header_of Steps line) refl is
+  where
+    go : (read : Result Limits LineKind) → header_of Steps line ≡ read → in_version (version_of Steps) read ≡ Ok heading → MayOpen heading.limits
+    go (Err kind) at is = absurd (cc is)
+    go (Ok limits) at is =
+        let found : Heading = record { version = version_of Steps; limits = limits } in
+        let same : found ≡ heading = cc is in
+        subst (λ (h : Heading). MayOpen h.limits) same (header_opens line limits at)
+
 -- the items of a script of steps in a world of these limits
 pub record Spells (limits : Limits) (items : List ScriptStep) : Type 0 where
   wide : MayOpen limits
@@ -206,48 +217,52 @@ module _ (Prints : Limits → List ScriptStep → List ℕ → Type 0) (Finds : 
   abbrev lang : Language
   lang = StepLanguage Prints Finds
 
-  header_at_opens : (line : List ℕ) (limits : Limits) → header_at lang line ≡ Ok limits → MayOpen limits
-  header_at_opens line limits is = go (nat_lt 64 (length line)) is
+  header_at_opens : (line : List ℕ) (heading : Heading) → header_at lang line ≡ Ok heading → MayOpen heading.limits
+  header_at_opens line heading is = go (nat_lt 64 (length line)) is
     where
-      go : (long : Bool) → (if long then Err Long else header_of Steps line) ≡ Ok limits → MayOpen limits
+      go : (long : Bool) → (if long then Err Long else heading_of Steps line) ≡ Ok heading → MayOpen heading.limits
       go true is = absurd (cc is)
-      go false is = header_opens line limits is
+      go false is = heading_opens line heading is
 
-  -- a text that has no line has a fault, and no limits
-  no_lines_open : (rest : List ℕ) (limits : Limits) → (no_lines {X = ScriptStep} rest).limits ≡ Some limits → ⊥
-  no_lines_open [] limits is = cc is
-  no_lines_open (x ∷ xs) limits is = cc is
+  -- a text that has no line has a fault, and no header
+  no_lines_open : (rest : List ℕ) (heading : Heading) → (no_lines {X = ScriptStep} rest).heading ≡ Some heading → ⊥
+  no_lines_open [] heading is = cc is
+  no_lines_open (x ∷ xs) heading is = cc is
 
   no_lines_fault : (rest : List ℕ) → (no_lines {X = ScriptStep} rest).fault ≡ None → ⊥
   no_lines_fault [] none = cc none
   no_lines_fault (x ∷ xs) none = cc none
 
-  spells_by : (lines : List (List ℕ)) (rest : List ℕ) (limits : Limits) → (script_by lang lines rest).limits ≡ Some limits → Spells limits (script_by lang lines rest).items
-  spells_by [] rest limits is = absurd (no_lines_open rest limits is)
-  spells_by (line ∷ lines) rest limits is = go (header_at lang line) refl is
+  -- a first line, and the lines behind it
+  abbrev read_with : Result Heading LineKind → List (List ℕ) → List ℕ → Script ScriptStep
+  read_with read lines rest = with_header read (λ version. asked_by lang version 2 lines rest)
+
+  spells_by : (lines : List (List ℕ)) (rest : List ℕ) (heading : Heading) → (script_by lang lines rest).heading ≡ Some heading → Spells heading.limits (script_by lang lines rest).items
+  spells_by [] rest heading is = absurd (no_lines_open rest heading is)
+  spells_by (line ∷ lines) rest heading is = go (header_at lang line) refl is
     where
-      go : (read : Result Limits LineKind) → header_at lang line ≡ read → (with_header read (asked_by lang 2 lines rest)).limits ≡ Some limits → Spells limits (with_header read (asked_by lang 2 lines rest)).items
+      go : (read : Result Heading LineKind) → header_at lang line ≡ read → (read_with read lines rest).heading ≡ Some heading → Spells heading.limits (read_with read lines rest).items
       go (Err kind) at is = absurd (cc is)
       go (Ok found) at is =
-          let spell = lines_spell Prints Finds 2 lines rest in
-          let one : found ≡ limits = cc is in
-          record { wide = subst MayOpen one (header_at_opens line found at); steps = spell.0; few = omega (arith, spell.1) }
+          let spell = lines_spell Prints Finds found.version 2 lines rest in
+          let one : found ≡ heading = cc is in
+          record { wide = subst (λ (h : Heading). MayOpen h.limits) one (header_at_opens line found at); steps = spell.0; few = omega (arith, spell.1) }
 
-  opened_by : (lines : List (List ℕ)) (rest : List ℕ) → (script_by lang lines rest).fault ≡ None → (limits : Limits) × ((script_by lang lines rest).limits ≡ Some limits)
+  opened_by : (lines : List (List ℕ)) (rest : List ℕ) → (script_by lang lines rest).fault ≡ None → (heading : Heading) × ((script_by lang lines rest).heading ≡ Some heading)
   opened_by [] rest none = absurd (no_lines_fault rest none)
   opened_by (line ∷ lines) rest none = go (header_at lang line) none
     where
-      go : (read : Result Limits LineKind) → (with_header read (asked_by lang 2 lines rest)).fault ≡ None → (limits : Limits) × ((with_header read (asked_by lang 2 lines rest)).limits ≡ Some limits)
+      go : (read : Result Heading LineKind) → (read_with read lines rest).fault ≡ None → (heading : Heading) × ((read_with read lines rest).heading ≡ Some heading)
       go (Err kind) none = absurd (cc none)
       go (Ok found) none = (found, refl)
 
-  -- the items of a text, where its script has limits
-  text_spells : (text : List ℕ) (limits : Limits) → (script_of lang text).limits ≡ Some limits → Spells limits (script_of lang text).items
+  -- the items of a text, where its script has a header
+  text_spells : (text : List ℕ) (heading : Heading) → (script_of lang text).heading ≡ Some heading → Spells heading.limits (script_of lang text).items
   unfolding script_of
-  text_spells text limits is = spells_by (lines_from [] text) (rest_from [] text) limits is
+  text_spells text heading is = spells_by (lines_from [] text) (rest_from [] text) heading is
 
-  -- it has limits where it has no fault
-  text_opens : (text : List ℕ) → (script_of lang text).fault ≡ None → (limits : Limits) × ((script_of lang text).limits ≡ Some limits)
+  -- it has one where it has no fault
+  text_opens : (text : List ℕ) → (script_of lang text).fault ≡ None → (heading : Heading) × ((script_of lang text).heading ≡ Some heading)
   unfolding script_of
   text_opens text none = opened_by (lines_from [] text) (rest_from [] text) none
 
@@ -268,20 +283,20 @@ module _ (Prints : Limits → List ScriptStep → List ℕ → Type 0) (Finds : 
   scripts = StepLanguage Prints Finds
 
   -- what the first items of a text print
-  first_legal : (text : List ℕ) (o : Option Limits) (first : List ScriptStep) (out : List ℕ) → (script_of scripts text).limits ≡ o → IsBeginning first (script_of scripts text).items
+  first_legal : (text : List ℕ) (o : Option Heading) (first : List ScriptStep) (out : List ℕ) → (script_of scripts text).heading ≡ o → IsBeginning first (script_of scripts text).items
       → PrintsFrom scripts o first out → IsNoneOrLegal out
   first_legal text None first out is begins printed = inl printed
-  first_legal text (Some limits) first out is begins printed =
-      inr (each_legal limits first out (first_spell limits first (script_of scripts text).items begins (text_spells Prints Finds text limits is)) printed)
+  first_legal text (Some heading) first out is begins printed =
+      inr (each_legal heading.limits first out (first_spell heading.limits first (script_of scripts text).items begins (text_spells Prints Finds text heading is)) printed)
 
   all_legal : (text out : List ℕ) → PrintsAll scripts text out → IsNoneOrLegal out
   all_legal text out printed =
       let items = (script_of scripts text).items in
-      first_legal text (script_of scripts text).limits items out refl ([], append-nil items) printed
+      first_legal text (script_of scripts text).heading items out refl ([], append-nil items) printed
 
   some_legal : (text out : List ℕ) → PrintsSome scripts text out → IsNoneOrLegal out
   some_legal text out (inl none) = inl none
-  some_legal text out (inr some) = first_legal text (script_of scripts text).limits some.0 out refl some.1 some.2
+  some_legal text out (inr some) = first_legal text (script_of scripts text).heading some.0 out refl some.1 some.2
 
   -- what a run has written
   pub ended_legal : (known left old new : KnownText) (ended : RunEnd) → EndsAlone scripts known left old new ended → WroteLegal old new ended
@@ -289,8 +304,8 @@ module _ (Prints : Limits → List ScriptStep → List ℕ → Type 0) (Finds : 
       let run : RunsAll scripts known None (Appends old new) = ends.2.0 in
       let is = text_opens Prints Finds run.text run.faults in
       let items = (script_of scripts run.text).items in
-      let printed : Prints is.0 items run.out = subst (λ (l : Option Limits). PrintsFrom scripts l items run.out) is.1 run.printed in
-      (run.out, run.told, each_legal is.0 items run.out (text_spells Prints Finds run.text is.0 is.1) printed)
+      let printed : Prints is.0.limits items run.out = subst (λ (o : Option Heading). PrintsFrom scripts o items run.out) is.1 run.printed in
+      (run.out, run.told, each_legal is.0.limits items run.out (text_spells Prints Finds run.text is.0 is.1) printed)
   ended_legal known left old new (Err (fault.Line number kind)) ends = go ends.2.0
     where
       go : RunsAll scripts known (Some (number, kind)) (Appends old new) ⊎ FindsFault scripts known number kind (Appends old new) → WroteLegal old new (Err (fault.Line number kind))
@@ -334,10 +349,10 @@ after_legal at r number limits items out lt spells failed =
 -- what a run to its end has written in which a rank was declared in between
 pub failing_legal : (at rank number : ℕ) (known old new : KnownText) → rank < 1024 → RunsFailing at rank number known old new → GotLegal old new
 failing_legal at rank number known old new lt run =
-    let limits_are : (script_of failing_scripts run.text).limits ≡ Some run.limits = ap (λ (s : Script ScriptStep). s.limits) run.script_is in
+    let heading_is : (script_of failing_scripts run.text).heading ≡ Some run.heading = ap (λ (s : Script ScriptStep). s.heading) run.script_is in
     let items_are : (script_of failing_scripts run.text).items ≡ run.items = ap (λ (s : Script ScriptStep). s.items) run.script_is in
-    let spells = subst (Spells run.limits) items_are (text_spells FailsSomewhere FindsOpenBehind run.text run.limits limits_are) in
-    (run.out, run.told, after_legal at rank number run.limits run.items run.out lt spells run.has_run)
+    let spells = subst (Spells run.heading.limits) items_are (text_spells FailsSomewhere FindsOpenBehind run.text run.heading heading_is) in
+    (run.out, run.told, after_legal at rank number run.heading.limits run.items run.out lt spells run.has_run)
 
 -- and what any such run has written
 pub failing_ended_legal : (known left old new : KnownText) (ended : RunEnd) → EndsAlone failing_scripts known left old new ended → WroteLegal old new ended

@@ -17,7 +17,7 @@ abbrev pub calls_in : List (Told FlagAnd) → ℕ
 calls_in [] = 0
 calls_in (told ∷ rest) = calls_of told.line + calls_in rest
 
--- a call that begins is one that some line of a script spells
+-- a call that begins is one that some line of a script of the first version spells
 abbrev pub CalledFits : TraceLine → Type 0
 CalledFits (Called asked padded) = IsSpelledAs padded asked
 CalledFits line = ⊤

@@ -14,7 +14,6 @@ use std::alloc::Allocator;
 use ulfm_laws::meld::Packed;
 use ulfm_model::call::Call;
 use ulfm_model::refusal::Refusal;
-use ulfm_steps::group::{make_room, put_in};
 use ulfm_words::Words;
 
 impl<P: Packed, A: Allocator + Copy> Rank<P, A> {
@@ -51,12 +50,10 @@ impl<P: Packed, A: Allocator + Copy> Rank<P, A> {
     {
         let rank = self.number();
         counted(self.call(world, pass, Call::GetFailed { rank, comm }))?;
-        let x = self.own.held_comm(comm);
-        if make_room(&x.group, self.failures(), found).is_err() {
+        let reach = self.failures().len();
+        if self.own.put_failed(comm, reach, found).is_err() {
             return Err(Refusal::OutOfMemory);
         }
-        found.clear();
-        put_in(&x.group, self.failures(), found);
         Ok(())
     }
 }

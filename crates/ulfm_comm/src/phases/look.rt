@@ -1,5 +1,7 @@
 // The look of a call, and what comes after it.
-ghost use Rattle.std.specs.Prelude.{ℕ, List, ◌≡◌, ◌<◌, max, min, true, None, Some, MatchOption};
+ghost use Rattle.std.specs.Prelude.{ℕ, List, ◌≡◌, ◌<◌, filter, length, max, min, true, None, Some, MatchOption};
+ghost use Rattle.std.specs.List.Sorted.{IsStrictlyIncreasing};
+ghost use Rattle.ulfm_model.specs.{History.{has}, Records.{Held, held_at, with_held}};
 ghost use Rattle.ulfm_model.specs.declared.{block.Beside.{Beside}, call.Call.TheVariants.{Poll as PollAsked}, call.Request.TheVariants.{Barrier as OfBarrier}};
 ghost use Rattle.ulfm_comm.specs.{Polls.{IsAgreement}, Phase.{IsFurther, IsPast, StillStands, left}, Look.{Passes}};
 ghost use Rattle.ulfm_comm.specs.{StepsLeft.{FewerLeft, steps_left, with_look}, Step.{FollowsLook, HasJustLooked, TakesTurn}};
@@ -15,25 +17,13 @@ use crate::phases::phase::{Next, Phase};
 use crate::rank::LocalState;
 use std::alloc::Allocator;
 use ulfm_laws::meld::Packed;
-use ulfm_model::call::{Call, Request, comm_of};
+use ulfm_model::call::{Call, MOST_FAILURES, Request, comm_of};
 use ulfm_model::contribution::Offer;
 use ulfm_model::refusal::Refusal;
 use ulfm_model::reply::Reply;
 use ulfm_steps::group::{count_in, has_rank};
 use ulfm_steps::{Arrivals, Peek};
 use ulfm_words::Words;
-
-// As many failures as are asked for, of those that are known, but no fewer than before.
-fn acknowledged(before: u16, asked: u16, known: usize) -> u16
-    ensures { result ≡ max before (min asked known) }
-{
-    let within = if (asked as usize) < known {
-        asked
-    } else {
-        known as u16
-    };
-    before.max(within)
-}
 
 // The round of an open barrier.
 fn barrier(request: Option<Request>) -> Option<u16>
@@ -137,16 +127,18 @@ impl<P: Packed, A: Allocator> LocalState<P, A> {
     {
         let x = self.held_comm(comm_of(asked));
         match *asked {
-            Call::GetFailed { .. } => {
-                let count = count_in(&x.group, self.failures()) as u16;
-                Next::Ends(Reply::FailedGroup { count })
-            }
-            Call::Ack { comm, count, .. } => {
-                let known = count_in(&x.group, self.failures());
-                let count = acknowledged(x.acked, count, known);
-                self.acknowledge(comm, count);
-                Next::Ends(Reply::Acked { count })
-            }
+            Call::GetFailed { .. } => Next::Ends(Reply::FailedGroup {
+                count: self.known(&x.group, MOST_FAILURES),
+            }),
+            Call::FailureGetAcked { .. } => Next::Ends(Reply::FailedGroup {
+                count: self.known(&x.group, x.acked),
+            }),
+            Call::Ack { comm, count, .. } => Next::Ends(Reply::Acked {
+                count: self.acknowledge_known(comm, count),
+            }),
+            Call::FailureAck { comm, .. } => Next::Ends(Reply::Acked {
+                count: self.acknowledge_known(comm, MOST_FAILURES),
+            }),
             Call::Agree { value, .. } => Next::Goes(Phase::Spreading {
                 request: Request::Agree {
                     round: x.next_agreement,
@@ -172,6 +164,32 @@ impl<P: Packed, A: Allocator> LocalState<P, A> {
             // A declaration is no call of a rank.
             Call::Fail { .. } => unreachable!(),
         }
+    }
+
+    // How many members of a group, whose ranks rise, are among the failures that it has seen, up to so many.
+    fn known(&self, group: &[u16], most: u16) -> u16
+        requires { IsStrictlyIncreasing group.now }
+        ensures { result ≡ min most (length (filter (has group.now) self.now.seen)) }
+    {
+        let known = count_in(group, self.failures());
+        if (most as usize) < known {
+            most
+        } else {
+            known as u16
+        }
+    }
+
+    // Acknowledges as many failures of a communicator that it holds as are asked for, of those that are known, but no fewer than
+    // before: how many are acknowledged now.
+    fn acknowledge_known(&mut self, comm: u16, most: u16) -> u16
+        requires { (x : Held) × (held_at self.old comm ≡ Some x) × IsStrictlyIncreasing x.group }
+        ensures count { (x : Held) → held_at self.old comm ≡ Some x → result ≡ max x.acked (min most (length (filter (has x.group) self.old.seen))) }
+        ensures kept { self.new ≡ with_held self.old comm (λ y. record y { acked = result }) }
+    {
+        let x = self.held_comm(comm);
+        let count = x.acked.max(self.known(&x.group, most));
+        self.acknowledge(comm, count);
+        count
     }
 
     // How the poll of an open request goes on after its look: a barrier reads who has arrived; an agreement loads its round's blocks.

@@ -1,5 +1,5 @@
 use Rattle.std.proofs.Common.{map}
-use Rattle.ulfm.proofs.Ends.{checked_out, draw_ran_out, echo_ran_out, explain_ran_out, explore_ran_out, explored_as, ran_out, steps_ran_out}
+use Rattle.ulfm.proofs.Ends.{checked_out, draw_ran_out, echo_ran_out, explain_ran_out, explore_ran_out, explored_as, migrate_ran_out, raced_as, ran_out, steps_ran_out}
 use Rattle.ulfm.proofs.program.answer.Goals as goal
 
 pub returns-in-Race-clause-bad : goal.returns-in-Race-clause-bad
@@ -14,6 +14,9 @@ returns-in-Memory-clause-run g c asks = ran_out _ _ _ c.tell_fault.ensures.statu
 pub returns-in-Memory-clause-steps : goal.returns-in-Memory-clause-steps
 returns-in-Memory-clause-steps g c asks = steps_ran_out _ _ _ c.tell_fault.ensures.status
 
+pub returns-in-Memory-clause-migrate : goal.returns-in-Memory-clause-migrate
+returns-in-Memory-clause-migrate g c asks = migrate_ran_out _ _ _ c.tell_fault.ensures.status
+
 pub returns-in-Memory-clause-check : goal.returns-in-Memory-clause-check
 returns-in-Memory-clause-check g c asks = checked_out _ _ _ c.tell_fault.ensures.status
 
@@ -27,7 +30,7 @@ pub returns-in-Draw-clause-told : goal.returns-in-Draw-clause-told
 returns-in-Draw-clause-told g c bad clear = absurd (bad.no_draw c.in-Draw.options c.in-Draw.ensures)
 
 pub returns-in-Draw-clause-other : goal.returns-in-Draw-clause-other
-returns-in-Draw-clause-other g c run steps check echo explain none others = absurd (none c.in-Draw.options c.in-Draw.ensures)
+returns-in-Draw-clause-other g c run steps check echo explain none others migrate = absurd (none c.in-Draw.options c.in-Draw.ensures)
 
 pub returns-in-Bad-clause-draw : goal.returns-in-Bad-clause-draw
 returns-in-Bad-clause-draw g c options asks = absurd (c.in-Bad.ensures.no_draw options asks)
@@ -48,7 +51,7 @@ pub returns-in-Explore-clause-told : goal.returns-in-Explore-clause-told
 returns-in-Explore-clause-told g c bad clear = absurd (bad.no_explore c.in-Explore.options c.in-Explore.ensures)
 
 pub returns-in-Explore-clause-other : goal.returns-in-Explore-clause-other
-returns-in-Explore-clause-other g c run steps check echo explain draw none = absurd (none c.in-Explore.options c.in-Explore.ensures)
+returns-in-Explore-clause-other g c run steps check echo explain draw none migrate = absurd (none c.in-Explore.options c.in-Explore.ensures)
 
 pub returns-in-Explore-clause-status : goal.returns-in-Explore-clause-status
 returns-in-Explore-clause-status g c none = absurd (none c.in-Explore.options c.in-Explore.ensures)
@@ -72,3 +75,16 @@ returns-in-Explore-clause-explore g c options asks =
     c.in-Explore.ensures
     asks
     c.run_explore.ensures.explored
+
+pub returns-in-Race-clause-race : goal.returns-in-Race-clause-race
+returns-in-Race-clause-race g c options asks =
+    raced_as
+    (map (λ word. word.now) c.args.words.now)
+    c.in-Race.options
+    options
+    (g.W.Write.contents c.args.output.now)
+    (g.W.Write.contents c.run_race.new.output)
+    c.run_race.result
+    c.in-Race.ensures
+    asks
+    c.run_race.ensures

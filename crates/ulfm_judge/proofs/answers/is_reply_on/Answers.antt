@@ -13,6 +13,12 @@ returns-in-GetFailed g c = rw c.in-GetFailed.is c.is_failed_reply.ensures
 pub returns-in-Ack : goal.returns-in-Ack
 returns-in-Ack g c = rw c.in-Ack.is c.is_ack_reply.ensures
 
+pub returns-in-FailureAck : goal.returns-in-FailureAck
+returns-in-FailureAck g c = rw c.in-FailureAck.is c.is_ack_reply-in-FailureAck.ensures
+
+pub returns-in-FailureGetAcked : goal.returns-in-FailureGetAcked
+returns-in-FailureGetAcked g c = rw c.in-FailureGetAcked.is c.is_acked_group_reply.ensures
+
 pub returns-in-Agree : goal.returns-in-Agree
 returns-in-Agree g c = rw c.in-Agree.is c.is_offer_reply.ensures
 

@@ -3,7 +3,7 @@ use Rattle.std.proofs.lemmas.Bool.{eqb-true}
 use Rattle.std.specs.{HashMap.{get}}
 use Rattle.ulfm_model.specs.{History.{same_place, says}}
 use Rattle.ulfm_model.specs.declared.event.Entry.{Entry}
-use Rattle.ulfm_judge.specs.{Failed.{AreFailed, members_of}}
+use Rattle.ulfm_judge.specs.{Failed.{AreFailed, members_of}, Grids.{cell_at}}
 use Rattle.ulfm_judge.proofs.{Lasting.{no_value, ok_anyway}, Leaving.{written}, Tabling.{noted, place_is}}
 use Rattle.ulfm_judge.proofs.numbers.note_all.Goals as goal
 
@@ -42,6 +42,23 @@ returns-in_err-note_slot g c = record {
 }
 
 -- an error promises nothing
+pub returns-in_err-note_arrival : goal.returns-in_err-note_arrival
+returns-in_err-note_arrival g c = record {
+  slots = λ h tells count. no_value _ c.from_residual-in_err-note_arrival.result c.from_residual-in_err-note_arrival.ensures.0;
+  arrivals = λ h tells count. no_value _ c.from_residual-in_err-note_arrival.result c.from_residual-in_err-note_arrival.ensures.0;
+  revocations = λ h tells count. no_value _ c.from_residual-in_err-note_arrival.result c.from_residual-in_err-note_arrival.ensures.0;
+  declared = λ h tells count. no_value _ c.from_residual-in_err-note_arrival.result c.from_residual-in_err-note_arrival.ensures.0;
+  failures = λ h tells count. no_value _ c.from_residual-in_err-note_arrival.result c.from_residual-in_err-note_arrival.ensures.0;
+  spawns = λ h tells count. no_value _ c.from_residual-in_err-note_arrival.result c.from_residual-in_err-note_arrival.ensures.0;
+  kept = no_value _ c.from_residual-in_err-note_arrival.result c.from_residual-in_err-note_arrival.ensures.0;
+  longer = no_value _ c.from_residual-in_err-note_arrival.result c.from_residual-in_err-note_arrival.ensures.0;
+  members = no_value _ c.from_residual-in_err-note_arrival.result c.from_residual-in_err-note_arrival.ensures.0;
+  failed = λ are. no_value _ c.from_residual-in_err-note_arrival.result c.from_residual-in_err-note_arrival.ensures.0;
+  failed_before = λ are. no_value _ c.from_residual-in_err-note_arrival.result c.from_residual-in_err-note_arrival.ensures.0;
+  spawned_before = λ are. no_value _ c.from_residual-in_err-note_arrival.result c.from_residual-in_err-note_arrival.ensures.0;
+}
+
+-- an error promises nothing
 pub returns-in_err-note_first : goal.returns-in_err-note_first
 returns-in_err-note_first g c = record {
   slots = λ h tells count. no_value _ c.from_residual-in_err-note_first.result c.from_residual-in_err-note_first.ensures.0;
@@ -76,23 +93,6 @@ returns-in_err-note_first-2 g c = record {
 }
 
 -- an error promises nothing
-pub returns-in_err-note_first-3 : goal.returns-in_err-note_first-3
-returns-in_err-note_first-3 g c = record {
-  slots = λ h tells count. no_value _ c.from_residual-in_err-note_first-3.result c.from_residual-in_err-note_first-3.ensures.0;
-  arrivals = λ h tells count. no_value _ c.from_residual-in_err-note_first-3.result c.from_residual-in_err-note_first-3.ensures.0;
-  revocations = λ h tells count. no_value _ c.from_residual-in_err-note_first-3.result c.from_residual-in_err-note_first-3.ensures.0;
-  declared = λ h tells count. no_value _ c.from_residual-in_err-note_first-3.result c.from_residual-in_err-note_first-3.ensures.0;
-  failures = λ h tells count. no_value _ c.from_residual-in_err-note_first-3.result c.from_residual-in_err-note_first-3.ensures.0;
-  spawns = λ h tells count. no_value _ c.from_residual-in_err-note_first-3.result c.from_residual-in_err-note_first-3.ensures.0;
-  kept = no_value _ c.from_residual-in_err-note_first-3.result c.from_residual-in_err-note_first-3.ensures.0;
-  longer = no_value _ c.from_residual-in_err-note_first-3.result c.from_residual-in_err-note_first-3.ensures.0;
-  members = no_value _ c.from_residual-in_err-note_first-3.result c.from_residual-in_err-note_first-3.ensures.0;
-  failed = λ are. no_value _ c.from_residual-in_err-note_first-3.result c.from_residual-in_err-note_first-3.ensures.0;
-  failed_before = λ are. no_value _ c.from_residual-in_err-note_first-3.result c.from_residual-in_err-note_first-3.ensures.0;
-  spawned_before = λ are. no_value _ c.from_residual-in_err-note_first-3.result c.from_residual-in_err-note_first-3.ensures.0;
-}
-
--- an error promises nothing
 pub returns-in_err-note_failure : goal.returns-in_err-note_failure
 returns-in_err-note_failure g c = record {
   slots = λ h tells count. no_value _ c.from_residual-in_err-note_failure.result c.from_residual-in_err-note_failure.ensures.0;
@@ -122,14 +122,14 @@ returns g c =
     record {
       slots = λ h tells count. ok_anyway noted_last (c.in_ok-note_slot.ensures.told h tells count);
       arrivals = λ h tells count.
-          let kept = c.in_ok-note_first.ensures in
-          ok_anyway noted_last (noted same_place place_is arrives h entry (get same_place c.args.arrivals.now) (get same_place c.note_first.new.table) number c.arrival_by.result c.arrival_by.ensures kept tells count);
+          let kept = c.in_ok-note_arrival.ensures in
+          ok_anyway noted_last (noted same_place place_is arrives h entry (cell_at c.args.arrivals.now) (cell_at c.note_arrival.new.arrivals) number c.arrival_by.result c.arrival_by.ensures kept tells count);
       revocations = λ h tells count.
-          let kept = c.in_ok-note_first-2.ensures in
-          ok_anyway noted_last (noted nat_eq eqb-true revokes h entry (get nat_eq c.args.revocations.now) (get nat_eq c.note_first-2.new.table) number c.revoked_by.result c.revoked_by.ensures kept tells count);
+          let kept = c.in_ok-note_first.ensures in
+          ok_anyway noted_last (noted nat_eq eqb-true revokes h entry (get nat_eq c.args.revocations.now) (get nat_eq c.note_first.new.table) number c.revoked_by.result c.revoked_by.ensures kept tells count);
       declared = λ h tells count.
-          let kept = c.in_ok-note_first-3.ensures in
-          ok_anyway noted_last (noted nat_eq eqb-true declares h entry (get nat_eq c.args.declared.now) (get nat_eq c.note_first-3.new.table) number c.declared_by.result c.declared_by.ensures kept tells count);
+          let kept = c.in_ok-note_first-2.ensures in
+          ok_anyway noted_last (noted nat_eq eqb-true declares h entry (get nat_eq c.args.declared.now) (get nat_eq c.note_first-2.new.table) number c.declared_by.result c.declared_by.ensures kept tells count);
       failures = λ h tells count. ok_anyway noted_last (c.in_ok-note_failure.ensures.told h tells count);
       spawns = λ h tells count. c.note_spawn.ensures.told h tells count;
       kept = ok_anyway noted_last c.in_ok-note_slot.ensures.kept;

@@ -26,9 +26,9 @@ returns-in_ok-open-in-Ok g c =
     let e = rw c.in-Newline.is at c.in_ok-read_line.ensures in
     record {
       line = e.0;
-      limits = c.in-Ok.limits;
+      heading = c.in-Ok.heading;
       free = e.1;
-      header = header_given g.M.Interpreter.lang c.kind.result e.0 c.read_line.new.line.items c.deref.result.now (Ok c.in-Ok.limits) e.2 c.deref.ensures.value c.kind.ensures c.in-Ok.ensures.exact;
+      header = header_given g.M.Interpreter.lang e.0 c.read_line.new.line.items c.deref.result.now (Ok c.in-Ok.heading) e.2 c.deref.ensures.value c.in-Ok.ensures.exact;
       taken = e.3;
       new_one = c.in_ok-open-in-Ok.ensures;
     }
@@ -54,6 +54,6 @@ returns-in-Err g c =
     let b = unread g.R.Read.remaining c.read_line.new.self c.read_line.new.reader in
     let e = rw c.in-Newline.is at c.in_ok-read_line.ensures in
     let kind = c.in-Err.kind in
-    let h = header_given g.M.Interpreter.lang c.kind.result e.0 c.read_line.new.line.items c.deref.result.now (Err kind) e.2 c.deref.ensures.value c.kind.ensures c.in-Err.ensures.exact in
+    let h = header_given g.M.Interpreter.lang e.0 c.read_line.new.line.items c.deref.result.now (Err kind) e.2 c.deref.ensures.value c.in-Err.ensures.exact in
     let u = unopened_line g.M.Interpreter.lang a b e.0 kind e.1 e.3 h in
     (u.0, u.1, refl, u.2, u.3)

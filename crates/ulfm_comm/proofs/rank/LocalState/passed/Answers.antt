@@ -1,15 +1,14 @@
-use Rattle.std.proofs.Common.{rules, ◌≡◌, ◌≤◌, Bool, None, Some, length, filter, max, min, ap, ap₂, refl, sym, ◌∙◌, subst, arith}
+use Rattle.std.proofs.Common.{◌≡◌, Bool, None, Some, length, filter, min, ap, ap₂, refl, sym, ◌∙◌, subst}
 use Rattle.std.specs.List.Sorted.{IsStrictlyIncreasing}
 use Rattle.ulfm_model.specs.declared.{call.Call.{Call}, reply.Reply.TheVariants.{Acked, FailedGroup, Freed}}
 use Rattle.ulfm_model.specs.{Answers.{first_refusal}, History.{has}, Records.{Held, Record, held_at}}
 use Rattle.ulfm_model.specs.Terms.{comm_of, tests_of}
-use Rattle.ulfm_model.proofs.Marking.{failed_few}
 use Rattle.ulfm_model.specs.Records.{moment}
 use Rattle.ulfm_words.specs.Steps.{view_of, Sight, over}
 use Rattle.ulfm_comm.specs.{Phase.{Answered}, Look.{HasLooked, JustLooked}, StepsLeft.{behind_look}}
 use Rattle.ulfm_comm.specs.AlsoLeft.{also_behind_look}
 use Rattle.ulfm_comm.proofs.{AlsoLeft.{follows_behind, follows_ends}, StepsLeft.{behind_left}}
-use Rattle.ulfm_comm.proofs.Look.{just_acked, just_counted, just_fits, just_freed, just_passed, own_barrier, own_question, own_revoke, starts_agree}
+use Rattle.ulfm_comm.proofs.Look.{just_acked, just_acked_all, just_counted, just_listed, just_fits, just_freed, just_passed, own_barrier, own_question, own_revoke, starts_agree}
 use Rattle.ulfm_comm.proofs.Look.{starts_shrink}
 use Rattle.ulfm_comm.proofs.Holding.{group_rises}
 use Rattle.ulfm_comm.proofs.rank.LocalState.passed.Goals as goal
@@ -47,14 +46,6 @@ rises g c =
     (comm_of c.args.asked.now) c.held_comm-x.result.now
     (just_fits g.P.Meld.meld _ (over g.P.Packed.pack (g.W.Words.name c.args.words.now)) c.args.asked.now j.0 j.1 c.args.self.now (g.W.Words.sight c.args.pass.now) j.2
     c.requires.of) (held g c)
-
-pub count_in-count-requires : goal.count_in-count-requires
-count_in-count-requires g c = subst IsStrictlyIncreasing (sym (c.deref.ensures.value ∙ ap (λ (y : Held). y.group) c.x.view_is))
-    (rises g (goal.at.count_in-count-requires g c).After-held_comm-x)
-
-pub count_in-known-requires : goal.count_in-known-requires
-count_in-known-requires g c = subst IsStrictlyIncreasing (sym (c.deref-in-Ack.ensures.value ∙ ap (λ (y : Held). y.group) c.x.view_is))
-    (rises g (goal.at.count_in-known-requires g c).After-held_comm-x)
 
 pub returns-in-Agree-clause-turns : goal.returns-in-Agree-clause-turns
 returns-in-Agree-clause-turns g c =
@@ -127,27 +118,59 @@ returns-in-IsRevoked-clause-turns g c =
       );
     }
 
+pub known-requires : goal.known-requires
+known-requires g c = subst IsStrictlyIncreasing (sym (c.deref.ensures.value ∙ ap (λ (y : Held). y.group) c.x.view_is))
+    (rises g (goal.at.known-requires g c).After-held_comm-x)
+
+pub known-requires-in-FailureGetAcked : goal.known-requires-in-FailureGetAcked
+known-requires-in-FailureGetAcked g c = subst IsStrictlyIncreasing (sym (c.deref-in-FailureGetAcked.ensures.value ∙ ap (λ (y : Held). y.group) c.x.view_is))
+    (rises g (goal.at.known-requires-in-FailureGetAcked g c).After-held_comm-x)
+
+pub acknowledge_known-requires : goal.acknowledge_known-requires
+acknowledge_known-requires g c =
+    let at = (goal.at.acknowledge_known-requires g c).After-held_comm-x in
+    (c.held_comm-x.result.now, held_for g at _ c.in-Ack.is, rises g at)
+
+pub acknowledge_known-requires-in-FailureAck : goal.acknowledge_known-requires-in-FailureAck
+acknowledge_known-requires-in-FailureAck g c =
+    let at = (goal.at.acknowledge_known-requires-in-FailureAck g c).After-held_comm-x in
+    (c.held_comm-x.result.now, held_for g at _ c.in-FailureAck.is, rises g at)
+
 pub returns-in-GetFailed-clause-turns : goal.returns-in-GetFailed-clause-turns
 returns-in-GetFailed-clause-turns g c =
     let at = (goal.at.returns-in-GetFailed-clause-turns g c).After-held_comm-x in
     λ group alone old before j.
-    subst (λ a. Answered g.P.Meld.meld alone a (local old (view_of g.P.Packed.pack (g.W.Words.name c.args.words.now) before)) (FailedGroup c.count_in-count.result) (local c.args.self.now (view_of g.P.Packed.pack (g.W.Words.name c.args.words.now) (g.W.Words.sight c.args.pass.now)))) (sym c.in-GetFailed.is)
+    subst (λ a. Answered g.P.Meld.meld alone a (local old (view_of g.P.Packed.pack (g.W.Words.name c.args.words.now) before)) (FailedGroup c.known.result) (local c.args.self.now (view_of g.P.Packed.pack (g.W.Words.name c.args.words.now) (g.W.Words.sight c.args.pass.now)))) (sym c.in-GetFailed.is)
     (just_counted g.P.Meld.meld alone (over g.P.Packed.pack (g.W.Words.name c.args.words.now)) _ _ old before c.args.self.now (g.W.Words.sight c.args.pass.now) c.requires.of
-    c.held_comm-x.result.now (held_for g at _ c.in-GetFailed.is) _ (c.count_in-count.ensures ∙ ap₂ (λ w v. length (filter (has w) v))
-    (c.deref.ensures.value ∙ ap (λ (y : Held). y.group) c.x.view_is) c.failures.ensures)
-    (subst (λ a. JustLooked g.P.Meld.meld alone a (local old (view_of g.P.Packed.pack (g.W.Words.name c.args.words.now) before)) (local c.args.self.now (view_of g.P.Packed.pack (g.W.Words.name c.args.words.now) (g.W.Words.sight c.args.pass.now))))
-    c.in-GetFailed.is j))
+    c.held_comm-x.result.now (held_for g at _ c.in-GetFailed.is) _ (c.known.ensures ∙ ap (λ w. min 1024 (length (filter (has w) c.args.self.now.seen))) (c.deref.ensures.value ∙ ap (λ (y : Held). y.group) c.x.view_is))
+    (subst (λ a. JustLooked g.P.Meld.meld alone a (local old (view_of g.P.Packed.pack (g.W.Words.name c.args.words.now) before)) (local c.args.self.now (view_of g.P.Packed.pack (g.W.Words.name c.args.words.now) (g.W.Words.sight c.args.pass.now)))) c.in-GetFailed.is j))
+
+pub returns-in-FailureGetAcked-clause-turns : goal.returns-in-FailureGetAcked-clause-turns
+returns-in-FailureGetAcked-clause-turns g c =
+    let at = (goal.at.returns-in-FailureGetAcked-clause-turns g c).After-held_comm-x in
+    λ group alone old before j.
+    subst (λ a. Answered g.P.Meld.meld alone a (local old (view_of g.P.Packed.pack (g.W.Words.name c.args.words.now) before)) (FailedGroup c.known-in-FailureGetAcked.result) (local c.args.self.now (view_of g.P.Packed.pack (g.W.Words.name c.args.words.now) (g.W.Words.sight c.args.pass.now)))) (sym c.in-FailureGetAcked.is)
+    (just_listed g.P.Meld.meld alone (over g.P.Packed.pack (g.W.Words.name c.args.words.now)) _ _ old before c.args.self.now (g.W.Words.sight c.args.pass.now) c.requires.of
+    c.held_comm-x.result.now (held_for g at _ c.in-FailureGetAcked.is) _ (c.known-in-FailureGetAcked.ensures ∙ ap₂ (λ m w. min m (length (filter (has w) c.args.self.now.seen))) (ap (λ (y : Held). y.acked) c.x.view_is) (c.deref-in-FailureGetAcked.ensures.value ∙ ap (λ (y : Held). y.group) c.x.view_is))
+    (subst (λ a. JustLooked g.P.Meld.meld alone a (local old (view_of g.P.Packed.pack (g.W.Words.name c.args.words.now) before)) (local c.args.self.now (view_of g.P.Packed.pack (g.W.Words.name c.args.words.now) (g.W.Words.sight c.args.pass.now)))) c.in-FailureGetAcked.is j))
 
 pub returns-in-Ack-clause-turns : goal.returns-in-Ack-clause-turns
 returns-in-Ack-clause-turns g c =
     let at = (goal.at.returns-in-Ack-clause-turns g c).After-held_comm-x in
     λ group alone old before j.
-    subst (λ a. Answered g.P.Meld.meld alone a (local old (view_of g.P.Packed.pack (g.W.Words.name c.args.words.now) before)) (Acked c.acknowledged-count.result) (local c.acknowledge.new.self (view_of g.P.Packed.pack (g.W.Words.name c.args.words.now) (g.W.Words.sight c.args.pass.now)))) (sym c.in-Ack.is)
+    subst (λ a. Answered g.P.Meld.meld alone a (local old (view_of g.P.Packed.pack (g.W.Words.name c.args.words.now) before)) (Acked c.acknowledge_known.result) (local c.acknowledge_known.new.self (view_of g.P.Packed.pack (g.W.Words.name c.args.words.now) (g.W.Words.sight c.args.pass.now)))) (sym c.in-Ack.is)
     (just_acked g.P.Meld.meld alone (over g.P.Packed.pack (g.W.Words.name c.args.words.now)) _ _ old before c.args.self.now (g.W.Words.sight c.args.pass.now) c.requires.of
-    c.held_comm-x.result.now (held_for g at _ c.in-Ack.is) _ _ _
-    (c.acknowledged-count.ensures ∙ ap₂ (λ m n. max m (min c.in-Ack.count n)) (ap (λ (y : Held). y.acked) c.x.view_is)
-    (c.count_in-known.ensures ∙ ap₂ (λ w v. length (filter (has w) v)) (c.deref-in-Ack.ensures.value ∙ ap (λ (y : Held). y.group) c.x.view_is)
-    c.failures-in-Ack.ensures)) c.acknowledge.ensures (subst (λ a. JustLooked g.P.Meld.meld alone a (local old (view_of g.P.Packed.pack (g.W.Words.name c.args.words.now) before)) (local c.args.self.now (view_of g.P.Packed.pack (g.W.Words.name c.args.words.now) (g.W.Words.sight c.args.pass.now)))) c.in-Ack.is j))
+    c.held_comm-x.result.now (held_for g at _ c.in-Ack.is) _ _ _ (c.acknowledge_known.ensures.count c.held_comm-x.result.now (held_for g at _ c.in-Ack.is)) c.acknowledge_known.ensures.kept
+    (subst (λ a. JustLooked g.P.Meld.meld alone a (local old (view_of g.P.Packed.pack (g.W.Words.name c.args.words.now) before)) (local c.args.self.now (view_of g.P.Packed.pack (g.W.Words.name c.args.words.now) (g.W.Words.sight c.args.pass.now)))) c.in-Ack.is j))
+
+pub returns-in-FailureAck-clause-turns : goal.returns-in-FailureAck-clause-turns
+returns-in-FailureAck-clause-turns g c =
+    let at = (goal.at.returns-in-FailureAck-clause-turns g c).After-held_comm-x in
+    λ group alone old before j.
+    subst (λ a. Answered g.P.Meld.meld alone a (local old (view_of g.P.Packed.pack (g.W.Words.name c.args.words.now) before)) (Acked c.acknowledge_known-in-FailureAck.result) (local c.acknowledge_known-in-FailureAck.new.self (view_of g.P.Packed.pack (g.W.Words.name c.args.words.now) (g.W.Words.sight c.args.pass.now)))) (sym c.in-FailureAck.is)
+    (just_acked_all g.P.Meld.meld alone (over g.P.Packed.pack (g.W.Words.name c.args.words.now)) _ _ old before c.args.self.now (g.W.Words.sight c.args.pass.now) c.requires.of
+    c.held_comm-x.result.now (held_for g at _ c.in-FailureAck.is) _ _ (c.acknowledge_known-in-FailureAck.ensures.count c.held_comm-x.result.now (held_for g at _ c.in-FailureAck.is)) c.acknowledge_known-in-FailureAck.ensures.kept
+    (subst (λ a. JustLooked g.P.Meld.meld alone a (local old (view_of g.P.Packed.pack (g.W.Words.name c.args.words.now) before)) (local c.args.self.now (view_of g.P.Packed.pack (g.W.Words.name c.args.words.now) (g.W.Words.sight c.args.pass.now)))) c.in-FailureAck.is j))
 
 pub returns-in-Free-clause-turns : goal.returns-in-Free-clause-turns
 returns-in-Free-clause-turns g c =
@@ -160,17 +183,6 @@ returns-in-Free-clause-turns g c =
     (subst (λ a. first_refusal (tests_of c.args.self.now c.held_comm-x.result.now a) ≡ None) c.in-Free.is (passes g at)) c.release.ensures
     (subst (λ a. JustLooked g.P.Meld.meld alone a (local old (view_of g.P.Packed.pack (g.W.Words.name c.args.words.now) before)) (local c.args.self.now (view_of g.P.Packed.pack (g.W.Words.name c.args.words.now) (g.W.Words.sight c.args.pass.now))))
     c.in-Free.is j))
-
-pub overflow_cast-count : goal.overflow_cast-count
-overflow_cast-count g c =
-    let name = over g.P.Packed.pack (g.W.Words.name c.args.words.now) in
-    let now = g.W.Words.sight c.args.pass.now in
-    let few = failed_few g.P.Meld.meld name.limits now.seen c.deref.result.now c.requires.of.legal in
-    let seen = c.failures.ensures ∙ ap (λ (w : Record). w.seen) c.requires.just.2.looked.record_is in
-    let is = c.count_in-count.ensures ∙ ap (λ v. length (filter (has c.deref.result.now) v)) seen in
-    let ranks = c.requires.of.may_open.in_range.ranks in
-    let small : c.count_in-count.result ≤ 1024 = omega (arith, few, is, ranks) in
-    search rules
 
 pub returns-in-Agree-clause-nearer : goal.returns-in-Agree-clause-nearer
 returns-in-Agree-clause-nearer g c = behind_left (g.W.Words.name c.args.words.now).limits c.args.self.now c.args.asked.now _ c.requires.passes
@@ -215,9 +227,16 @@ returns-in-IsRevoked-clause-also g c = follows_behind (g.W.Words.name c.args.wor
 pub returns-in-GetFailed-clause-also : goal.returns-in-GetFailed-clause-also
 returns-in-GetFailed-clause-also g c = follows_ends (g.W.Words.name c.args.words.now).limits c.args.self.now c.args.asked.now _ _ refl
 
+pub returns-in-FailureGetAcked-clause-also : goal.returns-in-FailureGetAcked-clause-also
+returns-in-FailureGetAcked-clause-also g c = follows_ends (g.W.Words.name c.args.words.now).limits c.args.self.now c.args.asked.now _ _ refl
+
 pub returns-in-Ack-clause-also : goal.returns-in-Ack-clause-also
 returns-in-Ack-clause-also g c = follows_ends (g.W.Words.name c.args.words.now).limits c.args.self.now c.args.asked.now _ _
-    (ap (λ (w : Record). w.seen) c.acknowledge.ensures)
+    (ap (λ (w : Record). w.seen) c.acknowledge_known.ensures.kept)
+
+pub returns-in-FailureAck-clause-also : goal.returns-in-FailureAck-clause-also
+returns-in-FailureAck-clause-also g c = follows_ends (g.W.Words.name c.args.words.now).limits c.args.self.now c.args.asked.now _ _
+    (ap (λ (w : Record). w.seen) c.acknowledge_known-in-FailureAck.ensures.kept)
 
 pub returns-in-Free-clause-also : goal.returns-in-Free-clause-also
 returns-in-Free-clause-also g c = follows_ends (g.W.Words.name c.args.words.now).limits c.args.self.now c.args.asked.now _ _
@@ -225,6 +244,12 @@ returns-in-Free-clause-also g c = follows_ends (g.W.Words.name c.args.words.now)
 
 pub returns-in-GetFailed-clause-knows : goal.returns-in-GetFailed-clause-knows
 returns-in-GetFailed-clause-knows g c = λ cached of. absurd (cc of)
+
+pub returns-in-FailureGetAcked-clause-knows : goal.returns-in-FailureGetAcked-clause-knows
+returns-in-FailureGetAcked-clause-knows g c = λ cached of. absurd (cc of)
+
+pub returns-in-FailureAck-clause-knows : goal.returns-in-FailureAck-clause-knows
+returns-in-FailureAck-clause-knows g c = λ cached of. absurd (cc of)
 
 pub returns-in-Ack-clause-knows : goal.returns-in-Ack-clause-knows
 returns-in-Ack-clause-knows g c = λ cached of. absurd (cc of)

@@ -1,4 +1,5 @@
-use Rattle.std.proofs.Common.{ap, sym, ◌++◌}
+use Rattle.std.proofs.Common.{ap, sym, ◌++◌, ◌∙◌}
+use Rattle.ulfm_script.specs.Calls.{call_in}
 use Rattle.ulfm_model.specs.Runs.{new_state}
 use Rattle.ulfm_echo.specs.Echoes.{Asked, with_line}
 use Rattle.ulfm_echo.proofs.Echoing.{echoes_on}
@@ -10,10 +11,11 @@ returns-in_ok-answer-in-Ok g c =
     let asked : Asked = record { line = c.args.line.now; call = c.in-Ok.call } in
     λ plan before ran. (
       asked,
-      ap (with_line c.args.line.now) (sym c.in-Ok.ensures.exact),
-      (
-        ran.0 ++ told.0,
-        echoes_on (new_state before.limits) (g.M.Machine.state c.args.self.now.machine) (g.M.Machine.state c.answer.new.machine) before.items asked before.out
-            ran.0 told.0 c.answer.new.text.items ran.1 told.1 told.2,
-      ),
+      ap (λ version. with_line c.args.line.now (call_in version c.args.line.now)) (sym ran.same) ∙ ap (with_line c.args.line.now) (sym c.in-Ok.ensures.exact),
+      record {
+        same = ran.same;
+        plain = ran.plain ++ told.0;
+        echoes = echoes_on (new_state before.heading.limits) (g.M.Machine.state c.args.self.now.machine) (g.M.Machine.state c.answer.new.machine) before.items asked
+            before.out ran.plain told.0 c.answer.new.text.items ran.echoes told.1 told.2;
+      },
     )

@@ -12,7 +12,7 @@ returns-in-Run g c = λ plan before ran.
     let text = c.clear.new.self.text.items in
     let rests = rests_cleared plan was now before c.args.line.now c.in-Ok.step ran e text in
     takes_failing plan was now before c.args.line.now c.in-Ok.step ran e text c.clear.ensures c.take.ensures.plan
-    (rw c.in-Run.is at c.in_ok-take-in-Ok.ensures.told before.limits ran.trace ran.rest rests)
+    (rw c.in-Run.is at c.in_ok-take-in-Ok.ensures.told before.heading.limits ran.trace ran.rest rests)
 
 pub returns-in-Open : goal.returns-in-Open
 returns-in-Open g c = λ plan before ran.
@@ -21,5 +21,5 @@ returns-in-Open g c = λ plan before ran.
     let now = state_of m c.take.new.self in
     let e = sym c.in-Ok.ensures.exact in
     let rests = rests_cleared plan was now before c.args.line.now c.in-Ok.step ran e c.clear.new.self.text.items in
-    let told = rw c.in-Open.is at c.in_ok-take-in-Ok.ensures.told before.limits ran.trace ran.rest rests in
+    let told = rw c.in-Open.is at c.in_ok-take-in-Ok.ensures.told before.heading.limits ran.trace ran.rest rests in
     finds_failing plan was now before c.args.line.now c.in-Ok.step ran e told.0

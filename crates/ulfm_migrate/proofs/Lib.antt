@@ -1,0 +1,3 @@
+pub mod Acknowledging
+pub mod Migrating
+pub mod Reading
