@@ -1,5 +1,6 @@
 # What a command line asks for, read as crates/ulfm_command and its library clap read it: with the same faults, and the same words for them.
-# read_words WORD..     sets `asked` to run, echo, steps, migrate, check, explain, draw, explore, race, shown or bad; then `text` names the page that is shown, or is the reason why it is bad.
+# read_words WORD..     sets `asked` to run, echo, steps, migrate, check, explain, observed, witness, draw, explore, race, shown or bad; then `text` names the page that
+#                       is shown, or is the reason why it is bad.
 # gate/launcher_test.py compares this with the program, on random lines too.
 
 # the names of the commands, in the order in which they are listed
@@ -24,7 +25,7 @@ options_of() {
     case $1 in
         ulfm) echo help version ;;
         run) echo steps echo help ;;
-        check) echo explain help ;;
+        check) echo explain observed witness help ;;
         draw) echo text ascii help ;;
         explore) echo most outcome help ;;
         race) echo ranks rounds fail help ;;
@@ -214,7 +215,7 @@ take_flag() {
     fi
     take_pending || return
     case $1 in
-        steps | echo | explain | text | ascii) take_option "$1" ;;
+        steps | echo | explain | observed | witness | text | ascii) take_option "$1" ;;
         help) asked=shown text=$command && return 1 ;;
         version) asked=shown text=version && return 1 ;;
     esac
@@ -231,7 +232,7 @@ take_long() {
             pending=$name value=$given has_value=$value_given
             [ -z "$has_value" ] || take_pending
             ;;
-        ulfm:help | ulfm:version | run:steps | run:echo | run:help | migrate:help | check:explain | check:help | draw:text | draw:ascii | draw:help | explore:help | race:help) take_flag "$name" "$given" "$value_given" ;;
+        ulfm:help | ulfm:version | run:steps | run:echo | run:help | migrate:help | check:explain | check:observed | check:witness | check:help | draw:text | draw:ascii | draw:help | explore:help | race:help) take_flag "$name" "$given" "$value_given" ;;
         *)
             take_pending
             refuse_option "$name" "$@"
@@ -289,7 +290,7 @@ enter() {
     case $command in
         run) case " ${used[*]} " in *' steps '*) asked=steps ;; *' echo '*) asked=echo ;; *) asked=run ;; esac ;;
         migrate) asked=migrate ;;
-        check) case " ${used[*]} " in *' explain '*) asked=explain ;; *) asked=check ;; esac ;;
+        check) read_check ;;
         draw) asked=draw ;;
         explore) asked=explore ;;
         race) read_race ;;
@@ -310,6 +311,21 @@ page_of() {
         shift
     done
     asked=shown text=$page
+}
+
+# What is to be judged, if the options go together.
+read_check() {
+    local option given=''
+    for option in observed explain witness; do
+        case " ${used[*]} " in *" $option "*) given+=" $option" ;; esac
+    done
+    case $given in
+        '') asked=check ;;
+        ' explain') asked=explain ;;
+        ' observed') asked=observed ;;
+        ' observed witness') asked=witness ;;
+        *) asked=bad text=$'error: \'--witness\' goes with \'--observed\', and \'--explain\' goes without it\n' ;;
+    esac
 }
 
 # Whether a race has the options that it needs, and a rank that it declares.

@@ -14,7 +14,7 @@ _ulfm() {
         none) words='run migrate check draw explore race help -h --help -V --version' ;;
         run) words='--steps --echo -h --help' ;;
         migrate) words='-h --help' ;;
-        check) words='--explain -h --help' ;;
+        check) words='--explain --observed --witness -h --help' ;;
         draw) words='--text --ascii -h --help' ;;
         explore) words='--most --outcome -h --help' ;;
         race) words='--ranks --rounds --fail -h --help' ;;

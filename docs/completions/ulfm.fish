@@ -14,6 +14,8 @@ complete -c ulfm -n '__fish_seen_subcommand_from run' -l echo -d 'Prints each ca
 complete -c ulfm -n '__fish_seen_subcommand_from run' -s h -l help -d 'Shows help'
 complete -c ulfm -n '__fish_seen_subcommand_from migrate' -s h -l help -d 'Shows help'
 complete -c ulfm -n '__fish_seen_subcommand_from check' -l explain -d 'Says of an illegal trace what is wrong, and what would have been legal'
+complete -c ulfm -n '__fish_seen_subcommand_from check' -l observed -d 'Judges a log of calls and replies: whether some legal trace explains it'
+complete -c ulfm -n '__fish_seen_subcommand_from check' -l witness -d 'With --observed, prints the trace that explains the log, too'
 complete -c ulfm -n '__fish_seen_subcommand_from check' -s h -l help -d 'Shows help'
 complete -c ulfm -n '__fish_seen_subcommand_from draw' -l text -d 'Draws the rows in characters, for a terminal'
 complete -c ulfm -n '__fish_seen_subcommand_from draw' -l ascii -d 'With --text, uses ASCII alone'

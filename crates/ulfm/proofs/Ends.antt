@@ -1,16 +1,19 @@
 -- How a run or a race ended, by what its parts gave.
 use Rattle.std.proofs.Common.{◌≡◌, ◌≤◌, ◌⊎◌, ℕ, Bool, true, false, List, None, Some, Err, inl, inr, refl, subst, sym}
+use Rattle.std.specs.Io.KnownBytes.{Appends}
+use Rattle.ulfm_script.specs.Written.{WritesPart}
 use Rattle.ulfm_laws.specs.declared.flag_and.FlagAnd.{FlagAnd}
 use Rattle.ulfm_model.specs.declared.reply.Reply.{Reply}
 use Rattle.ulfm_model.specs.History.{History}
-use Rattle.ulfm_command.specs.CommandLines.{AsksDraw, AsksExplore, AsksRace, Arguments}
-use Rattle.ulfm_command.specs.declared.asked.{DrawOptions.{DrawOptions}, ExploreOptions.{ExploreOptions}, RaceOptions.{RaceOptions}}
+use Rattle.ulfm_command.specs.CommandLines.{Arguments, Asks}
+use Rattle.ulfm_command.specs.declared.asked.{CheckForm.TheVariants.{Trace, Explained, Log}, ExploreOptions.{ExploreOptions}, RunForm.TheVariants.{Calls, Echoed, Steps}}
+use Rattle.ulfm_command.specs.declared.asked.{Task.{Task}, Task.TheVariants.{Run, Migrate, Check, Draw, Explore, Race}}
 use Rattle.ulfm_draw.specs.declared.{drawing.Form.{Form}, sheet.Looks.{Looks}}
 use Rattle.ulfm_draw.specs.Drawings.{DrawsText}
 use Rattle.ulfm_echo.specs.Echoes.{echo_scripts}
 use Rattle.ulfm_explain.specs.Explained.{ExplainsText}
 use Rattle.ulfm_explore.specs.Shows.{IsShown, Tells}
-use Rattle.ulfm_filters.specs.Statuses.{CheckedWith, EchoedWith, MigratedWith, PrintsAt, PrintsWhole, RanWith, StepsRanWith, status_of, verdict_status}
+use Rattle.ulfm_filters.specs.Statuses.{CheckedWith, EchoedWith, MigratedWith, PrintsAt, PrintsWhole, RanWith, StepsRanWith, Streams, status_of, verdict_status}
 use Rattle.ulfm_migrate.specs.Migrations.{migrations}
 use Rattle.ulfm_programs.specs.declared.program.Program.{Program}
 use Rattle.ulfm_race.specs.declared.plan.Plan.{Plan}
@@ -26,22 +29,20 @@ use Rattle.ulfm_step_script.specs.StepScripts.{step_scripts}
 use Rattle.ulfm.specs.Drawn.{DrewWith, form_of}
 use Rattle.ulfm.specs.Explained.{ExplainedWith}
 use Rattle.ulfm.specs.Explored.{ExploredWith, at_status, most_states, whole_status}
+use Rattle.ulfm.specs.Observed.{ObservedWith}
 use Rattle.ulfm.specs.Races.{RacedWith, plan_of}
+use Rattle.ulfm.specs.Tasks.{DoneWith, IsInRange}
+use Rattle.ulfm_search.specs.declared.observing.Shown.{Shown}
+use Rattle.ulfm_search.specs.Shown.{Observes}
 use Rattle.ulfm_trace.specs.declared.verdict.CheckFault.TheVariants as fault
 use Rattle.ulfm_trace.specs.declared.verdict.Verdict.{Verdict}
 use Rattle.ulfm_trace.proofs.Checking.{checked_none}
-use Rattle.ulfm.proofs.OneAnswer.{same_asked, same_drawn, same_explored}
 
 -- a race whose lines were printed, or not all of them
 pub raced : (plan : Plan) (h : History FlagAnd) (replies : List (List (Reply FlagAnd))) (group text : List ℕ) (old new : KnownText) (status : ℕ)
     → IsOutcome plan h replies group → text ≡ race_text plan.rounds replies group → PrintsWhole text old new status → RacedWith plan old new status
 raced plan h replies group text old new status is lines shown =
     inl (record { history = h; replies = replies; group = group; answered = is; printed = subst (λ (t : List ℕ). PrintsWhole t old new status) lines shown })
-
--- the race that was run is the one that the words ask for
-pub raced_as : (words : Arguments) (o p : RaceOptions) (old new : KnownText) (status : ℕ) → AsksRace words o → AsksRace words p → RacedWith (plan_of o) old new status
-    → RacedWith (plan_of p) old new status
-raced_as words o p old new status a b ended = subst (λ (x : RaceOptions). RacedWith (plan_of x) old new status) (same_asked words o p a b) ended
 
 -- memory was refused before anything was read or printed: to a race
 pub race_ran_out : (plan : Plan) (out : KnownText) (status : ℕ) → status ≡ status_of (Err Memory) → RacedWith plan out out status
@@ -62,12 +63,6 @@ steps_ran_out known out status is = (Err Memory, is, ran_none step_scripts known
 
 pub checked_out : (known out : KnownText) (status : ℕ) → status ≡ status_of (Err Memory) → CheckedWith known known out out status
 checked_out known out status is = (Err fault.Memory, checked_none known, (is, keeps_start out))
-
--- the picture that was drawn is the one that the words ask for
-pub drew_as : (words : Arguments) (o p : DrawOptions) (looks : Looks) (known old new : KnownText) (status : ℕ) → AsksDraw words o → AsksDraw words p
-    → DrewWith (form_of o looks) known old new status → DrewWith (form_of p looks) known old new status
-drew_as words o p looks known old new status a b drew =
-    subst (λ (x : DrawOptions). DrewWith (form_of x looks) known old new status) (same_drawn words o p a b) drew
 
 -- memory was refused before anything was read or printed: to a picture
 pub draw_ran_out : (form : Form) (known out : KnownText) (status : ℕ) → status ≡ status_of (Err Memory) → DrewWith form known out out status
@@ -103,11 +98,6 @@ pub told_trace : (known old new : KnownText) (verdict : Verdict) (shown text : L
 told_trace known old new verdict shown text status explained is printed =
     inl (record { verdict = verdict; shown = shown; explained = explained; printed = subst (λ (t : List ℕ). PrintsAt (verdict_status verdict) t old new status) is printed })
 
--- the exploration that was made is the one that the words ask for
-pub explored_as : (A : Type 0) (words : Arguments) (o p : ExploreOptions) (old new : KnownText) (status : ℕ) → AsksExplore words o → AsksExplore words p
-    → ExploredWith A o old new status → ExploredWith A p old new status
-explored_as A words o p old new status a b ended = subst (λ (x : ExploreOptions). ExploredWith A x old new status) (same_explored words o p a b) ended
-
 -- memory was refused before anything was read or printed: to an exploration
 pub explore_ran_out : (A : Type 0) (options : ExploreOptions) (out : KnownText) (status : ℕ) → status ≡ status_of (Err Memory) → ExploredWith A options out out status
 explore_ran_out A options out status is = inr (inr (inl is), keeps_start out)
@@ -141,3 +131,51 @@ explored A program options old new shown text is_whole states status script outc
         printed = subst (λ (t : List ℕ). PrintsAt (whole_status is_whole) t old new (at_status is_whole status)) is (at_its is_whole text old new status printed);
       },
     )
+
+-- memory was refused before anything was read or printed: to a log
+pub observe_ran_out : (A : Type 0) (witness : Bool) (known out : KnownText) (status : ℕ) → status ≡ status_of (Err Memory) → ObservedWith A witness known out out status
+observe_ran_out A witness known out status is = inr (inr is, keeps_start out)
+
+-- a fault, at which nothing was printed
+pub observed_none : (A : Type 0) (witness : Bool) (known out : KnownText) (fault : RunFault) (status : ℕ) → status ≡ status_of (Err fault)
+    → ObservedWith A witness known out out status
+observed_none A witness known out (Line number kind) status is = inr (inl is, keeps_start out)
+observed_none A witness known out Memory status is = inr (inr is, keeps_start out)
+observed_none A witness known out Read status is = inr (inr is, keeps_start out)
+observed_none A witness known out Write status is = inr (inr is, keeps_start out)
+
+-- an answer that was printed, or not all of it
+pub observed_whole : (A : Type 0) (witness : Bool) (known old new : KnownText) (shown : Shown A) (text : List ℕ) (printed : ℕ) → Observes known witness shown → text ≡ shown.text.items
+    → PrintsWhole text old new printed → printed ≡ 0 → ObservedWith A witness known old new shown.status
+observed_whole A witness known old new shown text printed observed is (inl whole) zero_is =
+    inl (record { shown = shown; observed = observed; printed = inl (refl, subst (λ (t : List ℕ). Appends old new t) is whole.1) })
+observed_whole A witness known old new shown text printed observed is (inr part) zero_is = absurd (cc (part.0, zero_is))
+
+pub observed_part : (A : Type 0) (witness : Bool) (known old new : KnownText) (shown : Shown A) (text : List ℕ) (printed : ℕ) → Observes known witness shown → text ≡ shown.text.items
+    → PrintsWhole text old new printed → (printed ≡ 0 → ⊥) → ObservedWith A witness known old new printed
+observed_part A witness known old new shown text printed observed is (inl whole) other = absurd (other whole.0)
+observed_part A witness known old new shown text printed observed is (inr part) other =
+    inl (record { shown = shown; observed = observed; printed = inr (part.0, subst (λ (t : List ℕ). WritesPart old new t) is part.1) })
+
+-- memory was refused before anything was read or printed: to any task
+pub task_ran_out : (A : Type 0) (looks : Looks) (task : Task) (known out errors told : KnownText) (status : ℕ) → status ≡ status_of (Err Memory)
+    → DoneWith A looks task (record { input = known; output = out; errors = errors }) (record { input = known; output = out; errors = told }) status
+task_ran_out A looks (Run Calls) known out errors told status is = ran_out known out status is
+task_ran_out A looks (Run Echoed) known out errors told status is = echo_ran_out known out status is
+task_ran_out A looks (Run Steps) known out errors told status is = steps_ran_out known out status is
+task_ran_out A looks Migrate known out errors told status is = migrate_ran_out known out status is
+task_ran_out A looks (Check Trace) known out errors told status is = checked_out known out status is
+task_ran_out A looks (Check Explained) known out errors told status is = explain_ran_out known out status is
+task_ran_out A looks (Check (Log witness)) known out errors told status is = observe_ran_out A witness known out status is
+task_ran_out A looks (Draw options) known out errors told status is = draw_ran_out _ known out status is
+task_ran_out A looks (Explore options) known out errors told status is = explore_ran_out A options out status is
+task_ran_out A looks (Race options) known out errors told status is = race_ran_out (plan_of options) out status is
+
+-- a race that the words ask for has its options in their ranges
+pub asked_in_range : (words : Arguments) (task : Task) → Asks words task → IsInRange task
+asked_in_range words (Race options) asks = asks.1.2.in_range
+asked_in_range words (Run form) asks = tt
+asked_in_range words Migrate asks = tt
+asked_in_range words (Check form) asks = tt
+asked_in_range words (Draw options) asks = tt
+asked_in_range words (Explore options) asks = tt

@@ -1,23 +1,25 @@
 //! Does what a command line asks for, and gives the exit status that it ends with.
-ghost use Rattle.std.specs.Prelude.{◌≡◌, ◌≤◌, ◌⊎◌, false, map, true};
+ghost use Rattle.std.specs.Prelude.{◌≡◌, ◌≤◌, ◌⊎◌, ℕ, false, map, true};
 ghost use Rattle.std.specs.Io.KnownBytes.{Keeps};
-ghost use Rattle.ulfm_command.specs.CommandLines.{AsksCheck, AsksDraw, AsksEcho, AsksExplain, AsksExplore, AsksHelp, AsksMigrate, AsksRace, AsksRun, AsksSteps, AsksVersion, AsksNothing, is_in_range};
-ghost use Rattle.ulfm_command.specs.declared.asked.DrawOptions.{DrawOptions as DrawOptionsOf};
-ghost use Rattle.ulfm_command.specs.declared.asked.ExploreOptions.{ExploreOptions as ExploreOptionsOf};
-ghost use Rattle.ulfm_command.specs.declared.asked.RaceOptions.{RaceOptions as OptionsOf};
+ghost use Rattle.ulfm_command.specs.CommandLines.{Asks, AsksHelp, AsksNothing, AsksVersion, is_in_range};
+ghost use Rattle.ulfm_command.specs.declared.asked.{Task.{Task as TaskOf}, Task.TheVariants.{Check}};
 ghost use Rattle.ulfm_filters.specs.Notes.{bad_line, no_memory};
-ghost use Rattle.ulfm_filters.specs.Statuses.{CheckedWith, EchoedWith, MigratedWith, RanWith, StepsRanWith};
+ghost use Rattle.ulfm_filters.specs.Statuses.{Streams};
 ghost use Rattle.ulfm_script.specs.Written.{WritesPart};
 ghost use Rattle.ulfm.specs.Drawn.{DrewWith, form_of};
 ghost use Rattle.ulfm.specs.Explained.{ExplainedWith};
 ghost use Rattle.ulfm.specs.Explored.{ExploredWith, at_status};
+ghost use Rattle.ulfm.specs.Observed.{ObservedWith};
 ghost use Rattle.ulfm.specs.Races.{RacedWith, plan_of};
+ghost use Rattle.ulfm.specs.Tasks.{DoneWith, IsInRange, JudgedWith, filter_of, most_status, reads};
 
 use std::alloc::{Allocator, Global};
 use std::io::{Read, Write};
 use std::sync::Wait;
 use std::thread::Threads;
-use ulfm_command::{Asked, DrawOptions, ExploreOptions, RaceOptions, Reason, read_words};
+use ulfm_command::{
+    Asked, CheckForm, DrawOptions, ExploreOptions, RaceOptions, Reason, RunForm, Task, read_words,
+};
 use ulfm_draw::{Form, Looks, draw};
 use ulfm_explain::explain;
 use ulfm_explore::{ExploreFault, explore};
@@ -26,6 +28,7 @@ use ulfm_programs::{ProgramFault, read_program};
 use ulfm_race::{Gate, Plan, RaceFault, Turn, race};
 use ulfm_race_text::race_lines;
 use ulfm_script::RunFault;
+use ulfm_search::observe;
 use ulfm_trace::Verdict;
 
 /// The gate of the program, which lets every rank take every turn.
@@ -39,14 +42,14 @@ impl Gate for AlwaysOpen {
     fn answered(&self, _rank: u16) {}
 }
 
-/// Does what the words of a command line ask for, the program's own name first, and gives the exit status: 0 at success and
-/// after help or the version, 1 for a line fault or an illegal trace, 2 for a bad command line, 3 where memory, reading or writing failed, or a race was
-/// held; of an exploration also 4 where not all schedules were tried, and 5 where an outcome wasn't confirmed. What went wrong is told on `errors`, whose own faults are passed over, in one line. `explains` says that `errors` is a
-/// terminal: there the reason why a command line is bad stands above that line. `looks` are those that `output` has for rows in characters.
+/// Does what the words of a command line ask for, the program's own name first, and gives the exit status: 0 at success and after help or the version, 1
+/// for a line fault, an illegal trace or a log that isn't explained, 2 for a bad command line, 3 where memory, reading or writing failed, or a race was held; 4
+/// where not all schedules of an exploration were tried, or the search for a log's trace was given up; and 5 where an exploration's outcome wasn't confirmed.
+/// What went wrong is told on `errors`, whose own faults are passed over, in one line. `explains` says that `errors` is a terminal: there the reason why a
+/// command line is bad stands above that line. `looks` are those that `output` has for rows in characters.
 ///
 /// `alloc` serves the run of a script, the check of a trace and the lines of a race, `global` the reading of the words and the race itself. A race starts
 /// threads, and returns once they have ended.
-#[tactic(auto, using(crate::proofs::OneAnswer::run_is_no_echo, crate::proofs::OneAnswer::run_is_no_steps, crate::proofs::OneAnswer::run_is_no_check, crate::proofs::OneAnswer::run_is_no_explain, crate::proofs::OneAnswer::run_is_no_draw, crate::proofs::OneAnswer::run_is_no_race, crate::proofs::OneAnswer::echo_is_no_steps, crate::proofs::OneAnswer::echo_is_no_check, crate::proofs::OneAnswer::echo_is_no_explain, crate::proofs::OneAnswer::echo_is_no_draw, crate::proofs::OneAnswer::echo_is_no_race, crate::proofs::OneAnswer::steps_are_no_check, crate::proofs::OneAnswer::steps_are_no_explain, crate::proofs::OneAnswer::steps_are_no_draw, crate::proofs::OneAnswer::steps_are_no_race, crate::proofs::OneAnswer::check_is_no_explain, crate::proofs::OneAnswer::check_is_no_draw, crate::proofs::OneAnswer::check_is_no_race, crate::proofs::OneAnswer::explain_is_no_draw, crate::proofs::OneAnswer::explain_is_no_race, crate::proofs::OneAnswer::race_is_no_draw, crate::proofs::Ends::drew_as, crate::proofs::Ends::raced_as, crate::proofs::Ends::race_ran_out, crate::proofs::OneAnswer::run_is_no_explore, crate::proofs::OneAnswer::echo_is_no_explore, crate::proofs::OneAnswer::steps_are_no_explore, crate::proofs::OneAnswer::check_is_no_explore, crate::proofs::OneAnswer::explain_is_no_explore, crate::proofs::OneAnswer::draw_is_no_explore, crate::proofs::OneAnswer::race_is_no_explore, crate::proofs::Ends::explore_ran_out, crate::proofs::OneAnswer::run_is_no_migrate, crate::proofs::OneAnswer::echo_is_no_migrate, crate::proofs::OneAnswer::steps_are_no_migrate, crate::proofs::OneAnswer::check_is_no_migrate, crate::proofs::OneAnswer::explain_is_no_migrate, crate::proofs::OneAnswer::draw_is_no_migrate, crate::proofs::OneAnswer::explore_is_no_migrate, crate::proofs::OneAnswer::race_is_no_migrate))]
 pub fn answer<T: Threads + Wait + Sync, A: Allocator + Copy + Drop, R: Read, W: Write, E: Write>(
     rt: &T,
     alloc: A,
@@ -58,33 +61,14 @@ pub fn answer<T: Threads + Wait + Sync, A: Allocator + Copy + Drop, R: Read, W: 
     explains: bool,
     looks: Looks,
 ) -> u8
-    ensures status { ((options : ExploreOptionsOf) → AsksExplore (map (λ word. word.now) words.now) options → ⊥) → result ≤ 3 }
-    ensures explored { result ≤ 5 }
-    ensures run { AsksRun (map (λ word. word.now) words.now) → RanWith (R.remaining input.old) (R.remaining input.new)
-        (W.contents output.old) (W.contents output.new) result }
-    ensures echo { AsksEcho (map (λ word. word.now) words.now) → EchoedWith (R.remaining input.old) (R.remaining input.new)
-        (W.contents output.old) (W.contents output.new) result }
-    ensures steps { AsksSteps (map (λ word. word.now) words.now) → StepsRanWith (R.remaining input.old) (R.remaining input.new)
-        (W.contents output.old) (W.contents output.new) result }
-    ensures migrate { AsksMigrate (map (λ word. word.now) words.now) → MigratedWith (R.remaining input.old) (R.remaining input.new)
-        (W.contents output.old) (W.contents output.new) result }
-    ensures check { AsksCheck (map (λ word. word.now) words.now) → CheckedWith (R.remaining input.old) (R.remaining input.new)
-        (W.contents output.old) (W.contents output.new) result }
-    ensures explain { AsksExplain (map (λ word. word.now) words.now) → ExplainedWith (R.remaining input.old)
-        (W.contents output.old) (W.contents output.new) result }
-    ensures draw { (options : DrawOptionsOf) → AsksDraw (map (λ word. word.now) words.now) options → DrewWith (form_of options looks)
-        (R.remaining input.old) (W.contents output.old) (W.contents output.new) result }
-    ensures explore { (options : ExploreOptionsOf) → AsksExplore (map (λ word. word.now) words.now) options → ExploredWith A options
-        (W.contents output.old) (W.contents output.new) result }
-    ensures race { (options : OptionsOf) → AsksRace (map (λ word. word.now) words.now) options → RacedWith (plan_of options)
-        (W.contents output.old) (W.contents output.new) result }
+    ensures does { (task : TaskOf) → Asks (map (λ word. word.now) words.now) task → DoneWith A looks task
+        (record { input = R.remaining input.old; output = W.contents output.old; errors = E.contents errors.old })
+        (record { input = R.remaining input.new; output = W.contents output.new; errors = E.contents errors.new }) result }
+    // At most 3, but where the words ask for what may give more.
+    ensures status { (most : ℕ) → 3 ≤ most → ((task : TaskOf) → Asks (map (λ word. word.now) words.now) task → most_status task ≤ most) → result ≤ most }
     // Nothing else reads the input.
-    ensures other { (AsksRun (map (λ word. word.now) words.now) → ⊥) → (AsksSteps (map (λ word. word.now) words.now) → ⊥)
-        → (AsksCheck (map (λ word. word.now) words.now) → ⊥) → (AsksEcho (map (λ word. word.now) words.now) → ⊥)
-        → (AsksExplain (map (λ word. word.now) words.now) → ⊥)
-        → ((options : DrawOptionsOf) → AsksDraw (map (λ word. word.now) words.now) options → ⊥)
-        → ((options : ExploreOptionsOf) → AsksExplore (map (λ word. word.now) words.now) options → ⊥)
-        → (AsksMigrate (map (λ word. word.now) words.now) → ⊥) → Keeps (R.remaining input.old) (R.remaining input.new) }
+    ensures other { ((task : TaskOf) → Asks (map (λ word. word.now) words.now) task → reads task ≡ false)
+        → Keeps (R.remaining input.old) (R.remaining input.new) }
     ensures help { AsksHelp (map (λ word. word.now) words.now) ⊎ AsksVersion (map (λ word. word.now) words.now) → (result ≡ 0) ⊎ (result ≡ 3) }
     // 3 where memory was refused.
     ensures bad { AsksNothing (map (λ word. word.now) words.now) → ((result ≡ 2) ⊎ (result ≡ 3))
@@ -94,18 +78,90 @@ pub fn answer<T: Threads + Wait + Sync, A: Allocator + Copy + Drop, R: Read, W: 
         → WritesPart (E.contents errors.old) (E.contents errors.new) bad_line ⊎ WritesPart (E.contents errors.old) (E.contents errors.new) no_memory }
 {
     match read_words(global, words) {
-        Asked::Run => run_filter(alloc, Filter::Calls, input, output, errors),
-        Asked::RunEchoed => run_filter(alloc, Filter::Echoed, input, output, errors),
-        Asked::RunSteps => run_filter(alloc, Filter::Steps, input, output, errors),
-        Asked::Migrate => run_filter(alloc, Filter::Migrate, input, output, errors),
-        Asked::Check => run_filter(alloc, Filter::Check, input, output, errors),
-        Asked::Explain => run_explain(alloc, input, output, errors),
-        Asked::Draw(options) => run_draw(alloc, form_of(options, looks), input, output, errors),
-        Asked::Explore(options) => run_explore(alloc, options, input, output, errors),
-        Asked::Race(options) => run_race(rt, alloc, global, options, output, errors),
+        Asked::Task(task) => perform(rt, alloc, global, task, input, output, errors, looks),
         Asked::Shown(text) => print_text(text.as_bytes(), output, errors),
         Asked::Bad(reason) => tell_bad(&reason, errors, explains),
         Asked::Memory => tell_fault(RunFault::Memory, errors),
+    }
+}
+
+/// Does a task, and gives the exit status.
+fn perform<T: Threads + Wait + Sync, A: Allocator + Copy + Drop, R: Read, W: Write, E: Write>(
+    rt: &T,
+    alloc: A,
+    global: Global,
+    task: Task,
+    input: &mut R,
+    output: &mut W,
+    errors: &mut E,
+    looks: Looks,
+) -> u8
+    requires { IsInRange task }
+    ensures done { DoneWith A looks task
+        (record { input = R.remaining input.old; output = W.contents output.old; errors = E.contents errors.old })
+        (record { input = R.remaining input.new; output = W.contents output.new; errors = E.contents errors.new }) result }
+    ensures status { result ≤ most_status task }
+    ensures kept { reads task ≡ false → Keeps (R.remaining input.old) (R.remaining input.new) }
+{
+    match task {
+        Task::Run(form) => run_filter(alloc, filter_of(form), input, output, errors),
+        Task::Migrate => run_filter(alloc, Filter::Migrate, input, output, errors),
+        Task::Check(form) => run_check(alloc, form, input, output, errors),
+        Task::Draw(options) => run_draw(alloc, form_of(options, looks), input, output, errors),
+        Task::Explore(options) => run_explore(alloc, options, input, output, errors),
+        Task::Race(options) => run_race(rt, alloc, global, options, output, errors),
+    }
+}
+
+/// The filter that runs a script of this form.
+fn filter_of(form: RunForm) -> Filter
+    ensures { result ≡ filter_of form }
+{
+    match form {
+        RunForm::Calls => Filter::Calls,
+        RunForm::Echoed => Filter::Echoed,
+        RunForm::Steps => Filter::Steps,
+    }
+}
+
+/// Judges the trace or the log of the input, and prints the answer.
+fn run_check<A: Allocator + Copy + Drop, R: Read, W: Write, E: Write>(
+    alloc: A,
+    form: CheckForm,
+    input: &mut R,
+    output: &mut W,
+    errors: &mut E,
+) -> u8
+    ensures judged { JudgedWith A form
+        (record { input = R.remaining input.old; output = W.contents output.old; errors = E.contents errors.old })
+        (record { input = R.remaining input.new; output = W.contents output.new; errors = E.contents errors.new }) result }
+    ensures status { result ≤ most_status (Check form) }
+{
+    match form {
+        CheckForm::Trace => run_filter(alloc, Filter::Check, input, output, errors),
+        CheckForm::Explained => run_explain(alloc, input, output, errors),
+        CheckForm::Log { witness } => run_observe(alloc, witness, input, output, errors),
+    }
+}
+
+/// Judges the log of the input, and prints the answer, with the trace that explains it where that is wanted.
+#[tactic(auto, using(crate::proofs::Ends::observed_none))]
+fn run_observe<A: Allocator + Copy + Drop, R: Read, W: Write, E: Write>(
+    alloc: A,
+    witness: bool,
+    input: &mut R,
+    output: &mut W,
+    errors: &mut E,
+) -> u8
+    ensures status { result ≤ 4 }
+    ensures observed { ObservedWith A witness (R.remaining input.old) (W.contents output.old) (W.contents output.new) result }
+{
+    match observe(alloc, input, witness) {
+        Ok(shown) => {
+            let status = print_text(&shown.text, output, errors);
+            if status == 0 { shown.status } else { status }
+        }
+        Err(fault) => tell_fault(fault, errors),
     }
 }
 

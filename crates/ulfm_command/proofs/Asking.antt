@@ -3,7 +3,9 @@ use Rattle.std.proofs.Common.{◌≡◌, refl, codes, true, false, List, [], ◌
 use Rattle.clap.specs.Words.{fault_of, is_simple_and_free, is_simple}
 use Rattle.clap.specs.declared.error.kind.ErrorKind.TheVariants.{MissingRequiredArgument, MissingSubcommand, UnknownArgument, InvalidSubcommand, ValueValidation}
 use Rattle.clap.proofs.OnLiterals.{clap_on_literals}
-use Rattle.ulfm_command.specs.CommandLines.{AsksCheck, AsksDraw, AsksEcho, AsksExplain, AsksExplore, AsksHelp, AsksMigrate, AsksRun, AsksSteps, AsksVersion, ulfm}
+use Rattle.ulfm_command.specs.declared.asked.Task.TheVariants.{Run, Migrate, Check, Draw, Explore}
+use Rattle.ulfm_command.specs.declared.asked.{RunForm.TheVariants.{Calls, Echoed, Steps}, CheckForm.TheVariants.{Trace, Explained, Log}}
+use Rattle.ulfm_command.specs.CommandLines.{Asks, AsksHelp, AsksVersion, ulfm}
 
 -- the command is one whose faults and matches the command line crate tells
 pub is_told : is_simple_and_free ulfm ≡ true
@@ -15,45 +17,51 @@ unfolding clap_on_literals
 is_matched = refl
 
 -- `ulfm run`
-run_is_run : (name : List ℕ) → AsksRun (name ∷ codes "run" ∷ [])
+run_is_run : (name : List ℕ) → Asks (name ∷ codes "run" ∷ []) (Run Calls)
 unfolding clap_on_literals
-run_is_run name = (refl, record { calls = record { rows = _; is_run = refl; steps_is = refl }; echo_is = refl })
+run_is_run name = (refl, (_, refl, refl))
 
 -- `ulfm run --echo`
-echo_is_echo : (name : List ℕ) → AsksEcho (name ∷ codes "run" ∷ codes "--echo" ∷ [])
+echo_is_echo : (name : List ℕ) → Asks (name ∷ codes "run" ∷ codes "--echo" ∷ []) (Run Echoed)
 unfolding clap_on_literals
-echo_is_echo name = (refl, record { calls = record { rows = _; is_run = refl; steps_is = refl }; echo_is = refl })
+echo_is_echo name = (refl, (_, refl, refl))
 
 -- `ulfm run --steps`
-steps_are_steps : (name : List ℕ) → AsksSteps (name ∷ codes "run" ∷ codes "--steps" ∷ [])
+steps_are_steps : (name : List ℕ) → Asks (name ∷ codes "run" ∷ codes "--steps" ∷ []) (Run Steps)
 unfolding clap_on_literals
-steps_are_steps name = (refl, record { rows = _; is_run = refl; steps_is = refl })
+steps_are_steps name = (refl, (_, refl, refl))
 
 -- `ulfm migrate`
-migrate_is_migrate : (name : List ℕ) → AsksMigrate (name ∷ codes "migrate" ∷ [])
+migrate_is_migrate : (name : List ℕ) → Asks (name ∷ codes "migrate" ∷ []) Migrate
 unfolding clap_on_literals
-migrate_is_migrate name = (refl, (_, refl))
+migrate_is_migrate name = (refl, (_, refl, tt))
 
 -- `ulfm check`
-check_is_check : (name : List ℕ) → AsksCheck (name ∷ codes "check" ∷ [])
+check_is_check : (name : List ℕ) → Asks (name ∷ codes "check" ∷ []) (Check Trace)
 unfolding clap_on_literals
-check_is_check name = (refl, record { rows = _; is_check = refl; explain_is = refl })
+check_is_check name = (refl, (_, refl, refl))
 
 -- `ulfm check --explain`
-explain_is_explain : (name : List ℕ) → AsksExplain (name ∷ codes "check" ∷ codes "--explain" ∷ [])
+explain_is_explain : (name : List ℕ) → Asks (name ∷ codes "check" ∷ codes "--explain" ∷ []) (Check Explained)
 unfolding clap_on_literals
-explain_is_explain name = (refl, record { rows = _; is_check = refl; explain_is = refl })
+explain_is_explain name = (refl, (_, refl, refl))
+
+-- `ulfm check --observed`, `ulfm check --observed --witness`
+observed_is_observed : (name : List ℕ) → Asks (name ∷ codes "check" ∷ codes "--observed" ∷ []) (Check (Log false))
+    × Asks (name ∷ codes "check" ∷ codes "--observed" ∷ codes "--witness" ∷ []) (Check (Log true))
+unfolding clap_on_literals
+observed_is_observed name = ((refl, (_, refl, refl)), (refl, (_, refl, refl)))
 
 -- `ulfm draw`, `ulfm draw --text`, `ulfm draw --text --ascii`
-draw_is_draw : (name : List ℕ) → AsksDraw (name ∷ codes "draw" ∷ []) (record { text = false; ascii = false })
-    × AsksDraw (name ∷ codes "draw" ∷ codes "--text" ∷ []) (record { text = true; ascii = false })
-    × AsksDraw (name ∷ codes "draw" ∷ codes "--text" ∷ codes "--ascii" ∷ []) (record { text = true; ascii = true })
+draw_is_draw : (name : List ℕ) → Asks (name ∷ codes "draw" ∷ []) (Draw (record { text = false; ascii = false }))
+    × Asks (name ∷ codes "draw" ∷ codes "--text" ∷ []) (Draw (record { text = true; ascii = false }))
+    × Asks (name ∷ codes "draw" ∷ codes "--text" ∷ codes "--ascii" ∷ []) (Draw (record { text = true; ascii = true }))
 unfolding clap_on_literals
 draw_is_draw name =
     ((refl, (_, refl, record { text = refl; ascii = refl })), (refl, (_, refl, record { text = refl; ascii = refl })), (refl, (_, refl, record { text = refl; ascii = refl })))
 
 -- `ulfm explore`
-explore_is_explore : (name : List ℕ) → AsksExplore (name ∷ codes "explore" ∷ []) (record { most = None; outcome = None })
+explore_is_explore : (name : List ℕ) → Asks (name ∷ codes "explore" ∷ []) (Explore (record { most = None; outcome = None }))
 unfolding clap_on_literals
 explore_is_explore name = (refl, (_, refl, record { most = refl; outcome = refl }))
 

@@ -1,6 +1,6 @@
 -- The command lines of the program, and what each of them asks for.
 use Rattle.std.specs.Prelude.{◌≡◌, ◌⊎◌, ◌<◌, ◌^◌, ◌&&◌, ℕ, Bool, List, [], ◌∷◌, ⊤}
-use Rattle.std.specs.Prelude.{codes, true, false, pos, nat_le, nat_lt, Option, Some, None, Result, Ok, Err}
+use Rattle.std.specs.Prelude.{codes, true, false, pos, nat_le, nat_lt, Option, Some, None, Result, Ok, Err, if◌then◌else◌}
 use Rattle.std.specs.{Option.{option_map_or}, Str.{bytes_eq}}
 use Rattle.std.specs.Str.Parse.{IsNumeral, digits_value, without_leading_plus}
 use Rattle.clap.specs.Words.{App, IsAmong, Row, Rule, Text, app_of, fault_of, new_app, new_rule, one_of, subcommand_of, with_rule, with_subcommand}
@@ -11,7 +11,10 @@ use Rattle.clap.specs.declared.builder.value_parser.ValueParser.{ValueParser}
 use Rattle.clap.specs.declared.builder.value_parser.ValueParser.TheVariants as vp
 use Rattle.clap.specs.declared.error.kind.ErrorKind.TheVariants.{DisplayHelp, DisplayVersion}
 use Rattle.ulfm_command.specs.declared.asked.Asked.{Asked}
-use Rattle.ulfm_command.specs.declared.asked.Asked.TheVariants.{Run, RunEchoed, RunSteps, Migrate, Check, Explain, Draw, Explore, Race, Shown, Bad, Memory}
+use Rattle.ulfm_command.specs.declared.asked.Asked.TheVariants as asked
+use Rattle.ulfm_command.specs.declared.asked.{Task.{Task}, Task.TheVariants.{Run, Migrate, Check, Draw, Explore, Race}}
+use Rattle.ulfm_command.specs.declared.asked.{RunForm.{RunForm}, RunForm.TheVariants.{Calls, Echoed, Steps}}
+use Rattle.ulfm_command.specs.declared.asked.{CheckForm.{CheckForm}, CheckForm.TheVariants.{Trace, Explained, Log}}
 use Rattle.ulfm_command.specs.declared.asked.{DrawOptions.{DrawOptions}, ExploreOptions.{ExploreOptions}, RaceOptions.{RaceOptions}}
 
 -- the words of a command line, the program's own name first
@@ -54,9 +57,16 @@ migrate = new_app (codes "migrate")
 abbrev pub explain_rule : Rule
 explain_rule = record (new_rule (codes "explain")) { long = Some (codes "explain"); action = Some SetTrue }
 
--- the command that judges a trace
+-- the options that say that a log of calls and replies is to be judged, and that the trace is wanted which explains it
+abbrev pub observed_rule : Rule
+observed_rule = record (new_rule (codes "observed")) { long = Some (codes "observed"); action = Some SetTrue }
+
+abbrev pub witness_rule : Rule
+witness_rule = record (new_rule (codes "witness")) { long = Some (codes "witness"); action = Some SetTrue }
+
+-- the command that judges a trace, or a log
 abbrev pub check : App
-check = with_rule (new_app (codes "check")) explain_rule
+check = with_rule (with_rule (with_rule (new_app (codes "check")) explain_rule) observed_rule) witness_rule
 
 -- the options that say that a picture is wanted in characters, and in ASCII alone
 abbrev pub text_rule : Rule
@@ -177,55 +187,23 @@ Named = Option (Text × List Row)
 abbrev pub has_flag : Text → List Row → Bool
 has_flag name rows = option_map_or (λ text. bytes_eq text (codes "true")) (one_of name rows) false
 
--- a run of a script was named, of single steps or of calls
-pub record NamesRunOf (named : Named) (steps : Bool) : Type 0 where
-  pub rows : List Row
-  pub is_run : named ≡ Some (codes "run", rows)
-  pub steps_is : has_flag (codes "steps") rows ≡ steps
+-- how a script is to be run, by the options
+abbrev pub run_form : List Row → RunForm
+run_form rows = if has_flag (codes "steps") rows then Steps else (if has_flag (codes "echo") rows then Echoed else Calls)
 
--- a run of a call script was named, with its calls printed or without
-pub record NamesCallsOf (named : Named) (echo : Bool) : Type 0 where
-  pub calls : NamesRunOf named false
-  pub echo_is : has_flag (codes "echo") calls.rows ≡ echo
+-- what is to be judged, and how: a trace, which may be explained, or a log, whose witness may be wanted
+abbrev pub judged_form : Bool → Bool → Bool → Option CheckForm
+judged_form observed explain witness =
+    if observed then (if explain then None else Some (Log witness)) else (if witness then None else Some (if explain then Explained else Trace))
 
--- a run of a call script was named
-abbrev pub NamesRun : Named → Type 0
-NamesRun named = NamesCallsOf named false
-
--- a run of a call script was named, and its calls are to be printed
-abbrev pub NamesEcho : Named → Type 0
-NamesEcho named = NamesCallsOf named true
-
--- a run of a step script was named, whose trace has its calls anyhow
-abbrev pub NamesSteps : Named → Type 0
-NamesSteps named = NamesRunOf named true
-
--- the migration of a script was named
-abbrev pub NamesMigrate : Named → Type 0
-NamesMigrate named = (rows : List Row) × (named ≡ Some (codes "migrate", rows))
-
--- the judgement of a trace was named, with its reason explained or without
-pub record NamesCheckOf (named : Named) (explain : Bool) : Type 0 where
-  pub rows : List Row
-  pub is_check : named ≡ Some (codes "check", rows)
-  pub explain_is : has_flag (codes "explain") rows ≡ explain
-
--- the judgement of a trace was named
-abbrev pub NamesCheck : Named → Type 0
-NamesCheck named = NamesCheckOf named false
-
--- the judgement of a trace was named, and its reason is to be explained
-abbrev pub NamesExplain : Named → Type 0
-NamesExplain named = NamesCheckOf named true
+-- the same by the options; none where they don't go together
+abbrev pub check_form : List Row → Option CheckForm
+check_form rows = judged_form (has_flag (codes "observed") rows) (has_flag (codes "explain") rows) (has_flag (codes "witness") rows)
 
 -- the options of a picture, as they are given
 pub record IsDrawRead (rows : List Row) (options : DrawOptions) : Type 0 where
   pub text : has_flag (codes "text") rows ≡ options.text
   pub ascii : has_flag (codes "ascii") rows ≡ options.ascii
-
--- a picture of a trace with these options was named
-abbrev pub NamesDraw : Named → DrawOptions → Type 0
-NamesDraw named options = (rows : List Row) × (named ≡ Some (codes "draw", rows)) × IsDrawRead rows options
 
 -- the options of an exploration, as they are given
 pub record IsExploreOf (rows : List Row) (options : ExploreOptions) : Type 0 where
@@ -237,67 +215,38 @@ abbrev pub IsExploreRead : List Row → Option ExploreOptions → Type 0
 IsExploreRead rows None = (options : ExploreOptions) → IsExploreOf rows options → ⊥
 IsExploreRead rows (Some options) = IsExploreOf rows options
 
--- an exploration with these options was named
-abbrev pub NamesExplore : Named → ExploreOptions → Type 0
-NamesExplore named options = (rows : List Row) × (named ≡ Some (codes "explore", rows)) × IsExploreOf rows options
+-- the word that names a task
+abbrev pub verb : Task → Text
+verb (Run form) = codes "run"
+verb Migrate = codes "migrate"
+verb (Check form) = codes "check"
+verb (Draw options) = codes "draw"
+verb (Explore options) = codes "explore"
+verb (Race options) = codes "race"
 
--- a race with these options was named
-abbrev pub NamesRace : Named → RaceOptions → Type 0
-NamesRace named options = (rows : List Row) × (named ≡ Some (codes "race", rows)) × IsRaceOf rows options
+-- the options of a task are given so
+abbrev pub IsGiven : List Row → Task → Type 0
+IsGiven rows (Run form) = run_form rows ≡ form
+IsGiven rows Migrate = ⊤
+IsGiven rows (Check form) = check_form rows ≡ Some form
+IsGiven rows (Draw options) = IsDrawRead rows options
+IsGiven rows (Explore options) = IsExploreOf rows options
+IsGiven rows (Race options) = IsRaceOf rows options
 
--- the command that was named asks for this
+-- the command that was named is for this task, with its options
+abbrev pub Names : Named → Task → Type 0
+Names named task = (rows : List Row) × (named ≡ Some (verb task, rows)) × IsGiven rows task
+
+-- the command that was named asks for this; it is bad where it is for no task
 abbrev pub IsEntered : Named → Asked → Type 0
-IsEntered named Run = NamesRun named
-IsEntered named RunEchoed = NamesEcho named
-IsEntered named RunSteps = NamesSteps named
-IsEntered named Migrate = NamesMigrate named
-IsEntered named Check = NamesCheck named
-IsEntered named Explain = NamesExplain named
-IsEntered named (Draw options) = NamesDraw named options
-IsEntered named (Explore options) = NamesExplore named options
-IsEntered named (Race options) = NamesRace named options
-IsEntered named (Bad reason) =
-    (NamesRun named → ⊥) × (NamesSteps named → ⊥) × (NamesCheck named → ⊥) × ((options : RaceOptions) → NamesRace named options → ⊥)
-    × ((options : DrawOptions) → NamesDraw named options → ⊥) × (NamesEcho named → ⊥) × (NamesExplain named → ⊥)
-    × ((options : ExploreOptions) → NamesExplore named options → ⊥) × (NamesMigrate named → ⊥)
-IsEntered named (Shown text) = ⊥
-IsEntered named Memory = ⊥
+IsEntered named (asked.Task task) = Names named task
+IsEntered named (asked.Bad reason) = (task : Task) → Names named task → ⊥
+IsEntered named (asked.Shown text) = ⊥
+IsEntered named asked.Memory = ⊥
 
--- the command line crate finds no fault in the words, and they name a run of a call script
-abbrev pub AsksRun : Arguments → Type 0
-AsksRun words = (fault_of ulfm words ≡ []) × NamesRun (subcommand_of ulfm words)
-
--- it finds no fault in them, and they name a run of a call script whose calls are to be printed
-abbrev pub AsksEcho : Arguments → Type 0
-AsksEcho words = (fault_of ulfm words ≡ []) × NamesEcho (subcommand_of ulfm words)
-
--- it finds no fault in them, and they name a run of a step script
-abbrev pub AsksSteps : Arguments → Type 0
-AsksSteps words = (fault_of ulfm words ≡ []) × NamesSteps (subcommand_of ulfm words)
-
--- it finds no fault in them, and they name the migration of a script
-abbrev pub AsksMigrate : Arguments → Type 0
-AsksMigrate words = (fault_of ulfm words ≡ []) × NamesMigrate (subcommand_of ulfm words)
-
--- it finds no fault in them, and they name the judgement of a trace
-abbrev pub AsksCheck : Arguments → Type 0
-AsksCheck words = (fault_of ulfm words ≡ []) × NamesCheck (subcommand_of ulfm words)
-
--- it finds no fault in them, and they name the judgement of a trace whose reason is to be explained
-abbrev pub AsksExplain : Arguments → Type 0
-AsksExplain words = (fault_of ulfm words ≡ []) × NamesExplain (subcommand_of ulfm words)
-
--- it finds no fault in them, and they name a picture of a trace with these options
-abbrev pub AsksDraw : Arguments → DrawOptions → Type 0
-AsksDraw words options = (fault_of ulfm words ≡ []) × NamesDraw (subcommand_of ulfm words) options
-
--- it finds no fault in them, and they name an exploration with these options
-abbrev pub AsksExplore : Arguments → ExploreOptions → Type 0
-AsksExplore words options = (fault_of ulfm words ≡ []) × NamesExplore (subcommand_of ulfm words) options
-
--- it finds no fault in them, and they name a race with these options
-abbrev pub AsksRace : Arguments → RaceOptions → Type 0
-AsksRace words options = (fault_of ulfm words ≡ []) × NamesRace (subcommand_of ulfm words) options
+-- the command line crate finds no fault in the words, and they ask for this task
+abbrev pub Asks : Arguments → Task → Type 0
+Asks words task = (fault_of ulfm words ≡ []) × Names (subcommand_of ulfm words) task
 
 -- it finds that help is asked for, and nothing else
 abbrev pub AsksHelp : Arguments → Type 0
@@ -309,43 +258,19 @@ AsksVersion words = fault_of ulfm words ≡ DisplayVersion ∷ []
 
 -- there is nothing that the words ask for
 pub record AsksNothing (words : Arguments) : Type 0 where
-  pub no_run : AsksRun words → ⊥
-  pub no_echo : AsksEcho words → ⊥
-  pub no_steps : AsksSteps words → ⊥
-  pub no_migrate : AsksMigrate words → ⊥
-  pub no_check : AsksCheck words → ⊥
-  pub no_explain : AsksExplain words → ⊥
-  pub no_draw : (options : DrawOptions) → AsksDraw words options → ⊥
-  pub no_explore : (options : ExploreOptions) → AsksExplore words options → ⊥
-  pub no_race : (options : RaceOptions) → AsksRace words options → ⊥
+  pub no_task : (task : Task) → Asks words task → ⊥
   pub no_help : IsAmong DisplayHelp (fault_of ulfm words) → ⊥
   pub no_version : IsAmong DisplayVersion (fault_of ulfm words) → ⊥
 
 -- the words were read as bad: there is nothing that they ask for alone
 pub record IsRefused (words : Arguments) : Type 0 where
-  pub no_run : AsksRun words → ⊥
-  pub no_echo : AsksEcho words → ⊥
-  pub no_steps : AsksSteps words → ⊥
-  pub no_migrate : AsksMigrate words → ⊥
-  pub no_check : AsksCheck words → ⊥
-  pub no_explain : AsksExplain words → ⊥
-  pub no_draw : (options : DrawOptions) → AsksDraw words options → ⊥
-  pub no_explore : (options : ExploreOptions) → AsksExplore words options → ⊥
-  pub no_race : (options : RaceOptions) → AsksRace words options → ⊥
+  pub no_task : (task : Task) → Asks words task → ⊥
   pub no_help : AsksHelp words → ⊥
   pub no_version : AsksVersion words → ⊥
 
 -- the words were read as asking for this
 abbrev pub IsAskedBy : Arguments → Asked → Type 0
-IsAskedBy words Run = AsksRun words
-IsAskedBy words RunEchoed = AsksEcho words
-IsAskedBy words RunSteps = AsksSteps words
-IsAskedBy words Migrate = AsksMigrate words
-IsAskedBy words Check = AsksCheck words
-IsAskedBy words Explain = AsksExplain words
-IsAskedBy words (Draw options) = AsksDraw words options
-IsAskedBy words (Explore options) = AsksExplore words options
-IsAskedBy words (Race options) = AsksRace words options
-IsAskedBy words (Shown text) = IsAmong DisplayHelp (fault_of ulfm words) ⊎ IsAmong DisplayVersion (fault_of ulfm words)
-IsAskedBy words (Bad reason) = IsRefused words
-IsAskedBy words Memory = ⊤
+IsAskedBy words (asked.Task task) = Asks words task
+IsAskedBy words (asked.Shown text) = IsAmong DisplayHelp (fault_of ulfm words) ⊎ IsAmong DisplayVersion (fault_of ulfm words)
+IsAskedBy words (asked.Bad reason) = IsRefused words
+IsAskedBy words asked.Memory = ⊤

@@ -29,6 +29,31 @@ impl RaceOptions {
     }
 }
 
+/// Which script is to be run, and how.
+#[derive(Clone, Copy, Debug, PartialEq, Eq)]
+pub enum RunForm {
+    /// One of calls.
+    Calls,
+    /// One of calls, each of which is printed before its reply.
+    Echoed,
+    /// One of single steps.
+    Steps,
+}
+
+/// What is to be judged, and how.
+#[derive(Clone, Copy, Debug, PartialEq, Eq)]
+pub enum CheckForm {
+    /// A trace.
+    Trace,
+    /// A trace, and where it is illegal the reason is to be explained.
+    Explained,
+    /// A log of calls and replies.
+    Log {
+        /// The trace that explains it is wanted.
+        witness: bool,
+    },
+}
+
 /// The options of a picture, as `ulfm draw --text` gives them.
 #[derive(Clone, Copy, Debug, PartialEq, Eq)]
 pub struct DrawOptions {
@@ -56,6 +81,8 @@ pub enum Reason {
     NoCommand,
     /// The rank that is to be declared isn't one of the race's.
     NoSuchRank,
+    /// A witness is wanted of a trace, or an explanation of a log.
+    NotOfAllForms,
 }
 
 impl fmt::Display for Reason {
@@ -66,31 +93,35 @@ impl fmt::Display for Reason {
             Reason::NoSuchRank => f.write_str(
                 "error: the rank of '--fail <R>' must be below '--ranks <N>'\n",
             ),
+            Reason::NotOfAllForms => f.write_str(
+                "error: '--witness' goes with '--observed', and '--explain' goes without it\n",
+            ),
         }
     }
+}
+
+/// What the program is to do.
+#[derive(Clone, Copy, Debug, PartialEq, Eq)]
+pub enum Task {
+    /// Run a script.
+    Run(RunForm),
+    /// Write a script of calls of the first version as one of the second.
+    Migrate,
+    /// Judge a trace, or a log of calls and replies.
+    Check(CheckForm),
+    /// Draw a trace.
+    Draw(DrawOptions),
+    /// Explore a program of ranks.
+    Explore(ExploreOptions),
+    /// Run a race, whose options are in their ranges.
+    Race(RaceOptions),
 }
 
 /// What a command line asks for.
 #[derive(Drop)]
 pub enum Asked {
-    /// A script of calls is to be run.
-    Run,
-    /// A script of calls is to be run, and each call printed before its reply.
-    RunEchoed,
-    /// A script of single steps is to be run.
-    RunSteps,
-    /// A script of calls of the first version is to be written as one of the second.
-    Migrate,
-    /// A trace is to be judged.
-    Check,
-    /// A trace is to be judged, and where it is illegal the reason is to be explained.
-    Explain,
-    /// A trace is to be drawn.
-    Draw(DrawOptions),
-    /// A program of ranks is to be explored.
-    Explore(ExploreOptions),
-    /// A race is to be run, whose options are in their ranges.
-    Race(RaceOptions),
+    /// The program is to do this.
+    Task(Task),
     /// This text is to be shown: of help, or the version.
     Shown(String),
     /// Nothing, since the line is bad.

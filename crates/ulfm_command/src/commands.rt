@@ -1,7 +1,7 @@
 //! The program's commands and their options, as the command line crate takes them.
 ghost use Rattle.std.specs.Prelude.{◌≡◌, IfOk, false};
 ghost use Rattle.clap.specs.Words.{rule_of};
-ghost use Rattle.ulfm_command.specs.CommandLines.{IsCommand, ascii_rule, check, draw, drawers, echo_rule, explain_rule, explore, explorers, fail_rule, migrate, migrators, most_rule, number_rule, outcome_rule, race, ranks_rule, readers, rounds_rule, run, runners, steps_rule, text_rule, ulfm};
+ghost use Rattle.ulfm_command.specs.CommandLines.{IsCommand, ascii_rule, check, draw, drawers, echo_rule, explain_rule, explore, explorers, fail_rule, migrate, migrators, most_rule, number_rule, observed_rule, outcome_rule, race, ranks_rule, readers, rounds_rule, run, runners, steps_rule, text_rule, ulfm, witness_rule};
 
 use crate::texts::{
     CHECK_HELP, DRAW_HELP, EXPLORE_HELP, MIGRATE_HELP, RACE_HELP, RUN_HELP, ULFM_HELP, VERSION,
@@ -128,6 +128,28 @@ fn explain_option<'a>(global: Global) -> Arg<'a>
         .help("Says of an illegal trace what is wrong, and what would have been legal")
 }
 
+/// That a log is to be judged.
+fn observed_option<'a>(global: Global) -> Arg<'a>
+    ensures rule { rule_of result ≡ observed_rule }
+    ensures local { result.global ≡ false }
+{
+    Arg::new(global, "observed")
+        .long("observed")
+        .action(ArgAction::SetTrue)
+        .help("Judges a log of calls and replies: whether some legal trace explains it")
+}
+
+/// That the trace is wanted which explains a log.
+fn witness_option<'a>(global: Global) -> Arg<'a>
+    ensures rule { rule_of result ≡ witness_rule }
+    ensures local { result.global ≡ false }
+{
+    Arg::new(global, "witness")
+        .long("witness")
+        .action(ArgAction::SetTrue)
+        .help("With --observed, prints the trace that explains the log, too")
+}
+
 /// `ulfm check`.
 fn check_command<'a>(global: Global) -> Result<Command<'a>, AllocError>
     ensures { IfOk result (IsCommand check) }
@@ -137,7 +159,9 @@ fn check_command<'a>(global: Global) -> Result<Command<'a>, AllocError>
             "Judges the trace on standard input: whether it is legal, or which line can't be, and why",
         )
         .after_help(CHECK_HELP)
-        .arg(explain_option(global))
+        .arg(explain_option(global))?
+        .arg(observed_option(global))?
+        .arg(witness_option(global))
 }
 
 /// That a picture is wanted in characters.

@@ -6,6 +6,8 @@ mod commands;
 pub mod reading;
 mod texts;
 
-pub use asked::{Asked, DrawOptions, ExploreOptions, RaceOptions, Reason};
+pub use asked::{
+    Asked, CheckForm, DrawOptions, ExploreOptions, RaceOptions, Reason, RunForm, Task,
+};
 pub use reading::read_words;
 pub use texts::VERSION;

@@ -1,9 +1,11 @@
 //! What the words of a command line ask for.
 ghost use Rattle.std.specs.Prelude.{◌≡◌, IfOk, Some, codes, map};
 ghost use Rattle.clap.specs.Words.{FailsBy, fault_of, found_of, one_of, rows_of, subcommand_of, subcommand_rows_of};
-ghost use Rattle.ulfm_command.specs.CommandLines.{IsAskedBy, IsCountRead, IsDrawRead, IsEntered, IsExploreRead, IsNumberRead, IsRaceRead, has_flag, ulfm};
+ghost use Rattle.ulfm_command.specs.CommandLines.{IsAskedBy, IsCountRead, IsDrawRead, IsEntered, IsExploreRead, IsNumberRead, IsRaceRead, check_form, has_flag, judged_form, run_form, ulfm};
 
-use crate::asked::{Asked, DrawOptions, ExploreOptions, RaceOptions, Reason};
+use crate::asked::{
+    Asked, CheckForm, DrawOptions, ExploreOptions, RaceOptions, Reason, RunForm, Task,
+};
 use crate::commands::ulfm_command;
 use clap::error::ErrorKind;
 use clap::{ArgMatches, Error};
@@ -46,21 +48,24 @@ fn read_command(matches: &ArgMatches<'_>) -> Asked
     match matches.subcommand() {
         Some((name, options)) => {
             if name == "run" {
-                read_run(options)
+                Asked::Task(Task::Run(read_run(options)))
             } else if name == "migrate" {
-                Asked::Migrate
+                Asked::Task(Task::Migrate)
             } else if name == "check" {
-                read_check(options)
+                match read_check(options) {
+                    Some(form) => Asked::Task(Task::Check(form)),
+                    None => Asked::Bad(Reason::NotOfAllForms),
+                }
             } else if name == "draw" {
-                Asked::Draw(read_draw(options))
+                Asked::Task(Task::Draw(read_draw(options)))
             } else if name == "explore" {
                 match read_explore(options) {
-                    Some(explore) => Asked::Explore(explore),
+                    Some(explore) => Asked::Task(Task::Explore(explore)),
                     None => Asked::Bad(Reason::NoCommand),
                 }
             } else if name == "race" {
                 match read_race(options) {
-                    Some(race) => Asked::Race(race),
+                    Some(race) => Asked::Task(Task::Race(race)),
                     None => Asked::Bad(Reason::NoSuchRank),
                 }
             } else {
@@ -71,27 +76,38 @@ fn read_command(matches: &ArgMatches<'_>) -> Asked
     }
 }
 
-/// Which sort of script is to be run.
-fn read_run(matches: &ArgMatches<'_>) -> Asked
-    ensures { IsEntered (Some (codes "run", rows_of (found_of matches.now))) result }
+/// Which script is to be run, and how.
+fn read_run(matches: &ArgMatches<'_>) -> RunForm
+    ensures { result ≡ run_form (rows_of (found_of matches.now)) }
 {
     if is_given(matches, "steps") {
-        Asked::RunSteps
+        RunForm::Steps
     } else if is_given(matches, "echo") {
-        Asked::RunEchoed
+        RunForm::Echoed
     } else {
-        Asked::Run
+        RunForm::Calls
     }
 }
 
-/// Whether the reason of a verdict is to be explained.
-fn read_check(matches: &ArgMatches<'_>) -> Asked
-    ensures { IsEntered (Some (codes "check", rows_of (found_of matches.now))) result }
+/// What is to be judged, and how, if the options go together.
+fn read_check(matches: &ArgMatches<'_>) -> Option<CheckForm>
+    ensures { result ≡ check_form (rows_of (found_of matches.now)) }
 {
-    if is_given(matches, "explain") {
-        Asked::Explain
-    } else {
-        Asked::Check
+    let observed = is_given(matches, "observed");
+    let explain = is_given(matches, "explain");
+    let witness = is_given(matches, "witness");
+    judged_form(observed, explain, witness)
+}
+
+/// What is judged with these options, and how, if they go together.
+fn judged_form(observed: bool, explain: bool, witness: bool) -> Option<CheckForm>
+    ensures { result ≡ judged_form observed explain witness }
+{
+    match (observed, explain) {
+        (true, false) => Some(CheckForm::Log { witness }),
+        (false, true) if !witness => Some(CheckForm::Explained),
+        (false, false) if !witness => Some(CheckForm::Trace),
+        _ => None,
     }
 }
 

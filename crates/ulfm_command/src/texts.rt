@@ -17,7 +17,7 @@ prints
 Exit statuses, and what standard error says:
   0  all was done, or help or the version was shown
   1  ulfm: line N: KIND         line N of the script has this fault
-  1                             the trace is illegal
+  1                             the trace is illegal, or the log isn't explained
   2  ulfm: bad command line     found before anything is read
   3  ulfm: out of memory        memory was refused, or a thread
   3  ulfm: read failed          standard input failed
@@ -180,13 +180,35 @@ text, the call, the caller, the look, the event, the point, the group or the ans
 its look, the communicator and its round, and the events that matter to it, each behind its number.
 The trace is kept in memory then.
 
+With --observed it is a log of calls and replies that is judged, as any implementation can write
+one. Its first line is 'ulfm-observed 1 RANKS COMMS ROUNDS ORDER FAILURES', and each further line is
+one of these:
+
+  call X                            the call X begins, a line of a call script
+  reply B TEXT                      B's call is answered; * stands for what wasn't logged
+  lost R                            the end of rank R's lines was lost
+
+ORDER is 'time', or 'ranks' where only the lines of one caller are in order. FAILURES is 'any', or
+'logged' where ranks fail only in calls of 'fail'. The answer is
+
+  explained                         some legal trace has these calls and replies, and with --witness
+                                    it comes behind this line
+  not explained: WHY                the search found none; behind it come lines of the log that
+                                    can't stand together
+  unknown: the search was given up
+
+Only 'explained' is proved: the trace was judged and compared with the log. docs/TRACES.md says how a
+log is written.
+
 Exit statuses, and what standard error says:
-  0  legal
-  1  illegal
+  0  legal, or explained
+  1  illegal, or not explained
+  1  ulfm: line N: KIND         line N is none of a log
   2  ulfm: bad command line     nothing was read
   3  ulfm: out of memory        memory was refused
   3  ulfm: read failed          standard input failed
-  3  ulfm: write failed         standard output failed";
+  3  ulfm: write failed         standard output failed
+  4                             the search was given up";
 
 /// What help of `ulfm draw` shows behind its options.
 pub(crate) const DRAW_HELP: &str =

@@ -1,90 +1,28 @@
-use Rattle.std.proofs.Common.{map}
-use Rattle.ulfm.proofs.Ends.{checked_out, draw_ran_out, echo_ran_out, explain_ran_out, explore_ran_out, explored_as, migrate_ran_out, raced_as, ran_out, steps_ran_out}
+use Rattle.std.proofs.Common.{map, subst}
+use Rattle.ulfm_command.specs.declared.asked.Task.{Task}
+use Rattle.ulfm_command.proofs.Tasks.{asks_once}
+use Rattle.ulfm.specs.Tasks.{DoneWith}
+use Rattle.ulfm.proofs.Ends.{task_ran_out}
 use Rattle.ulfm.proofs.program.answer.Goals as goal
 
-pub returns-in-Race-clause-bad : goal.returns-in-Race-clause-bad
-returns-in-Race-clause-bad g c bad = absurd (bad.no_race c.in-Race.options c.in-Race.ensures)
+pub returns-in-Task-clause-does : goal.returns-in-Task-clause-does
+returns-in-Task-clause-does g c task asks =
+    subst
+    (λ (t : Task). DoneWith g.row.A.Denot c.args.looks t
+    (record { input = g.R.Read.remaining c.args.input.now; output = g.W.Write.contents c.args.output.now; errors = g.E.Write.contents c.args.errors.now })
+    (record { input = g.R.Read.remaining c.perform.new.input; output = g.W.Write.contents c.perform.new.output; errors = g.E.Write.contents c.perform.new.errors })
+    c.perform.result)
+    (asks_once (map (λ word. word.now) c.args.words.now) c.in-Task.task task c.in-Task.ensures asks)
+    c.perform.ensures.done
 
-pub returns-in-Bad-clause-race : goal.returns-in-Bad-clause-race
-returns-in-Bad-clause-race g c options asks = absurd (c.in-Bad.ensures.no_race options asks)
+pub returns-in-Task-clause-bad : goal.returns-in-Task-clause-bad
+returns-in-Task-clause-bad g c bad = absurd (bad.no_task c.in-Task.task c.in-Task.ensures)
 
-pub returns-in-Memory-clause-run : goal.returns-in-Memory-clause-run
-returns-in-Memory-clause-run g c asks = ran_out _ _ _ c.tell_fault.ensures.status
+pub returns-in-Task-clause-told : goal.returns-in-Task-clause-told
+returns-in-Task-clause-told g c bad clear = absurd (bad.no_task c.in-Task.task c.in-Task.ensures)
 
-pub returns-in-Memory-clause-steps : goal.returns-in-Memory-clause-steps
-returns-in-Memory-clause-steps g c asks = steps_ran_out _ _ _ c.tell_fault.ensures.status
+pub returns-in-Bad-clause-does : goal.returns-in-Bad-clause-does
+returns-in-Bad-clause-does g c task asks = absurd (c.in-Bad.ensures.no_task task asks)
 
-pub returns-in-Memory-clause-migrate : goal.returns-in-Memory-clause-migrate
-returns-in-Memory-clause-migrate g c asks = migrate_ran_out _ _ _ c.tell_fault.ensures.status
-
-pub returns-in-Memory-clause-check : goal.returns-in-Memory-clause-check
-returns-in-Memory-clause-check g c asks = checked_out _ _ _ c.tell_fault.ensures.status
-
-pub returns-in-Race-clause-told : goal.returns-in-Race-clause-told
-returns-in-Race-clause-told g c bad clear = absurd (bad.no_race c.in-Race.options c.in-Race.ensures)
-
-pub returns-in-Draw-clause-bad : goal.returns-in-Draw-clause-bad
-returns-in-Draw-clause-bad g c bad = absurd (bad.no_draw c.in-Draw.options c.in-Draw.ensures)
-
-pub returns-in-Draw-clause-told : goal.returns-in-Draw-clause-told
-returns-in-Draw-clause-told g c bad clear = absurd (bad.no_draw c.in-Draw.options c.in-Draw.ensures)
-
-pub returns-in-Draw-clause-other : goal.returns-in-Draw-clause-other
-returns-in-Draw-clause-other g c run steps check echo explain none others migrate = absurd (none c.in-Draw.options c.in-Draw.ensures)
-
-pub returns-in-Bad-clause-draw : goal.returns-in-Bad-clause-draw
-returns-in-Bad-clause-draw g c options asks = absurd (c.in-Bad.ensures.no_draw options asks)
-
-pub returns-in-Memory-clause-draw : goal.returns-in-Memory-clause-draw
-returns-in-Memory-clause-draw g c options asks = draw_ran_out _ _ _ _ c.tell_fault.ensures.status
-
-pub returns-in-Memory-clause-echo : goal.returns-in-Memory-clause-echo
-returns-in-Memory-clause-echo g c asks = echo_ran_out _ _ _ c.tell_fault.ensures.status
-
-pub returns-in-Memory-clause-explain : goal.returns-in-Memory-clause-explain
-returns-in-Memory-clause-explain g c asks = explain_ran_out _ _ _ c.tell_fault.ensures.status
-
-pub returns-in-Explore-clause-bad : goal.returns-in-Explore-clause-bad
-returns-in-Explore-clause-bad g c bad = absurd (bad.no_explore c.in-Explore.options c.in-Explore.ensures)
-
-pub returns-in-Explore-clause-told : goal.returns-in-Explore-clause-told
-returns-in-Explore-clause-told g c bad clear = absurd (bad.no_explore c.in-Explore.options c.in-Explore.ensures)
-
-pub returns-in-Explore-clause-other : goal.returns-in-Explore-clause-other
-returns-in-Explore-clause-other g c run steps check echo explain draw none migrate = absurd (none c.in-Explore.options c.in-Explore.ensures)
-
-pub returns-in-Explore-clause-status : goal.returns-in-Explore-clause-status
-returns-in-Explore-clause-status g c none = absurd (none c.in-Explore.options c.in-Explore.ensures)
-
-pub returns-in-Bad-clause-explore : goal.returns-in-Bad-clause-explore
-returns-in-Bad-clause-explore g c options asks = absurd (c.in-Bad.ensures.no_explore options asks)
-
-pub returns-in-Memory-clause-explore : goal.returns-in-Memory-clause-explore
-returns-in-Memory-clause-explore g c options asks = explore_ran_out _ _ _ _ c.tell_fault.ensures.status
-
-pub returns-in-Explore-clause-explore : goal.returns-in-Explore-clause-explore
-returns-in-Explore-clause-explore g c options asks =
-    explored_as
-    g.row.A.Denot
-    (map (λ word. word.now) c.args.words.now)
-    c.in-Explore.options
-    options
-    (g.W.Write.contents c.args.output.now)
-    (g.W.Write.contents c.run_explore.new.output)
-    c.run_explore.result
-    c.in-Explore.ensures
-    asks
-    c.run_explore.ensures.explored
-
-pub returns-in-Race-clause-race : goal.returns-in-Race-clause-race
-returns-in-Race-clause-race g c options asks =
-    raced_as
-    (map (λ word. word.now) c.args.words.now)
-    c.in-Race.options
-    options
-    (g.W.Write.contents c.args.output.now)
-    (g.W.Write.contents c.run_race.new.output)
-    c.run_race.result
-    c.in-Race.ensures
-    asks
-    c.run_race.ensures
+pub returns-in-Memory-clause-does : goal.returns-in-Memory-clause-does
+returns-in-Memory-clause-does g c task asks = task_ran_out _ _ task _ _ _ _ _ c.tell_fault.ensures.status

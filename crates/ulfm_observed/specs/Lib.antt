@@ -1,0 +1,4 @@
+pub mod Explains
+pub mod LogTexts
+pub mod Stages
+pub mod Walked

@@ -1,0 +1,18 @@
+//! Logs of calls and replies alone: their lines, typed and printed, which traces explain one, and the test of an
+//! explanation that was found.
+#![tactic(auto)]
+
+pub mod confirming;
+pub mod judging;
+pub mod log;
+pub mod printing;
+pub mod ranks;
+pub mod shows;
+pub mod stages;
+pub mod step;
+pub mod wills;
+
+pub use confirming::confirm;
+pub use log::{Failures, Item, Log, LogLine, Order, Seen};
+pub use printing::{print_log, print_witness};
+pub use step::Step;
