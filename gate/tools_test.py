@@ -4,8 +4,9 @@
     gate/tools_test.py [PROGRAM]     PROGRAM is crates/ulfm/out/ulfm, if it isn't given
 
 The C file must compile without a warning. Two processes, of which one dies, are logged through it; the joined log is tools/test/two.observed in order
-`ranks`, and has the same lines of each rank in order `time`. Files that lack their end, have another rank's name or a line that may not stand there are told as
-such. Where mpicc is there the C file is compiled with it too. It prints a line for each failure, and ends with 1 where there is one.
+`ranks`, and has the same lines of each rank in order `time`; `ulfm check --observed` explains both, and not the first with one value changed. Files that lack
+their end, have another rank's name or a line that may not stand there are told as such. Where mpicc is there the C file is compiled with it too. It
+prints a line for each failure, and ends with 1 where there is one.
 """
 import os
 import shutil
@@ -74,6 +75,15 @@ def joins(name, program):
     return by_ranks.stdout, by_time.stdout
 
 
+def judged(program, logs):
+    """The logs are explained, and the first isn't with one value changed."""
+    for log in logs:
+        done = run(program, "check", "--observed", input=log)
+        holds("the log is explained", done.returncode == 0 and done.stdout == "explained\n", log + done.stdout + done.stderr)
+    done = run(program, "check", "--observed", input=logs[0].replace("agreed 0000000c", "agreed 0000000f", 1))
+    holds("the log with another value isn't explained", done.returncode == 1 and done.stdout.startswith("not explained: "), done.stdout + done.stderr)
+
+
 def tells(name, what, change, wanted):
     """A changed copy of a process's file is told so."""
     folder = name + "-" + what.replace(" ", "-")
@@ -110,12 +120,17 @@ def real(folder):
 
 
 def main():
+    ulfm = sys.argv[1] if len(sys.argv) > 1 else os.path.join(TOP, "crates/ulfm/out/ulfm")
     with tempfile.TemporaryDirectory() as folder:
         program = compiled(folder)
         if not failures:
             name = logged(folder, program)
-            joins(name, program)
+            judged(ulfm, joins(name, program))
             changes(name)
+            done = run(JOIN, "--lost", "1", name)
+            holds("a rank that is said to be lost", done.returncode == 0 and done.stdout.endswith("\nlost 1\n"), done.stdout + done.stderr)
+            done = run(JOIN, "--lost", "2", name)
+            holds("a lost rank of nobody", done.returncode == 1 and "there are only 2 ranks" in done.stderr, done.stdout + done.stderr)
         real(folder)
     sys.exit(1 if failures else 0)
 

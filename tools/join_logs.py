@@ -1,14 +1,14 @@
 #!/usr/bin/env python3
 """Joins the files that tools/ulfm_log.c wrote into one log of calls and replies (docs/TRACES.md).
 
-    tools/join_logs.py [--order time|ranks] NAME     NAME.0, NAME.1 and so on are the files; the log goes to standard output
+    tools/join_logs.py [--order time|ranks] [--lost R].. NAME     NAME.0, NAME.1 and so on are the files; the log goes to standard output
 
 Order `time` sorts the lines by their stamps, which is right where all processes ran on one host. Order `ranks` writes one rank's lines behind another's,
 and says nothing of who was first; take it for several hosts. Failures are `any`: no file tells when a process was found failed.
 
 Communicators get numbers in the order in which the first member had them, and the first call of revoke on a communicator is the one that revoked it. A file
-that isn't there, or whose last line isn't whole, gives a line `lost R`. The world has one communicator and two rounds more than were used. What
-can't be joined is told on standard error, with the file and the line, and the status is 1.
+that isn't there, or whose last line isn't whole, gives a line `lost R`, and so does --lost R, for a process whose host was lost. The world has one
+communicator and two rounds more than were used. What can't be joined is told on standard error, with the file and the line, and the status is 1.
 """
 import argparse
 import os
@@ -135,14 +135,16 @@ class Join:
         return f"reply {line.rank} {words}"
 
 
-def joined(name, order):
+def joined(name, order, known_lost):
     """The lines of the log."""
     ranks = ranks_of(name)
     lines, lost = [], []
+    if any(rank not in range(ranks) for rank in known_lost):
+        raise Bad(f"{name}: there are only {ranks} ranks")
     for rank in range(ranks):
         own, is_lost = read_process(f"{name}.{rank}", rank, ranks)
         lines += own
-        if is_lost:
+        if is_lost or rank in known_lost:
             lost.append(rank)
     join = Join(lines)
     comms, rounds = len(join.made) + 2, join.rounds + 2
@@ -157,10 +159,11 @@ def joined(name, order):
 def main():
     options = argparse.ArgumentParser(description="Joins the files that tools/ulfm_log.c wrote into one log.")
     options.add_argument("--order", choices=("time", "ranks"), default="time")
+    options.add_argument("--lost", type=int, action="append", default=[], metavar="R", help="the end of rank R's file was lost; may be given again")
     options.add_argument("name", help="what $ULFM_LOG was")
     asked = options.parse_args()
     try:
-        lines = list(joined(asked.name, asked.order))
+        lines = list(joined(asked.name, asked.order, asked.lost))
     except (Bad, OSError) as reason:
         sys.exit(f"join_logs: {reason}")
     except KeyError as unknown:

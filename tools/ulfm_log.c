@@ -14,6 +14,8 @@
  * revoke, barrier and free, and with -DULFM_LOG_2023 also ack_failed, get_failed and is_revoked. Communicators that were made otherwise, as
  * by MPI_Comm_dup, aren't logged. One thread at a time makes calls.
  *
+ * A flag of an agree is the 32 bits of MPI's int. What MPI doesn't tell, as how many failures an agree decided on, isn't there; join_logs.py writes *.
+ *
  * The lines, where STAMP is in nanoseconds, and C and J number the process's own communicators (0 is the world's):
  *
  *     ulfm-process 1 RANK RANKS
