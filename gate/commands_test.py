@@ -147,13 +147,24 @@ def calls_of_guide(text):
 
 def trace_lines_of(text):
     """The lines of traces that a page of plain lines lists, behind what it says of their header."""
-    text = text.split("ulfm-trace 1 RANKS COMMS ROUNDS")[-1]
+    text = text.split("ulfm-trace 1 RANKS COMMS ROUNDS")[-1].split("ulfm-observed 1")[0]
     return set(re.findall(r"^ *((?:call|look|event|reply) [A-Z][A-Za-z ]*?)(?:  +\S.*)?$", text, re.M))
 
 
 def trace_lines_of_formats(text):
     table = text.split("### Lines of traces")[1].split("\n###")[0]
     return set(re.findall(r"^\| `((?:call|look|event|reply) [^`]*)` \|", table, re.M))
+
+
+def log_lines_of(text):
+    """The lines of logs that a page of plain lines lists, behind what it says of their header."""
+    text = text.split("ulfm-observed 1 RANKS COMMS ROUNDS ORDER FAILURES")[-1]
+    return set(re.findall(r"^ *((?:call|reply|lost) [A-Z][A-Z ]*?)(?:  +\S.*)?$", text, re.M))
+
+
+def log_lines_of_formats(text):
+    table = text.split("## Logs of calls and replies")[1].split("\n###")[0]
+    return set(re.findall(r"^\| `((?:call|reply|lost) [^`]*)` \|", table, re.M))
 
 
 def reasons_of(text):
@@ -321,6 +332,7 @@ def main():
         differs("limits", where, limits_of(text), limits)
     for where, text in {"ulfm check --help": helps["check"], "ulfm.1": man}.items():
         differs("lines of traces", where, trace_lines_of(text), trace_lines_of_formats(formats))
+        differs("lines of logs", where, log_lines_of(text), log_lines_of_formats(formats))
         differs("reasons of the judge", where, reasons_of(text), reasons_of_formats(formats))
         differs("limits of traces", where, trace_limits_of(text), trace_limits_of(formats))
     guide, readme = read("docs/GUIDE.md"), of_readme(read("README.md"))
