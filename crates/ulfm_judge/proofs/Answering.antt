@@ -12,12 +12,12 @@ use Rattle.ulfm_record.specs.Kept.{FitsNext}
 use Rattle.ulfm_record.proofs.Allowed.{allowed_fits}
 use Rattle.ulfm_trace_model.specs.Traces.{AnswersCall, AnswersRank, MayReply, Traced, Under, call_by, listed, record_in, view_at}
 use Rattle.ulfm_trace_model.specs.declared.line.Line.{Line}
-use Rattle.ulfm_judge.specs.Seen.{seen_of}
+use Rattle.ulfm_numbers.specs.{Groups.{same_ranks}, Seen.{seen_of}}
 use Rattle.ulfm_judge.specs.CallsAt.{CallAt, call_of}
-use Rattle.ulfm_judge.specs.ReplyTests.{by_record_test, call_test, listed_in, looked_test, pending_test, polled_test, rank_test, replied_test, reply_test, same_ranks}
-use Rattle.ulfm_judge.proofs.Deciding.{false_decides, le_decides, never_decides, true_decides}
+use Rattle.ulfm_judge.specs.ReplyTests.{by_record_test, call_test, listed_in, looked_test, pending_test, polled_test, rank_test, replied_test, reply_test}
+use Rattle.ulfm_numbers.proofs.Deciding.{false_decides, le_decides, never_decides, ranks_decide, true_decides}
 use Rattle.ulfm_judge.proofs.Polling.{agree_decides, shrink_decides, start_decides}
-use Rattle.ulfm_judge.proofs.Replying.{acked_decides, barrier_decides, barrier_start_decides, fail_decides, freed_decides, group_decides, pending_decides, ranks_decide, refused_decides, revoke_decides, self_failed_decides, standing_decides}
+use Rattle.ulfm_judge.proofs.Replying.{acked_decides, barrier_decides, barrier_start_decides, fail_decides, freed_decides, group_decides, pending_decides, refused_decides, revoke_decides, self_failed_decides, standing_decides}
 
 module _ {P : Type 0} (meld : P → P → P) (pack : P → ℕ) (tells : (x y : P) → pack x ≡ pack y → x ≡ y) where
   module _ (limits : Limits) (view : AtPoint P) (wing : IsTrue view.spread) (old : Record) where

@@ -1,7 +1,6 @@
 -- What a reply leaves: of its rank's record, of all records, and of the calls under way.
-use Rattle.std.proofs.Common.{◌≡◌, ℕ, zero, suc, ◌<◌, ◌==◌, ◌&&◌, Bool, true, false, cond, not, List, [], ◌∷◌, ◌++◌, drop, map, filter, length, Option, Some, None, is_some, get_or, set, refl, ap, ap₂, sym, ◌∙◌, subst, arith, nat_eq, if◌then◌else◌, inl, inr, IsTrue}
-use Rattle.std.specs.Prelude.{IfOk, OnOk, Result, Ok, Err, find, take}
-use Rattle.std.proofs.Math.Seq.{take-append_seam}
+use Rattle.std.proofs.Common.{◌≡◌, ℕ, zero, suc, ◌<◌, ◌==◌, ◌&&◌, Bool, true, false, cond, not, List, [], ◌∷◌, map, filter, length, Option, Some, None, is_some, get_or, set, refl, ap, ap₂, sym, ◌∙◌, subst, arith, nat_eq, if◌then◌else◌, inl, inr, IsTrue}
+use Rattle.std.specs.Prelude.{IfOk, OnOk, Result, Ok, Err, find}
 use Rattle.std.specs.List.{AllByRecursion, IsDistinct, position}
 use Rattle.std.proofs.lemmas.Bool.{eq-eqb, eqb-true, ne_eqb}
 use Rattle.std.proofs.lemmas.List.Quantifiers.{position-Some}
@@ -13,8 +12,10 @@ use Rattle.ulfm_record.specs.{declared.record.RankRecord.{RankRecord}, Kept.{Fit
 use Rattle.ulfm_trace_model.specs.declared.line.{Line.{Line}, Why.{Why}}
 use Rattle.ulfm_trace_model.specs.Traces.{MayReply, Takes, Traced, Under, after_reply, call_by, caller_of, record_in, records_after, same_caller}
 use Rattle.ulfm_judge.specs.ReplyTests.{reply_test}
-use Rattle.ulfm_judge.specs.{declared.calls.OpenCall.{OpenCall}, declared.numbers.Numbers.{Numbers}, Kept.{AreCalls, GoesWith, MayLeave, traced_of}, Telling.{TellsSome, TablesTell}}
-use Rattle.ulfm_judge.proofs.{Answering.{reply_decides}, Deciding.{true_and}}
+use Rattle.ulfm_judge.specs.{declared.calls.OpenCall.{OpenCall}, Kept.{AreCalls, GoesWith, MayLeave, traced_of}, Telling.{TellsSome}}
+use Rattle.ulfm_numbers.specs.{declared.numbers.Numbers.{Numbers}, Telling.{TablesTell}}
+use Rattle.ulfm_judge.proofs.Answering.{reply_decides}
+use Rattle.ulfm_numbers.proofs.Deciding.{first_fails, true_and}
 
 -- a reply leaves a record's number
 by_effect : (now : Record) (c : ℕ) (effect : Effect) → (left_with now c effect).number ≡ now.number
@@ -131,9 +132,6 @@ pub all_and : (a b d l x : Bool) → a ≡ true → b ≡ true → d ≡ true �
 all_and a b d l x one two three is = is ∙ (true_and d l three ∙ (true_and b (d && l) two ∙ true_and a (b && (d && l)) one))
 
 -- one of the tests fails
-pub first_fails : (a b : Bool) → a ≡ false → false ≡ (a && b)
-first_fails a b fails = sym (ap (λ x. x && b) fails)
-
 pub second_fails : (a b c : Bool) → b ≡ false → false ≡ (a && (b && c))
 second_fails true b c fails = first_fails b c fails
 second_fails false b c fails = refl
@@ -166,7 +164,3 @@ pub stands_on : {P A E : Type 0} {g : _} (meld : P → P → P) (limits : Limits
 stands_on meld limits numbers records calls group told (Ok why) old new same goes =
     let next = traced_of limits goes.0 records goes.1 in (next, subst (λ w. Takes meld w group told next why) (sym same) goes.4, (goes.2, goes.3, refl))
 stands_on meld limits numbers records calls group told (Err e) old new same goes = tt
-
--- what a slice lent of a list leaves, where it keeps its length
-pub written : {X : Type 0} (n : ℕ) (new old : List X) → length new ≡ n → take n (new ++ drop (length new) old) ≡ new
-written n new old same = ap (λ m. take m (new ++ drop (length new) old)) (sym same) ∙ take-append_seam new (drop (length new) old)

@@ -1,15 +1,9 @@
 pub mod Answering
-pub mod Counting
 pub mod Deciding
 pub mod Deferring
-pub mod Failing
 pub mod Finding
-pub mod Lasting
 pub mod Leaving
-pub mod Placing
 pub mod Polling
 pub mod Replying
 pub mod Seating
-pub mod Seeing
-pub mod Tabling
 pub mod Taking

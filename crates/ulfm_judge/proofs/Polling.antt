@@ -16,7 +16,7 @@ use Rattle.ulfm_model.proofs.OnlySpawned.{lowest_is}
 use Rattle.ulfm_judge.specs.declared.replies.Due.{Due}
 use Rattle.ulfm_judge.specs.CallsAt.{CallAt, call_of}
 use Rattle.ulfm_judge.specs.ReplyTests.{agree_test, clash_test, due_of, flag_test, full_test, given_test, gives_test, least_test, made_test, no_ids_test, offer_test, same_offer, shrink_test, shrunk_test, stands_test, unmade_test}
-use Rattle.ulfm_judge.proofs.Deciding.{eq_decides, false_decides, ids_decides, lt_decides, never_decides, true_decides}
+use Rattle.ulfm_numbers.proofs.Deciding.{eq_decides, false_decides, ids_decides, lt_decides, never_decides, true_decides}
 use Rattle.ulfm_judge.proofs.Replying.{answer_decides, empty_decides, only_decides, refusal_decides}
 
 -- contributions with equal offers and counts are one

@@ -3,16 +3,16 @@ use Rattle.std.proofs.Common.{◌≡◌, ◌==◌, ◌&&◌, ◌||◌, ℕ, Bool
 use Rattle.std.specs.List.{list_any}
 use Rattle.std.specs.Bool.{Decides}
 use Rattle.std.proofs.lemmas.Bool.{eqb-true, eq-eqb, or_cases, or_left, or_right}
-use Rattle.std.proofs.lemmas.Bool.Decides.{Decides-and, Decides-like, Decides-or, Decides-eqb}
-use Rattle.std.proofs.lemmas.Slice.Eq.{slice_eq-Decides}
+use Rattle.std.proofs.lemmas.Bool.Decides.{Decides-and, Decides-like, Decides-or}
 use Rattle.ulfm_model.specs.declared.{call.Call.{Call}, event.Event.{Event}, limits.Limits.{Limits}, refusal.Refusal.{Refusal}, reply.Reply.{Reply}}
 use Rattle.ulfm_model.specs.Answers.{AnswersFail, BarrierStartReplies, DoneOrFound, IsPending, IsSelfFailed, AtPoint, printed, traits_of}
 use Rattle.ulfm_model.specs.History.{failures, has, has_arrived, is_revoked, slot}
 use Rattle.ulfm_model.specs.Records.{Held, Record, new_held}
-use Rattle.ulfm_judge.specs.Seen.{seen_of}
+use Rattle.ulfm_numbers.specs.Seen.{seen_of}
 use Rattle.ulfm_judge.specs.Tests.{arrives_test, revokes_test}
-use Rattle.ulfm_judge.specs.ReplyTests.{acked_test, barrier_start_test, barrier_test, fail_test, fails_test, freed_test, group_test, only_test, pending_test, refused_test, revoke_test, same_answer, same_ranks, same_refusal, self_failed_test, standing_test, starts_test}
-use Rattle.ulfm_judge.proofs.Deciding.{arrives_decides, eq_decides, false_decides, le_decides, never_decides, none_decides, revokes_decides, true_decides}
+use Rattle.ulfm_judge.specs.ReplyTests.{acked_test, barrier_start_test, barrier_test, fail_test, fails_test, freed_test, group_test, only_test, pending_test, refused_test, revoke_test, same_answer, same_refusal, self_failed_test, standing_test, starts_test}
+use Rattle.ulfm_judge.proofs.Deciding.{arrives_decides, revokes_decides}
+use Rattle.ulfm_numbers.proofs.Deciding.{eq_decides, false_decides, le_decides, never_decides, none_decides, true_decides}
 
 -- ---- what is compared
 
@@ -50,10 +50,6 @@ answer_decides true true = (λ e. refl, λ e. refl)
 answer_decides true false = (λ e. absurd (cc e), λ e. absurd (cc e))
 answer_decides false true = (λ e. absurd (cc e), λ e. absurd (cc e))
 answer_decides false false = (λ e. refl, λ e. refl)
-
--- and two lists of ranks
-pub ranks_decide : (xs ys : List ℕ) → Decides (same_ranks xs ys) (xs ≡ ys)
-ranks_decide xs ys = slice_eq-Decides Decides-eqb xs ys (same_ranks xs ys) refl
 
 -- a list has no entry
 pub empty_decides : {X : Type 0} (xs : List X) → Decides (length xs == 0) (xs ≡ [])

@@ -10,6 +10,7 @@ use Rattle.std.proofs.lemmas.Option.{get_or_from_slice_get, slice_get_past, slic
 use Rattle.ulfm_model.specs.declared.event.Caller.{Caller}
 use Rattle.ulfm_model.specs.History.{first_ranks}
 use Rattle.ulfm_model.proofs.Groups.{first_at, first_length}
+use Rattle.ulfm_numbers.proofs.Placing.{get_other, get_same}
 use Rattle.ulfm_trace_model.specs.Traces.{Under, caller_of, change_by, same_caller}
 use Rattle.ulfm_judge.specs.declared.calls.OpenCall.{OpenCall}
 use Rattle.ulfm_judge.specs.Kept.{AreCalls, kept_by, open_at, place_by, seat_of, under_of}
@@ -97,18 +98,6 @@ module _ {P : Type 0} where
       go false is rest = rw is (ap (λ o. cond (same_caller (caller_of u) x) (Some u) o) rest)
 
 -- ---- what is kept at a caller's place
-
-pub get_other : {X : Type 0} (xs : List X) (i j : ℕ) (y : X) → j ≢ i → slice_get (set xs i y) j ≡ slice_get xs j
-get_other [] i j y apart = refl
-get_other (x ∷ xs) zero zero y apart = absurd (apart refl)
-get_other (x ∷ xs) zero (suc j) y apart = refl
-get_other (x ∷ xs) (suc i) zero y apart = refl
-get_other (x ∷ xs) (suc i) (suc j) y apart = get_other xs i j y (λ e. apart (ap suc e))
-
-pub get_same : {X : Type 0} (xs : List X) (i : ℕ) (y : X) → i < length xs → slice_get (set xs i y) i ≡ Some y
-get_same [] i y within = absurd (omega (arith, within))
-get_same (x ∷ xs) zero y within = refl
-get_same (x ∷ xs) (suc i) y within = get_same xs i y (omega (arith, within))
 
 pushed : {X Y : Type 0} (f : X → Option Y) (xs : List X) (j : ℕ) (y : X) → f y ≡ None → option_and_then f (slice_get (xs ++ y ∷ []) j) ≡ option_and_then f (slice_get xs j)
 pushed f [] zero y none = none

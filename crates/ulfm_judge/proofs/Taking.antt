@@ -7,8 +7,10 @@ use Rattle.ulfm_record.specs.declared.record.RankRecord.{RankRecord}
 use Rattle.ulfm_trace_model.specs.declared.line.{Line.{Line}, Why.{Why}}
 use Rattle.ulfm_trace_model.specs.Traces.{Takes, Traced, Under, call_by, caller_of, change_by, found_by, is_owned, record_in, same_caller, with_event}
 use Rattle.ulfm_judge.specs.declared.calls.OpenCall.{OpenCall}
-use Rattle.ulfm_judge.specs.{Kept.{AreCalls, GoesWith, place_by, seat_of, traced_of, under_of}, Seen.{seen_of}, Tests.{due_test, follow_test, own_by_test, own_call_test, own_test}}
-use Rattle.ulfm_judge.proofs.Deciding.{due_decides, follow_decides, own_by_decides}
+use Rattle.ulfm_judge.specs.{Kept.{AreCalls, GoesWith, place_by, seat_of, traced_of, under_of}, Tests.{due_test, own_by_test, own_call_test, own_test}}
+use Rattle.ulfm_numbers.specs.{Seen.{seen_of}, Tests.{follow_test}}
+use Rattle.ulfm_judge.proofs.Deciding.{due_decides, own_by_decides}
+use Rattle.ulfm_numbers.proofs.Deciding.{follow_decides}
 use Rattle.ulfm_judge.proofs.Seating.{begun_at, changed_at, kept_here, kept_nowhere, stood}
 
 -- a caller without a call: nothing changes

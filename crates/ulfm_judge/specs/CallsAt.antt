@@ -4,7 +4,7 @@ use Rattle.ulfm_model.specs.declared.{event.Event.{Event}, limits.Limits.{Limits
 use Rattle.ulfm_model.specs.{Answers.{AtPoint}, Records.{Record}}
 use Rattle.ulfm_record.specs.Kept.{record_of}
 use Rattle.ulfm_judge.specs.declared.polls.View.{View as Tabled}
-use Rattle.ulfm_judge.specs.{Seen.{Seen, seen_of}, Telling.{seen_at}}
+use Rattle.ulfm_numbers.specs.{Seen.{Seen, seen_of}, Telling.{seen_at}}
 
 -- a rank's call at its linearization point: the limits of its world, the record of the rank, whom the call's look found declared, what the history
 -- says at the point, and the call's own events

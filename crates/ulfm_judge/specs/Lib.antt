@@ -1,12 +1,6 @@
 pub mod CallsAt
-pub mod Failed
-pub mod Grids
-pub mod Groups
 pub mod Kept
-pub mod Numbers
 pub mod ReplyTests
-pub mod Rounds
-pub mod Seen
 pub mod Standing
 pub mod Telling
 pub mod Tests

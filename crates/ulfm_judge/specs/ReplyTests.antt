@@ -1,7 +1,7 @@
 -- Tests that compute: which replies are answers. That each decides what the definitions say is proved.
 use Rattle.std.specs.Prelude.{ℕ, ◌+◌, ◌-◌, ◌==◌, nat_le, nat_lt, max, min, Bool, true, false, not, ◌&&◌, ◌||◌, if◌then◌else◌}
 use Rattle.std.specs.Prelude.{List, [], ◌∷◌, length, filter, slice_get, take, Option, Some, None, is_some}
-use Rattle.std.specs.{List.{list_all, list_any}, Option.{option_map_or}, Cmp.Lexicographic.{pointwise}}
+use Rattle.std.specs.{List.{list_all, list_any}, Option.{option_map_or}}
 use Rattle.ulfm_laws.specs.declared.summary.Body.{Body}
 use Rattle.ulfm_model.specs.declared.{call.Call.{Call}, call.Request.{Request}, event.Caller.{Caller}, event.Event.{Event}, limits.Limits.{Limits}}
 use Rattle.ulfm_model.specs.declared.{contribution.Contribution.{Contribution}, contribution.Offer.{Offer}, contribution.Slot.{Slot}}
@@ -12,10 +12,11 @@ use Rattle.ulfm_model.specs.History.{Decision, has}
 use Rattle.ulfm_model.specs.Records.{Held, Record, free_ids, held_at}
 use Rattle.ulfm_trace_model.specs.Traces.{Traced, Under, record_in, view_at}
 use Rattle.ulfm_trace_model.specs.declared.line.Line.{Line}
-use Rattle.ulfm_judge.specs.declared.{polls.Named.{Named}, replies.Due.{Due}}
+use Rattle.ulfm_judge.specs.{declared.polls.Named.{Named}, declared.replies.Due.{Due}}
 use Rattle.ulfm_judge.specs.CallsAt.{CallAt, call_of}
-use Rattle.ulfm_judge.specs.Seen.{Seen, decision_in, failed_in, is_decided_in, is_made_in, seen_of}
-use Rattle.ulfm_judge.specs.Tests.{arrives_test, ids_test, revokes_test}
+use Rattle.ulfm_numbers.specs.{Groups.{same_ranks}, Seen.{Seen, decision_in, failed_in, is_decided_in, is_made_in, seen_of}}
+use Rattle.ulfm_judge.specs.Tests.{arrives_test, revokes_test}
+use Rattle.ulfm_numbers.specs.Tests.{ids_test}
 
 -- whether two refusals are one, by their numbers
 abbrev pub same_refusal : Refusal → Refusal → Bool
@@ -24,10 +25,6 @@ same_refusal r s = (printed r).0 == (printed s).0
 -- whether two tests answer the same
 abbrev pub same_answer : Bool → Bool → Bool
 same_answer a b = if a then b else not b
-
--- whether two lists of ranks are one
-abbrev pub same_ranks : List ℕ → List ℕ → Bool
-same_ranks xs ys = pointwise ◌==◌ xs ys
 
 -- the entry of a list that has one alone
 abbrev pub only_of : {X : Type 0} → List X → Option X

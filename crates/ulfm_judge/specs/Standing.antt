@@ -2,7 +2,8 @@
 use Rattle.std.specs.Prelude.{◌≡◌, ℕ, length}
 use Rattle.ulfm_trace_model.specs.Traces.{Traced}
 use Rattle.ulfm_judge.specs.declared.judge.Judge.{Judge}
-use Rattle.ulfm_judge.specs.{Kept.{AreCalls, traced_of}, Telling.{TablesTell}}
+use Rattle.ulfm_judge.specs.Kept.{AreCalls, traced_of}
+use Rattle.ulfm_numbers.specs.Telling.{TablesTell}
 
 -- A judge stands for what lines said: its tables tell the history, the records are those that it keeps, and each caller has the call under way that
 -- it keeps at that caller's place.

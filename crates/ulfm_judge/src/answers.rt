@@ -5,15 +5,15 @@ ghost use Rattle.ulfm_model.specs.Answers.{comm_of, refusal_of};
 ghost use Rattle.ulfm_model.specs.Records.{held_at};
 ghost use Rattle.ulfm_judge.specs.CallsAt.{call_at};
 ghost use Rattle.ulfm_judge.specs.ReplyTests.{acked_test, barrier_start_test, by_record_test, group_test, listed_in, looked_test};
-ghost use Rattle.ulfm_judge.specs.ReplyTests.{offer_test, replied_test, same_ranks, self_failed_test, starts_test};
-ghost use Rattle.ulfm_judge.specs.Seen.{failed_in};
-ghost use Rattle.ulfm_judge.specs.Telling.{seen_at};
+ghost use Rattle.ulfm_judge.specs.ReplyTests.{offer_test, replied_test, self_failed_test, starts_test};
+ghost use Rattle.ulfm_numbers.specs.Groups.{same_ranks};
+ghost use Rattle.ulfm_numbers.specs.Seen.{failed_in};
+ghost use Rattle.ulfm_numbers.specs.Telling.{seen_at};
 
-use crate::numbers::Numbers;
 use crate::polls::{View, is_poll_reply};
 use crate::replies::{
     count_known, is_acked_reply, is_barrier_start_reply, is_freed, is_group_reply, is_refused,
-    is_revoke_reply, is_standing_reply, is_start_reply, same_ranks,
+    is_revoke_reply, is_standing_reply, is_start_reply,
 };
 use std::alloc::{AllocError, Allocator};
 use ulfm_history::reads::has_rank;
@@ -22,6 +22,8 @@ use ulfm_model::call::{Call, MOST_FAILURES, comm_of};
 use ulfm_model::contribution::Offer;
 use ulfm_model::refusal::Refusal;
 use ulfm_model::reply::Reply;
+use ulfm_numbers::groups::same_ranks;
+use ulfm_numbers::numbers::Numbers;
 use ulfm_record::held::{HeldComm, place_of, refusal_of};
 use ulfm_record::ids::free_ids;
 

@@ -2,7 +2,8 @@
 ghost use Rattle.std.specs.Prelude.{◌≡◌, ◌∷◌, ◌++◌, [], IfOk, List, OnOk, Some, filter, if◌then◌else◌, is_some, map, not, take, unwrap_or};
 ghost use Rattle.ulfm_judge.specs.Kept.{AreCalls, GoesWith, MayLeave, traced_of, under_of};
 ghost use Rattle.ulfm_judge.specs.ReplyTests.{call_test, rank_test, reply_test};
-ghost use Rattle.ulfm_judge.specs.Telling.{AnswersBy, LeavesRound, TablesTell};
+ghost use Rattle.ulfm_judge.specs.Telling.{AnswersBy, LeavesRound};
+ghost use Rattle.ulfm_numbers.specs.Telling.{TablesTell};
 ghost use Rattle.ulfm_model.specs.Answers.{closed, comm_of, left_by, traits_of};
 ghost use Rattle.ulfm_model.specs.History.{History, first_ranks};
 ghost use Rattle.ulfm_model.specs.Records.{Held, Record, held_at, new_held};
@@ -15,7 +16,6 @@ ghost use Rattle.ulfm_trace_model.specs.declared.line.Line.{Line};
 
 use crate::answers::{is_answer, lists};
 use crate::calls::{OpenCall, first_of, place_by, place_of_rank};
-use crate::numbers::Numbers;
 use crate::polls::View;
 use crate::replies::{is_fail_reply, is_refused};
 use std::alloc::{AllocError, Allocator};
@@ -26,6 +26,7 @@ use ulfm_model::event::Caller;
 use ulfm_model::limits::Limits;
 use ulfm_model::refusal::Refusal;
 use ulfm_model::reply::Reply;
+use ulfm_numbers::numbers::Numbers;
 use ulfm_record::held::{HeldComm, take_in};
 use ulfm_record::leaves::settle;
 use ulfm_record::record::RankRecord;

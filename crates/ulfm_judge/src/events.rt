@@ -3,20 +3,21 @@ ghost use Rattle.std.specs.Prelude.{◌≡◌, ◌==◌, false, IfOk, List, OnOk
 ghost use Rattle.std.specs.Option.{option_map_or};
 ghost use Rattle.ulfm_model.specs.History.{History, failures, first_ranks, says};
 ghost use Rattle.ulfm_judge.specs.Kept.{AreCalls, traced_of, under_of};
-ghost use Rattle.ulfm_judge.specs.Telling.{TellsSome, TablesTell};
+ghost use Rattle.ulfm_judge.specs.Telling.{TellsSome};
+ghost use Rattle.ulfm_numbers.specs.Telling.{TablesTell};
 ghost use Rattle.ulfm_judge.specs.Tests.{own_by_test};
 ghost use Rattle.ulfm_trace_model.specs.Traces.{Takes, Under, change_by, is_owned, with_event};
 ghost use Rattle.ulfm_trace_model.specs.declared.line.Line.{Line};
 
-use crate::allowed::may_follow;
 use crate::calls::{OpenCall, first_of, place_by, place_of_rank};
-use crate::numbers::Numbers;
 use crate::own::may_own;
 use std::alloc::{AllocError, Allocator};
 use ulfm_laws::meld::Meld;
 use ulfm_model::call::Call;
 use ulfm_model::event::{Caller, Entry, Event};
 use ulfm_model::limits::Limits;
+use ulfm_numbers::allowed::may_follow;
+use ulfm_numbers::numbers::Numbers;
 use ulfm_record::record::RankRecord;
 use ulfm_trace_model::line::Why;
 

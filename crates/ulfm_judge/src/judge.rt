@@ -1,7 +1,8 @@
 //! The judge of traces.
 ghost use Rattle.std.specs.Prelude.{◌≡◌, ◌≤◌, IfOk, List, ℕ, length, map, max};
 ghost use Rattle.ulfm_judge.specs.Kept.{AreCalls, GoesWith, needed_by, traced_of};
-ghost use Rattle.ulfm_judge.specs.Telling.{TellsSome, TablesTell};
+ghost use Rattle.ulfm_judge.specs.Telling.{TellsSome};
+ghost use Rattle.ulfm_numbers.specs.Telling.{TablesTell};
 ghost use Rattle.ulfm_model.specs.History.{History, first_ranks};
 ghost use Rattle.ulfm_model.specs.Words.{MayOpen};
 ghost use Rattle.ulfm_trace_model.specs.Traces.{Takes, Traced, Under, nothing};
@@ -10,12 +11,12 @@ ghost use Rattle.ulfm_trace_model.specs.declared.line.Line.{Line};
 use crate::calls::{OpenCall, begin, look, place_by};
 use crate::closing::take_reply;
 use crate::events::happen;
-use crate::numbers::Numbers;
 use std::alloc::{AllocError, Allocator};
 use ulfm_laws::meld::{Meld, Packed};
 use ulfm_model::event::{Caller, Event};
 use ulfm_model::limits::Limits;
 use ulfm_model::reply::Reply;
+use ulfm_numbers::numbers::Numbers;
 use ulfm_record::fresh::new_records;
 use ulfm_record::record::RankRecord;
 use ulfm_trace_model::line::{Line, Why};

@@ -4,9 +4,8 @@ ghost use Rattle.ulfm_model.specs.History.{has};
 ghost use Rattle.ulfm_judge.specs.Tests.{arrives_test, revokes_test};
 ghost use Rattle.ulfm_judge.specs.ReplyTests.{acked_test, barrier_start_test, fail_test, fails_test, freed_test, given_test, gives_test};
 ghost use Rattle.ulfm_judge.specs.ReplyTests.{group_test, only_of, only_test, refused_test, revoke_test, same_answer, same_offer};
-ghost use Rattle.ulfm_judge.specs.ReplyTests.{same_ranks, same_refusal, stands_test, standing_test, start_test};
+ghost use Rattle.ulfm_judge.specs.ReplyTests.{same_refusal, stands_test, standing_test, start_test};
 
-use crate::groups::has_member;
 use crate::own::{arrives, revokes};
 use std::alloc::Allocator;
 use ulfm_laws::meld::Packed;
@@ -15,6 +14,7 @@ use ulfm_model::event::Event;
 use ulfm_model::limits::Limits;
 use ulfm_model::refusal::{Refusal, refusal_number};
 use ulfm_model::reply::Reply;
+use ulfm_numbers::groups::has_member;
 use ulfm_record::held::HeldComm;
 
 /// What a contribution is to be: the offer, and how many failures of the communicator were known and acknowledged.
@@ -40,13 +40,6 @@ pub(crate) fn same_answer(x: bool, y: bool) -> bool
     ensures { result ≡ same_answer x y }
 {
     if x { y } else { !y }
-}
-
-/// Whether two lists of ranks are one.
-pub(crate) fn same_ranks(xs: &[u16], ys: &[u16]) -> bool
-    ensures { result ≡ same_ranks xs.now ys.now }
-{
-    xs == ys
 }
 
 /// The event of a list that has one alone.

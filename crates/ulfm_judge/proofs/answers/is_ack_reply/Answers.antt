@@ -2,9 +2,9 @@ use Rattle.std.proofs.Common.{◌≡◌, ◌&&◌, ℕ, Bool, true, length, max,
 use Rattle.ulfm_model.specs.Records.{Held}
 use Rattle.ulfm_model.specs.declared.reply.Reply.{Reply}
 use Rattle.ulfm_judge.specs.ReplyTests.{acked_test}
-use Rattle.ulfm_judge.specs.Seen.{failed_in}
-use Rattle.ulfm_judge.specs.Telling.{seen_at}
-use Rattle.ulfm_judge.proofs.Deciding.{true_and}
+use Rattle.ulfm_numbers.specs.Seen.{failed_in}
+use Rattle.ulfm_numbers.specs.Telling.{seen_at}
+use Rattle.ulfm_numbers.proofs.Deciding.{true_and}
 use Rattle.ulfm_judge.proofs.answers.is_ack_reply.Goals as goal
 
 -- the greater of what was acknowledged and of the lesser of two counts

@@ -3,9 +3,9 @@ use Rattle.std.proofs.lemmas.List.{length-take}
 use Rattle.ulfm_model.specs.Records.{Held}
 use Rattle.ulfm_model.specs.declared.reply.Reply.{Reply}
 use Rattle.ulfm_judge.specs.ReplyTests.{group_test}
-use Rattle.ulfm_judge.specs.Seen.{failed_in}
-use Rattle.ulfm_judge.specs.Telling.{seen_at}
-use Rattle.ulfm_judge.proofs.Deciding.{true_and}
+use Rattle.ulfm_numbers.specs.Seen.{failed_in}
+use Rattle.ulfm_numbers.specs.Telling.{seen_at}
+use Rattle.ulfm_numbers.proofs.Deciding.{true_and}
 use Rattle.ulfm_judge.proofs.answers.is_acked_group_reply.Goals as goal
 
 -- the lesser of what is acknowledged and of what is known counts the first that are acknowledged

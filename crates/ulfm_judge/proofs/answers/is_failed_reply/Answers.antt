@@ -1,8 +1,9 @@
 use Rattle.std.proofs.Common.{◌&&◌, length, sym, ap, ◌∙◌}
-use Rattle.ulfm_judge.specs.ReplyTests.{group_test, same_ranks}
-use Rattle.ulfm_judge.specs.Seen.{failed_in}
-use Rattle.ulfm_judge.specs.Telling.{seen_at}
-use Rattle.ulfm_judge.proofs.Deciding.{true_and}
+use Rattle.ulfm_judge.specs.ReplyTests.{group_test}
+use Rattle.ulfm_numbers.specs.Groups.{same_ranks}
+use Rattle.ulfm_numbers.specs.Seen.{failed_in}
+use Rattle.ulfm_numbers.specs.Telling.{seen_at}
+use Rattle.ulfm_numbers.proofs.Deciding.{true_and}
 use Rattle.ulfm_judge.proofs.answers.is_failed_reply.Goals as goal
 
 pub returns-then-all : goal.returns-then-all

@@ -1,8 +1,9 @@
 use Rattle.std.proofs.Common.{ℕ, List, ap, ap₂, ◌∙◌}
 use Rattle.ulfm_model.specs.declared.event.Event.{Event}
 use Rattle.ulfm_model.specs.Answers.{rank_of}
-use Rattle.ulfm_judge.specs.{Kept.{under_of}, ReplyTests.{fail_test}, Seen.{Seen}, Telling.{seen_at}}
-use Rattle.ulfm_judge.proofs.Seeing.{seen_same}
+use Rattle.ulfm_judge.specs.{Kept.{under_of}, ReplyTests.{fail_test}}
+use Rattle.ulfm_numbers.specs.{Seen.{Seen}, Telling.{seen_at}}
+use Rattle.ulfm_numbers.proofs.Seeing.{seen_same}
 use Rattle.ulfm_judge.proofs.closing.answers_call.Goals as goal
 
 pub returns-in-Outside-clause-told : goal.returns-in-Outside-clause-told

@@ -1,7 +1,9 @@
 use Rattle.std.proofs.Common.{ℕ, length, sym, ap₂, ◌∙◌, arith}
 use Rattle.std.proofs.lemmas.Bool.{false≢true, le-leb, lt-leb}
-use Rattle.ulfm_judge.specs.{ReplyTests.{listed_in, same_ranks}, Seen.{Seen}}
-use Rattle.ulfm_judge.proofs.{Lasting.{no_value}, Leaving.{all_and, first_fails, second_fails, third_fails}, Seeing.{seen_same}}
+use Rattle.ulfm_judge.specs.ReplyTests.{listed_in}
+use Rattle.ulfm_numbers.specs.{Groups.{same_ranks}, Seen.{Seen}}
+use Rattle.ulfm_numbers.proofs.{Lasting.{no_value}, Deciding.{first_fails}, Seeing.{seen_same}}
+use Rattle.ulfm_judge.proofs.Leaving.{all_and, second_fails, third_fails}
 use Rattle.ulfm_judge.proofs.closing.may_reply.Goals as goal
 
 pub returns-then-point-u : goal.returns-then-point-u

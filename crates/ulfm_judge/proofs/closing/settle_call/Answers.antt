@@ -8,7 +8,7 @@ use Rattle.ulfm_record.specs.{declared.record.RankRecord.{RankRecord}, Kept.{rec
 use Rattle.ulfm_record.proofs.Places.{find_no_place, find_place}
 use Rattle.ulfm_trace_model.specs.Traces.{taken_in}
 use Rattle.ulfm_judge.specs.Kept.{traced_of, under_of}
-use Rattle.ulfm_judge.proofs.Lasting.{no_value}
+use Rattle.ulfm_numbers.proofs.Lasting.{no_value}
 use Rattle.ulfm_judge.proofs.Leaving.{none_changed, on_ok, one_changed}
 use Rattle.ulfm_judge.proofs.closing.settle_call.Goals as goal
 

@@ -1,8 +1,8 @@
 use Rattle.std.proofs.Common.{◌≡◌, Bool, false, sym, ap, ap₂, ◌∙◌}
 use Rattle.ulfm_model.specs.{History.{Decision}, Records.{Held}}
 use Rattle.ulfm_judge.specs.ReplyTests.{agree_test, pending_test}
-use Rattle.ulfm_judge.specs.Seen.{decision_in, is_decided_in}
-use Rattle.ulfm_judge.specs.Telling.{seen_at}
+use Rattle.ulfm_numbers.specs.Seen.{decision_in, is_decided_in}
+use Rattle.ulfm_numbers.specs.Telling.{seen_at}
 use Rattle.ulfm_judge.proofs.Deferring.{late_agree, said_pending}
 use Rattle.ulfm_judge.proofs.polls.is_agree_poll.Goals as goal
 

@@ -1,7 +1,8 @@
 use Rattle.std.proofs.Common.{◌≡◌, ℕ, Bool, List, filter, ap, ap₂, ◌∙◌}
 use Rattle.std.specs.List.{list_all}
 use Rattle.ulfm_model.specs.{History.{has}, Records.{Held}}
-use Rattle.ulfm_judge.specs.{ReplyTests.{barrier_test}, Telling.{seen_at}}
+use Rattle.ulfm_judge.specs.ReplyTests.{barrier_test}
+use Rattle.ulfm_numbers.specs.Telling.{seen_at}
 use Rattle.ulfm_judge.proofs.polls.is_barrier_poll.Goals as goal
 
 pub returns : goal.returns

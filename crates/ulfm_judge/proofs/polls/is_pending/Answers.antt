@@ -1,6 +1,7 @@
 use Rattle.std.proofs.Common.{◌≡◌, List, ℕ, true, sym, ap, ◌∙◌}
 use Rattle.ulfm_model.specs.{History.{has}, Records.{Held}}
-use Rattle.ulfm_judge.specs.{ReplyTests.{late_test}, Telling.{seen_at}}
+use Rattle.ulfm_judge.specs.ReplyTests.{late_test}
+use Rattle.ulfm_numbers.specs.Telling.{seen_at}
 use Rattle.ulfm_judge.proofs.Finding.{one_among, one_at}
 use Rattle.ulfm_judge.proofs.polls.is_pending.Goals as goal
 

@@ -1,7 +1,7 @@
 use Rattle.std.proofs.Common.{◌≡◌, Bool, false, sym, ap, ap₂, ◌∙◌}
 use Rattle.ulfm_model.specs.{History.{Decision}, Records.{Held}}
 use Rattle.ulfm_judge.specs.ReplyTests.{shrink_test, pending_test}
-use Rattle.ulfm_judge.specs.Seen.{decision_in, is_decided_in}
+use Rattle.ulfm_numbers.specs.Seen.{decision_in, is_decided_in}
 use Rattle.ulfm_judge.specs.CallsAt.{call_at}
 use Rattle.ulfm_judge.proofs.Deferring.{late_shrink, said_pending}
 use Rattle.ulfm_judge.proofs.polls.is_shrink_poll.Goals as goal

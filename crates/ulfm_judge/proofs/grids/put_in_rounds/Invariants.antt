@@ -1,6 +1,0 @@
-use Rattle.std.proofs.Common.{◌≡◌, ℕ, length}
-use Rattle.ulfm_judge.specs.Grids.{in_rounds}
-use Rattle.ulfm_judge.proofs.grids.put_in_rounds.Given as goal
-
-abbrev pub invariant-room : goal.invariant-room
-invariant-room g l = (l._place ≡ length l.rounds.items) × ((k r : ℕ) → in_rounds l.rounds k r ≡ in_rounds l.initial.rounds k r)

@@ -1,0 +1,11 @@
+//! When the events of a history happened: tables of their numbers, in place of walks of a history.
+#![tactic(auto)]
+
+pub mod allowed;
+pub mod grids;
+pub mod groups;
+pub mod numbers;
+pub mod rounds;
+
+pub use allowed::may_follow;
+pub use numbers::Numbers;
