@@ -2,6 +2,7 @@ pub mod Calls
 pub mod EventLemmas
 pub mod FieldLemmas
 pub mod Joined
+pub mod Leading
 pub mod LineLemmas
 pub mod Literals
 pub mod RankLemmas

@@ -4,13 +4,13 @@ ghost use Rattle.ulfm_script.specs.Words.{rest_at};
 ghost use Rattle.ulfm_lines.specs.EventReading.{arrive_event, event_of, read_fail, mark_event, marked, revoke_event, settle_event, settled, spawn_event};
 
 use crate::fields::{
-    comm_field, is_word, labelled, number_field, offer_field, over, place_field, rank_field,
+    comm_field, labelled, number_field, offer_field, over, place_field, rank_field,
 };
 use ulfm_laws::{Acked, FlagAnd, Known};
 use ulfm_model::contribution::{Contribution, MarkCount, Offer};
 use ulfm_model::event::Event;
 use ulfm_script::LineKind;
-use ulfm_script::words::next_word;
+use ulfm_script::words::{is_word, next_word};
 
 /// An event, behind its caller; none where no contribution and no mark has its counts.
 #[tactic(auto, unfolding(crate::specs::EventReading::event_of))]

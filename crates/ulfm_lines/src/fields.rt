@@ -1,8 +1,8 @@
 //! The fields of a trace's line, read one after another, each with the text behind it.
-ghost use Rattle.std.specs.Prelude.{◌≡◌};
-ghost use Rattle.std.specs.Str.{bytes_eq};
+ghost use Rattle.std.specs.Prelude.{◌≡◌, ◌≤◌, ◌<◌, IfOk};
+ghost use Rattle.ulfm_script.specs.Digits.{number_in, number_to};
 ghost use Rattle.ulfm_script.specs.Words.{Gives, rest_at};
-ghost use Rattle.ulfm_lines.specs.Fields.{at_field, caller_field, read_caller, comm_field, error_field, error_of, flag_field, flag_mask, label_field};
+ghost use Rattle.ulfm_lines.specs.Fields.{at_field, field_by, caller_field, read_caller, comm_field, error_field, error_of, flag_field, flag_mask, label_field};
 ghost use Rattle.ulfm_lines.specs.Fields.{labelled, number_field, offer_field, offer_of, over, place_field, point_field, rank_field};
 
 use ulfm_laws::{CtxMask, FlagAnd};
@@ -10,53 +10,86 @@ use ulfm_model::contribution::Offer;
 use ulfm_model::event::Caller;
 use ulfm_script::LineKind;
 use ulfm_script::words::{
-    LAST_COMM, LAST_RANK, next_word, read_number, read_number_to, read_point, read_printed_flag,
+    LAST_COMM, LAST_RANK, is_word, leading_number, next_word, read_number_to, read_printed_flag,
 };
 
-/// Whether a word is this text.
-pub(crate) fn is_word(word: &[u8], text: &[u8]) -> bool
-    ensures { result ≡ bytes_eq word.now text.now }
+/// A number of at most so many digits, read in one pass.
+#[inline(always)]
+fn leading_field(most: usize, text: Option<&[u8]>) -> Result<(u32, Option<&[u8]>), LineKind>
+    requires { most ≤ 7 }
+    ensures read { Gives at_field result (field_by (number_in most) (rest_at text.entry)) }
+    ensures small { IfOk result (λ field. most ≡ 4 → field.0 < 10000) }
 {
-    word == text
+    let Some(text) = text else {
+        return Err(LineKind::Words);
+    };
+    match leading_number(most, text) {
+        Ok(field) => Ok(field),
+        Err(kind) => {
+            if text.is_empty() {
+                return Err(LineKind::Words);
+            }
+            if text[0] == b' ' {
+                return Err(LineKind::Words);
+            }
+            Err(kind)
+        }
+    }
 }
 
+/// A number that is at most `most`.
+#[inline(always)]
+fn field_to(most: u16, text: Option<&[u8]>) -> Result<(u16, Option<&[u8]>), LineKind>
+    ensures { Gives at_field result (field_by (number_to most) (rest_at text.entry)) }
+{
+    match leading_field(4, text) {
+        Ok((number, rest)) => {
+            if number > u32::from(most) {
+                return Err(LineKind::Number);
+            }
+            Ok((number as u16, rest))
+        }
+        Err(kind) => Err(kind),
+    }
+}
+
+#[inline(always)]
 #[tactic(auto, unfolding(crate::specs::Fields::rank_field))]
 pub(crate) fn rank_field(text: Option<&[u8]>) -> Result<(u16, Option<&[u8]>), LineKind>
     ensures { Gives at_field result (rank_field (rest_at text.entry)) }
 {
-    let (word, rest) = next_word(text)?;
-    let rank = read_number_to(LAST_RANK, word)?;
-    Ok((rank, rest))
+    field_to(LAST_RANK, text)
 }
 
+#[inline(always)]
 #[tactic(auto, unfolding(crate::specs::Fields::comm_field))]
 pub(crate) fn comm_field(text: Option<&[u8]>) -> Result<(u16, Option<&[u8]>), LineKind>
     ensures { Gives at_field result (comm_field (rest_at text.entry)) }
 {
-    let (word, rest) = next_word(text)?;
-    let comm = read_number_to(LAST_COMM, word)?;
-    Ok((comm, rest))
+    field_to(LAST_COMM, text)
 }
 
+#[inline(always)]
 #[tactic(auto, unfolding(crate::specs::Fields::number_field))]
 pub(crate) fn number_field(text: Option<&[u8]>) -> Result<(u16, Option<&[u8]>), LineKind>
     ensures { Gives at_field result (number_field (rest_at text.entry)) }
 {
-    let (word, rest) = next_word(text)?;
-    let number = read_number(word)?;
-    Ok((number, rest))
+    match leading_field(4, text) {
+        Ok((number, rest)) => Ok((number as u16, rest)),
+        Err(kind) => Err(kind),
+    }
 }
 
+#[inline(always)]
 #[tactic(auto, unfolding(crate::specs::Fields::point_field))]
 pub(crate) fn point_field(text: Option<&[u8]>) -> Result<(u32, Option<&[u8]>), LineKind>
     ensures { Gives at_field result (point_field (rest_at text.entry)) }
 {
-    let (word, rest) = next_word(text)?;
-    let point = read_point(word)?;
-    Ok((point, rest))
+    leading_field(7, text)
 }
 
 /// A flag as it is printed.
+#[inline(always)]
 #[tactic(auto, unfolding(crate::specs::Fields::flag_field))]
 pub(crate) fn flag_field(text: Option<&[u8]>) -> Result<(FlagAnd, Option<&[u8]>), LineKind>
     ensures { Gives at_field result (flag_field (rest_at text.entry)) }
@@ -77,16 +110,21 @@ fn read_caller(word: &[u8]) -> Result<Caller, LineKind>
     Ok(Caller::Rank(rank))
 }
 
+#[inline(always)]
 #[tactic(auto, unfolding(crate::specs::Fields::caller_field))]
 pub(crate) fn caller_field(text: Option<&[u8]>) -> Result<(Caller, Option<&[u8]>), LineKind>
     ensures { Gives at_field result (caller_field (rest_at text.entry)) }
 {
+    if let Ok((rank, rest)) = field_to(LAST_RANK, text) {
+        return Ok((Caller::Rank(rank), rest));
+    }
     let (word, rest) = next_word(text)?;
     let by = read_caller(word)?;
     Ok((by, rest))
 }
 
 /// This word, and the text behind it.
+#[inline(always)]
 #[tactic(auto, unfolding(crate::specs::Fields::label_field))]
 pub(crate) fn label_field<'a>(
     label: &[u8],
@@ -95,13 +133,14 @@ pub(crate) fn label_field<'a>(
     ensures { Gives at_field result (label_field label.now (rest_at text.entry)) }
 {
     let (word, rest) = next_word(text)?;
-    if word != label {
+    if !is_word(word, label) {
         return Err(LineKind::Words);
     }
     Ok(((), rest))
 }
 
 /// A number behind its label.
+#[inline(always)]
 #[tactic(auto, unfolding(crate::specs::Fields::labelled))]
 pub(crate) fn labelled<'a>(
     label: &[u8],
@@ -114,6 +153,7 @@ pub(crate) fn labelled<'a>(
 }
 
 /// A communicator, a round and a rank.
+#[inline(always)]
 #[tactic(auto, unfolding(crate::specs::Fields::place_field))]
 pub(crate) fn place_field(
     text: Option<&[u8]>,
@@ -180,6 +220,7 @@ pub(crate) fn error_field(text: Option<&[u8]>) -> Result<(bool, Option<&[u8]>), 
 }
 
 /// Nothing more.
+#[inline(always)]
 #[tactic(auto, unfolding(crate::specs::Fields::over))]
 pub(crate) fn over(text: Option<&[u8]>) -> Result<(), LineKind>
     ensures { result ≡ over (rest_at text.entry) }

@@ -8,12 +8,12 @@ ghost use Rattle.ulfm_lines.specs.LineReading.{acked_reply, read_agreed, failed_
 ghost use Rattle.ulfm_lines.specs.LineReading.{read_shrunk, some_reply_of, word_reply};
 
 use crate::fields::{
-    comm_field, error_field, flag_field, is_word, label_field, labelled, number_field, over,
+    comm_field, error_field, flag_field, label_field, labelled, number_field, over,
 };
 use ulfm_laws::FlagAnd;
 use ulfm_model::{Refusal, Reply, refusal_number};
 use ulfm_script::LineKind;
-use ulfm_script::words::next_word;
+use ulfm_script::words::{is_word, next_word};
 
 /// A reply, or none where it tells a context id that no communicator has; and the ranks that it lists, where it does.
 #[tactic(auto, unfolding(crate::specs::LineReading::some_reply_of))]

@@ -3,10 +3,11 @@ ghost use Rattle.std.specs.Prelude.{◌≡◌, Ok, IfOk};
 ghost use Rattle.ulfm_script.specs.Words.{rest_at};
 ghost use Rattle.ulfm_lines.specs.StepLines.{ScriptStep, SpellsStep, read_asked, before_of, read_failed, finished_of, step_line_of, stepped_of};
 
-use crate::fields::is_word;
 use crate::step_name::read_step_name;
 use ulfm_laws::FlagAnd;
-use ulfm_script::words::{LAST_RANK, one_word, read_number, read_number_to, split_word, two_words};
+use ulfm_script::words::{
+    LAST_RANK, is_word, one_word, read_number, read_number_to, split_word, two_words,
+};
 use ulfm_script::{LineKind, is_padded, read_call};
 use ulfm_trace_model::StepLine;
 

@@ -7,12 +7,12 @@ ghost use Rattle.ulfm_lines.specs.LineTexts.{TraceLine};
 ghost use Rattle.ulfm_lines.specs.Telling.{ListsRanks, TextTells};
 
 use crate::events::read_event;
-use crate::fields::{caller_field, is_word, number_field, over, point_field, rank_field};
+use crate::fields::{caller_field, number_field, over, point_field, rank_field};
 use crate::replies::read_reply;
 use std::alloc::{AllocError, Allocator};
 use ulfm_laws::FlagAnd;
 use ulfm_model::Reply;
-use ulfm_script::words::split_word;
+use ulfm_script::words::{is_word, split_word};
 use ulfm_script::{LineKind, is_padded, read_call};
 use ulfm_trace_model::Line;
 

@@ -1,7 +1,9 @@
+pub mod Ahead
 pub mod ByteLemmas
 pub mod LineParts
 pub mod CallLemmas
 pub mod HeaderLemmas
+pub mod Leading
 pub mod Hexadecimal
 pub mod Numerals
 pub mod Powers
@@ -9,5 +11,4 @@ pub mod RunLemmas
 pub mod ScriptLemmas
 pub mod Short
 pub mod Spelled
-pub mod VerbLemmas
 pub mod WordLemmas

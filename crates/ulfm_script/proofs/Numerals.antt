@@ -49,10 +49,10 @@ passed true kind y z e = absurd cc
 passed false kind y z e = (refl, e)
 
 -- the test of a number's length and first digit
-abbrev is_bad : ℕ → ℕ → ℕ → Bool
+abbrev pub is_bad : ℕ → ℕ → ℕ → Bool
 is_bad most n first = (n == 0) || nat_lt most n || (nat_lt 1 n && (first == 48))
 
-not_empty : (most n first : ℕ) → is_bad most n first ≡ false → 0 < n
+pub not_empty : (most n first : ℕ) → is_bad most n first ≡ false → 0 < n
 not_empty most n first e = grind (arith, nat_tests, e)
 
 not_long : (most n first : ℕ) → is_bad most n first ≡ false → n ≤ most

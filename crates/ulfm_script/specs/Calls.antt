@@ -1,5 +1,5 @@
 -- What a line of a script asks for, or the first fault in it from the left.
-use Rattle.std.specs.Prelude.{ℕ, List, codes, Option, Result, Ok, Err, if◌then◌else◌}
+use Rattle.std.specs.Prelude.{◌≡◌, ℕ, List, codes, Option, Result, Ok, Err, if◌then◌else◌}
 use Rattle.std.specs.Str.{bytes_eq}
 use Rattle.ulfm_laws.specs.declared.flag_and.FlagAnd.{FlagAnd}
 use Rattle.ulfm_model.specs.declared.call.Call.{Call}
@@ -10,7 +10,7 @@ use Rattle.ulfm_script.specs.declared.version.Version.{Version}
 use Rattle.ulfm_script.specs.declared.version.Version.TheVariants.{First, Second}
 use Rattle.ulfm_script.specs.Digits.{read_rank, read_comm, read_number, read_flag_in}
 use Rattle.ulfm_script.specs.Steps.{◌>>=◌}
-use Rattle.ulfm_script.specs.Words.{first_word, one_of, two_of, three_of}
+use Rattle.ulfm_script.specs.Words.{first_word, next_word, one_of, two_of, three_of}
 
 -- a call of a script
 abbrev pub ScriptCall : Type 0
@@ -23,6 +23,16 @@ read_rank_comm fields = do
   rank ← read_rank words.0
   comm ← read_comm words.1
   Ok (rank, comm)
+
+-- a rank and a communicator, and what stands behind them
+pub record StandAhead (fields : Option (List ℕ)) (rank comm : ℕ) (behind : Option (List ℕ)) : Type 0 where
+  pub one : List ℕ
+  pub two : List ℕ
+  pub between : Option (List ℕ)
+  pub first : next_word fields ≡ Ok (one, between)
+  pub second : next_word between ≡ Ok (two, behind)
+  pub rank_is : read_rank one ≡ Ok rank
+  pub comm_is : read_comm two ≡ Ok comm
 
 -- the fields of each verb
 unfoldable pub fail_of : Option (List ℕ) → Result ScriptCall LineKind

@@ -1,5 +1,5 @@
 -- Numbers and flags in words.
-use Rattle.std.specs.Prelude.{ℕ, zero, suc, ◌+◌, ◌*◌, ◌-◌, ◌/◌, ◌%◌, ◌^◌, ◌<◌, Bool, true, false, ⊤, ◌&&◌, ◌||◌, ◌==◌, ◌≡◌, nat_lt, nat_le, if◌then◌else◌}
+use Rattle.std.specs.Prelude.{ℕ, zero, suc, ◌+◌, ◌*◌, ◌-◌, ◌/◌, ◌%◌, ◌^◌, ◌<◌, Bool, true, false, not, ⊤, ◌&&◌, ◌||◌, ◌==◌, ◌≡◌, nat_lt, nat_le, if◌then◌else◌}
 use Rattle.std.specs.Prelude.{List, [], ◌∷◌, ◌++◌, length, slice_index, Option, Some, None, Result, Ok, Err}
 use Rattle.ulfm_laws.specs.declared.flag_and.FlagAnd.{FlagAnd}
 use Rattle.ulfm_laws.specs.{Flags.{flag_unpack}, Ranges.{payload_bits}}
@@ -21,6 +21,10 @@ hex_of x = if nat_le 48 x && nat_le x 57 then Some (x - 48) else (if nat_le 97 x
 abbrev pub digits_after : LineKind → ℕ → (ℕ → Option ℕ) → ℕ → List ℕ → Result ℕ LineKind
 digits_after kind base digit value [] = Ok value
 digits_after kind base digit value (x ∷ xs) = or_fault kind (digit x) >>= λ d. digits_after kind base digit (value * base + d) xs
+
+-- there are digits, and no zero stands before others
+abbrev pub are_plain : List ℕ → Bool
+are_plain digits = not (length digits == 0) && ((length digits == 1) || not (slice_index digits 0 == 48))
 
 -- a number has one to so many decimal digits, and no zero before others
 unfoldable pub number_in : ℕ → List ℕ → Result ℕ LineKind

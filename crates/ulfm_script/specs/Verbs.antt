@@ -1,5 +1,5 @@
 -- Verbs as a reader of lines tells them apart, and their words.
-use Rattle.std.specs.Prelude.{ℕ, List, codes, Option, Some, None, Result, Err}
+use Rattle.std.specs.Prelude.{ℕ, List, Option, Some, None, Result, Err}
 use Rattle.ulfm_model.specs.declared.call.Call.TheVariants as call
 use Rattle.ulfm_script.specs.declared.version.Version.{Version}
 use Rattle.ulfm_script.specs.Calls.{ScriptCall, ack_of, agree_of, fail_of, of_second, read_plain_call}
@@ -21,25 +21,6 @@ call_at plain.Poll rank comm = call.Poll rank comm
 call_at plain.Revoke rank comm = call.Revoke rank comm
 call_at plain.IsRevoked rank comm = call.IsRevoked rank comm
 call_at plain.Free rank comm = call.Free rank comm
-
--- the word of such a verb
-abbrev pub plain_word : Plain → List ℕ
-plain_word plain.GetFailed = codes "get"
-plain_word plain.FailureAck = codes "failure_ack"
-plain_word plain.FailureGetAcked = codes "failure_get_acked"
-plain_word plain.Shrink = codes "shrink"
-plain_word plain.Barrier = codes "barrier"
-plain_word plain.Poll = codes "poll"
-plain_word plain.Revoke = codes "revoke"
-plain_word plain.IsRevoked = codes "isrevoked"
-plain_word plain.Free = codes "free"
-
--- the word of a verb
-abbrev pub verb_word : Verb → List ℕ
-verb_word verb.Fail = codes "fail"
-verb_word verb.Ack = codes "ack"
-verb_word verb.Agree = codes "agree"
-verb_word (verb.Plain name) = plain_word name
 
 -- the call of a verb with a rank and a communicator, by its fields, in a script of this version
 abbrev pub plain_in : Version → Plain → Option (List ℕ) → Result ScriptCall LineKind

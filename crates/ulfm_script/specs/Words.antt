@@ -3,7 +3,7 @@ use denote.Ref.{Bor}
 use Rattle.std.specs.Prelude.{◌≡◌, ℕ, List, [], ◌∷◌, ◌++◌, length, Option, Some, None, option_map, Result, Ok, Err, ◌==◌, if◌then◌else◌}
 use Rattle.ulfm_script.specs.declared.line_kind.LineKind.{LineKind}
 use Rattle.ulfm_script.specs.declared.line_kind.LineKind.TheVariants.{Words}
-use Rattle.ulfm_script.specs.Steps.{◌>>=◌}
+use Rattle.ulfm_script.specs.{Digits.{number_in}, Steps.{◌>>=◌}}
 
 -- a word with this beginning, up to the next space or the end, and the text behind that space, if there is one
 abbrev pub word_from : List ℕ → List ℕ → List ℕ × Option (List ℕ)
@@ -18,6 +18,10 @@ first_word text = word_from [] text
 unfoldable pub next_word : Option (List ℕ) → Result (List ℕ × Option (List ℕ)) LineKind
 next_word None = Err Words
 next_word (Some text) = if length (first_word text).0 == 0 then Err Words else Ok (first_word text)
+
+-- a number of at most so many digits as the first word, and the text behind it
+unfoldable pub leading_number : ℕ → List ℕ → Result (ℕ × Option (List ℕ)) LineKind
+leading_number most text = number_in most (first_word text).0 >>= λ n. Ok (n, (first_word text).1)
 
 -- a value, where no further word stands behind it
 abbrev pub if_last : {A : Type 0} → Option (List ℕ) → A → Result A LineKind
@@ -60,6 +64,9 @@ rest_at text = option_map (λ rest. rest.now) text
 
 abbrev pub word_seen : Bor (List ℕ) × Option (Bor (List ℕ)) → List ℕ × Option (List ℕ)
 word_seen x = (x.0.now, rest_at x.1)
+
+abbrev pub number_seen : ℕ × Option (Bor (List ℕ)) → ℕ × Option (List ℕ)
+number_seen x = (x.0, rest_at x.1)
 
 abbrev pub two_at : Bor (List ℕ) × Bor (List ℕ) → List ℕ × List ℕ
 two_at x = (x.0.now, x.1.now)

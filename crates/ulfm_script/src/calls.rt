@@ -1,7 +1,7 @@
 //! The calls of a script, line by line.
-ghost use Rattle.std.specs.Prelude.{◌≡◌, ℕ, List, Option, Ok, IfOk};
-ghost use Rattle.ulfm_script.specs.Calls.{ScriptCall, call_from, call_in, call_of, read_rank_comm, fail_of, ack_of, agree_of, read_plain_call};
-ghost use Rattle.ulfm_script.specs.Verbs.{call_at, found_call, plain_in, plain_word, verb_call, verb_word};
+ghost use Rattle.std.specs.Prelude.{◌≡◌, ℕ, List, Option, Ok, IfOk, IfSome};
+ghost use Rattle.ulfm_script.specs.Calls.{ScriptCall, call_from, call_in, call_of, read_rank_comm, fail_of, ack_of, agree_of, read_plain_call, StandAhead};
+ghost use Rattle.ulfm_script.specs.Verbs.{call_at, found_call, plain_in, verb_call};
 ghost use Rattle.ulfm_script.specs.Spelling.{Spells, SpellsIn, is_padded, spelled_text};
 ghost use Rattle.ulfm_script.specs.Words.{rest_at};
 ghost use Rattle.ulfm_script.specs.declared.version.Version.{Version as VersionOf};
@@ -10,8 +10,8 @@ use crate::digits::{HALF_DIGITS, LEAST_LONG};
 use crate::line_kind::LineKind;
 use crate::version::Version;
 use crate::words::{
-    LAST_COMM, LAST_RANK, one_word, read_flag_in, read_number, read_number_to, split_word,
-    three_words, two_words,
+    LAST_COMM, LAST_RANK, is_word, leading_number, one_word, read_flag_in, read_number,
+    read_number_to, split_word, three_words, two_words,
 };
 use ulfm_laws::FlagAnd;
 use ulfm_model::Call;
@@ -87,58 +87,36 @@ fn parse_call(version: Version, line: &[u8]) -> Result<Call<FlagAnd>, LineKind>
 }
 
 /// The verb that a word spells.
+#[inline(always)]
 fn find_verb(word: &[u8]) -> Option<Verb>
     ensures { (version : VersionOf) (rest : Option (List ℕ)) → found_call version result rest ≡ call_from version (word.now, rest) }
 {
-    let verbs = [
-        Verb::Fail,
-        Verb::Plain(Plain::GetFailed),
-        Verb::Ack,
-        Verb::Agree,
-        Verb::Plain(Plain::Shrink),
-        Verb::Plain(Plain::Barrier),
-        Verb::Plain(Plain::Poll),
-        Verb::Plain(Plain::Revoke),
-        Verb::Plain(Plain::IsRevoked),
-        Verb::Plain(Plain::Free),
-        Verb::Plain(Plain::FailureAck),
-        Verb::Plain(Plain::FailureGetAcked),
-    ];
-    for verb in &verbs {
-        if word == verb_word(*verb) {
-            return Some(*verb);
-        }
-    }
-    None
-}
-
-/// The word of a verb.
-#[inline(always)]
-fn verb_word(verb: Verb) -> &'static [u8]
-    ensures { result.now ≡ verb_word verb }
-{
-    match verb {
-        Verb::Fail => b"fail",
-        Verb::Ack => b"ack",
-        Verb::Agree => b"agree",
-        Verb::Plain(plain) => plain_word(plain),
-    }
-}
-
-#[inline(always)]
-fn plain_word(plain: Plain) -> &'static [u8]
-    ensures { result.now ≡ plain_word plain }
-{
-    match plain {
-        Plain::GetFailed => b"get",
-        Plain::FailureAck => b"failure_ack",
-        Plain::FailureGetAcked => b"failure_get_acked",
-        Plain::Shrink => b"shrink",
-        Plain::Barrier => b"barrier",
-        Plain::Poll => b"poll",
-        Plain::Revoke => b"revoke",
-        Plain::IsRevoked => b"isrevoked",
-        Plain::Free => b"free",
+    if is_word(word, b"fail") {
+        Some(Verb::Fail)
+    } else if is_word(word, b"get") {
+        Some(Verb::Plain(Plain::GetFailed))
+    } else if is_word(word, b"ack") {
+        Some(Verb::Ack)
+    } else if is_word(word, b"agree") {
+        Some(Verb::Agree)
+    } else if is_word(word, b"shrink") {
+        Some(Verb::Plain(Plain::Shrink))
+    } else if is_word(word, b"barrier") {
+        Some(Verb::Plain(Plain::Barrier))
+    } else if is_word(word, b"poll") {
+        Some(Verb::Plain(Plain::Poll))
+    } else if is_word(word, b"revoke") {
+        Some(Verb::Plain(Plain::Revoke))
+    } else if is_word(word, b"isrevoked") {
+        Some(Verb::Plain(Plain::IsRevoked))
+    } else if is_word(word, b"free") {
+        Some(Verb::Plain(Plain::Free))
+    } else if is_word(word, b"failure_ack") {
+        Some(Verb::Plain(Plain::FailureAck))
+    } else if is_word(word, b"failure_get_acked") {
+        Some(Verb::Plain(Plain::FailureGetAcked))
+    } else {
+        None
     }
 }
 
@@ -220,6 +198,24 @@ fn plain_call(plain: Plain, rank: u16, comm: u16) -> Call<FlagAnd>
     }
 }
 
+/// A rank and a communicator at the head of the fields, and the text behind them, where they stand there: each byte is looked at once. The readers of calls
+/// try this first, and take a line apart word by word where it isn't as it should be, to find the fault.
+#[inline(always)]
+fn place_ahead(fields: Option<&[u8]>) -> Option<(u16, u16, Option<&[u8]>)>
+    ensures { IfSome result (λ place. StandAhead (rest_at fields.entry) place.0 place.1 (rest_at place.2)) }
+{
+    let Ok((rank, Some(text))) = leading_number(4, fields?) else {
+        return None;
+    };
+    let Ok((comm, rest)) = leading_number(4, text) else {
+        return None;
+    };
+    if rank > u32::from(LAST_RANK) || comm > u32::from(LAST_COMM) {
+        return None;
+    }
+    Some((rank as u16, comm as u16, rest))
+}
+
 #[tactic(auto, unfolding(crate::specs::Calls::fail_of))]
 fn read_fail(fields: Option<&[u8]>) -> Result<Call<FlagAnd>, LineKind>
     ensures { result ≡ fail_of (rest_at fields.entry) }
@@ -234,6 +230,9 @@ fn read_fail(fields: Option<&[u8]>) -> Result<Call<FlagAnd>, LineKind>
 fn read_place(fields: Option<&[u8]>) -> Result<(u16, u16), LineKind>
     ensures { result ≡ read_rank_comm (rest_at fields.entry) }
 {
+    if let Some((rank, comm, None)) = place_ahead(fields) {
+        return Ok((rank, comm));
+    }
     let (rank, comm) = two_words(fields)?;
     let rank = read_number_to(LAST_RANK, rank)?;
     let comm = read_number_to(LAST_COMM, comm)?;
@@ -244,6 +243,12 @@ fn read_place(fields: Option<&[u8]>) -> Result<(u16, u16), LineKind>
 fn read_ack(fields: Option<&[u8]>) -> Result<Call<FlagAnd>, LineKind>
     ensures { result ≡ ack_of (rest_at fields.entry) }
 {
+    if let Some((rank, comm, Some(text))) = place_ahead(fields)
+        && let Ok((count, None)) = leading_number(4, text)
+    {
+        let count = count as u16;
+        return Ok(Call::Ack { rank, comm, count });
+    }
     let (rank, comm, count) = three_words(fields)?;
     let rank = read_number_to(LAST_RANK, rank)?;
     let comm = read_number_to(LAST_COMM, comm)?;
@@ -255,6 +260,11 @@ fn read_ack(fields: Option<&[u8]>) -> Result<Call<FlagAnd>, LineKind>
 fn read_agree(version: Version, fields: Option<&[u8]>) -> Result<Call<FlagAnd>, LineKind>
     ensures { result ≡ agree_of version (rest_at fields.entry) }
 {
+    if let Some((rank, comm, Some(text))) = place_ahead(fields)
+        && let Ok(value) = read_flag_in(version, text)
+    {
+        return Ok(Call::Agree { rank, comm, value });
+    }
     let (rank, comm, value) = three_words(fields)?;
     let rank = read_number_to(LAST_RANK, rank)?;
     let comm = read_number_to(LAST_COMM, comm)?;

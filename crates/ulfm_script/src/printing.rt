@@ -249,7 +249,8 @@ pub(crate) fn print_behind<A: Allocator>(
     print_number(text, number)
 }
 
-/// A number behind its label.
+/// A number behind its label, which is known to each caller: inlined there, it is put as a word of memory or two.
+#[inline(always)]
 pub(crate) fn print_labelled<A: Allocator>(
     text: &mut Vec<u8, A>,
     label: &[u8],
@@ -262,6 +263,7 @@ pub(crate) fn print_labelled<A: Allocator>(
 }
 
 /// A flag behind its label.
+#[inline(always)]
 fn print_flag<A: Allocator>(
     text: &mut Vec<u8, A>,
     label: &[u8],

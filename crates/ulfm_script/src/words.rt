@@ -1,7 +1,9 @@
 //! The words of a line, and the numbers and flags that they are.
 ghost use Rattle.std.specs.Prelude.{◌≡◌, ◌≤◌, length};
-ghost use Rattle.ulfm_script.specs.Digits.{digit_of, digits_after, hex_of, number_in, read_number, read_point, number_to, read_flag, read_printed_flag, whole_digits, read_flag_in};
+ghost use Rattle.std.specs.Str.{bytes_eq};
+ghost use Rattle.ulfm_script.specs.Digits.{are_plain, digit_of, digits_after, hex_of, number_in, read_number, read_point, number_to, read_flag, read_printed_flag, whole_digits, read_flag_in};
 ghost use Rattle.ulfm_script.specs.Words.{first_word, next_word, one_of, two_of, three_of, four_of, rest_at, word_seen, two_at, three_at, four_at, Gives};
+ghost use Rattle.ulfm_script.specs.Words.{leading_number, number_seen};
 ghost use Rattle.ulfm_script.specs.declared.line_kind.LineKind.TheVariants.{Flag};
 
 use crate::digits::{HALF_DIGITS, WHOLE_DIGITS, printed_digits};
@@ -15,7 +17,16 @@ pub const LAST_RANK: u16 = 1023;
 /// The greatest communicator that a script may name.
 pub const LAST_COMM: u16 = 255;
 
+/// Whether a word is this text. It is inlined into its callers, where a text that is known makes it a few comparisons of whole words of memory.
+#[inline(always)]
+pub fn is_word(word: &[u8], text: &[u8]) -> bool
+    ensures { result ≡ bytes_eq word.now text.now }
+{
+    word.len() == text.len() && word.starts_with(text)
+}
+
 /// The first word, and the text behind the space after it.
+#[inline(always)]
 pub fn split_word(text: &[u8]) -> (&[u8], Option<&[u8]>)
     ensures { word_seen result ≡ first_word text.now }
 {
@@ -28,6 +39,7 @@ pub fn split_word(text: &[u8]) -> (&[u8], Option<&[u8]>)
 }
 
 /// One more word, which is not empty, and the text behind it.
+#[inline(always)]
 #[tactic(auto, unfolding(crate::specs::Words::next_word))]
 pub fn next_word(text: Option<&[u8]>) -> Result<(&[u8], Option<&[u8]>), LineKind>
     ensures { Gives word_seen result (next_word (rest_at text.entry)) }
@@ -43,6 +55,7 @@ pub fn next_word(text: Option<&[u8]>) -> Result<(&[u8], Option<&[u8]>), LineKind
 }
 
 /// Exactly one word.
+#[inline(always)]
 #[tactic(auto, unfolding(crate::specs::Words::one_of))]
 pub fn one_word(text: Option<&[u8]>) -> Result<&[u8], LineKind>
     ensures { Gives (λ a. a.now) result (one_of (rest_at text.entry)) }
@@ -55,6 +68,7 @@ pub fn one_word(text: Option<&[u8]>) -> Result<&[u8], LineKind>
 }
 
 /// Exactly two words.
+#[inline(always)]
 #[tactic(auto, unfolding(crate::specs::Words::two_of))]
 pub fn two_words(text: Option<&[u8]>) -> Result<(&[u8], &[u8]), LineKind>
     ensures { Gives two_at result (two_of (rest_at text.entry)) }
@@ -65,6 +79,7 @@ pub fn two_words(text: Option<&[u8]>) -> Result<(&[u8], &[u8]), LineKind>
 }
 
 /// Exactly three words.
+#[inline(always)]
 #[tactic(auto, unfolding(crate::specs::Words::three_of))]
 pub fn three_words(text: Option<&[u8]>) -> Result<(&[u8], &[u8], &[u8]), LineKind>
     ensures { Gives three_at result (three_of (rest_at text.entry)) }
@@ -82,6 +97,45 @@ pub fn four_words(text: Option<&[u8]>) -> Result<(&[u8], &[u8], &[u8], &[u8]), L
     let (a, rest) = next_word(text)?;
     let (b, c, d) = three_words(rest)?;
     Ok((a, b, c, d))
+}
+
+/// The number of at most so many digits, without leading zeros, that is the first word of a text, and the text behind the space after it: each byte of
+/// the word is looked at once. Where the first word is no such number, the fault is `Number`, also where it is empty.
+///
+/// For 4 digits, `12 known` gives 12 and `known`, `12` gives 12 and nothing; `012`, `12345` and `x` are faults.
+#[inline(always)]
+pub fn leading_number(most: usize, text: &[u8]) -> Result<(u32, Option<&[u8]>), LineKind>
+    requires { most ≤ 7 }
+    ensures { Gives number_seen result (leading_number most text.now) }
+{
+    let mut value = 0;
+    for (i, byte) in text.iter().enumerate() {
+        if *byte == b' ' {
+            if !are_plain(&text[..i]) {
+                return Err(LineKind::Number);
+            }
+            return Ok((value, Some(&text[i + 1..])));
+        }
+        let Some(digit) = digit_value(*byte) else {
+            return Err(LineKind::Number);
+        };
+        if i >= most {
+            return Err(LineKind::Number);
+        }
+        value = value * 10 + digit;
+    }
+    if !are_plain(text) {
+        return Err(LineKind::Number);
+    }
+    Ok((value, None))
+}
+
+/// Whether there are digits, and no zero stands before others.
+#[inline(always)]
+fn are_plain(digits: &[u8]) -> bool
+    ensures { result ≡ are_plain digits.now }
+{
+    !digits.is_empty() && (digits.len() == 1 || digits[0] != b'0')
 }
 
 /// A decimal number of at most four digits, without leading zeros.
@@ -130,6 +184,7 @@ pub fn read_number_to(most: u16, word: &[u8]) -> Result<u16, LineKind>
     Ok(value)
 }
 
+#[inline(always)]
 fn digit_value(byte: u8) -> Option<u32>
     ensures { result ≡ digit_of byte }
 {
@@ -190,6 +245,7 @@ fn read_hex(word: &[u8]) -> Result<u64, LineKind>
     Ok(bits)
 }
 
+#[inline(always)]
 fn hex_value(byte: u8) -> Option<u64>
     ensures { result ≡ hex_of byte }
 {
