@@ -84,7 +84,8 @@ pub record IsLast {P : Type 0} (meld : P → P → P) (line : Line P) (old new :
 
 -- an exchange that found this was won where that is 0, and then its event came last; or it sees the word that stands
 abbrev pub IsExchanged : {P : Type 0} → (P → P → P) → (P → ℕ) → Ask (Line P) → List (Line P) → ℕ → List (Line P) → Type 0
-IsExchanged meld pack ask old found new = MatchBool (found == 0) (IsLast meld ask.ask old new × IsFound pack ask.key ask.new new) (IsFound pack ask.key found new)
+IsExchanged meld pack ask old found new =
+    MatchBool (found == 0) (IsLast meld ask.ask old new × IsFound pack ask.key ask.new new) (IsFound pack ask.key found new)
 
 -- .. and it sees the log
 abbrev pub Exchanges : {P : Type 0} → (P → P → P) → (P → ℕ) → Ask (Line P) → View (Line P) ℕ → ℕ → View (Line P) ℕ → Type 0
@@ -128,7 +129,8 @@ IsSpreadIn log (Wing.Block b) = has_block (cached_in log) b ≡ true
 -- the number found under a key is the wing of what stands beside it in the log
 abbrev pub IsWingFound : {P : Type 0} → (P → P → P) → (P → ℕ) → ℕ → ℕ → List (Line P) → Type 0
 IsWingFound meld pack key found log =
-    (x : Wing) → IsWingWithin (limits_in log) x → key ≡ wing_offset (limits_in log) x → IsSpreadIn log x → IsWing meld pack (limits_in log).ranks (history_in log) x found
+    (x : Wing) → IsWingWithin (limits_in log) x → key ≡ wing_offset (limits_in log) x → IsSpreadIn log x
+    → IsWing meld pack (limits_in log).ranks (history_in log) x found
 
 -- a load of a wing sees the log, and the wing of what stands beside it
 abbrev pub LooksWing : {P : Type 0} → (P → P → P) → (P → ℕ) → Ask (Line P) → View (Line P) ℕ → ℕ → View (Line P) ℕ → Type 0

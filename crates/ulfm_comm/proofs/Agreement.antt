@@ -200,6 +200,20 @@ module _ {P : Type 0} (meld : P → P → P) (name : Over P) (asked : Call P) (m
       subst (λ ms. MayMarkAll name.limits now.seen marks.comm marks.round ms declared) (sym group_same)
       (subst (λ s. MayMarkAll name.limits now.seen marks.comm marks.round marking.x.group s) (sym declared_are) may)
 
+  -- what it stands at, and in whose name
+  found_in : declared ≡ failures marking.look
+  found_in = declared_are ∙ marking_seen meld name.limits alone (comm_of asked) shrinks marks blocks old before.seen own now.seen of.legal marking
+
+  pub marking_at : IsAt members declared marks.next marks.known
+  marking_at = subst (λ ms. IsAt ms declared marks.next marks.known) (sym group_same)
+      (subst (λ s. IsAt marking.x.group s marks.next marks.known) (sym found_in) marking.at)
+
+  pub marking_more : marks.next < length declared
+  marking_more = subst (λ s. marks.next < length s) (sym found_in) st.at.2
+
+  pub marking_mine : marks.rank ≡ own.number
+  marking_mine = marking.mine ∙ sym (ap (λ (w : Record). w.number) marking.looked.record_is)
+
   -- the members are some, and no more than ranks
   pub marking_few : length members ≤ 1024
   marking_few = few_members name.limits now.seen marks.comm marks.round members of.may_open marking_may_on.round

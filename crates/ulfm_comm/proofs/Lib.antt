@@ -6,6 +6,7 @@ pub mod StepsLeft
 pub mod AlsoLeft
 pub mod Known
 pub mod Wings
+pub mod Wins
 pub mod CallRuns
 pub mod Resting
 pub mod Counts
@@ -24,6 +25,7 @@ pub mod LeftOut
 pub mod AmongOthers
 pub mod Opening
 pub mod Polls
+pub mod Proposals
 pub mod Revokes
 pub mod WholeCall
 pub mod ReplyKinds
@@ -38,3 +40,5 @@ pub mod Ready
 pub mod Begins
 pub mod Misses
 pub mod Unspread
+pub mod Runs
+pub mod Others

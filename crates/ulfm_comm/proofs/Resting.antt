@@ -1,8 +1,8 @@
 -- Where nobody else steps, no start is answered `twice` for its wing alone.
-use Rattle.std.proofs.Common.{◌≡◌, ◌⊎◌, inl, inr, ℕ, ◌++◌, Bool, true, false, List, [], Some, refl, ap, sym, ◌∙◌, subst, IsTrue}
-use Rattle.ulfm_model.specs.declared.{call.Call.{Call}, contribution.Contribution.{Contribution}, contribution.Slot.{Slot}, contribution.Slot.TheVariants.{Given, Mark as Marked}, event.Caller.TheVariants.{Rank}}
-use Rattle.ulfm_model.specs.declared.{refusal.Refusal.TheVariants.{ProcFailed, SelfFailed, Twice}, reply.Reply.{Reply}, reply.Reply.TheVariants.{Pending, Refused}}
-use Rattle.ulfm_model.specs.{Answers.{IsReply, IsSelfFailed}, History.{History, IsLegal, entries_by, failures, has, slot}, Records.{Held, Record, held_at, moment}, Runs.{IsRun, IsSpan, rests_on}, Terms.{comm_of}}
+use Rattle.std.proofs.Common.{◌≡◌, ◌⊎◌, inl, inr, ◌++◌, Bool, true, false, Some, ap, sym, ◌∙◌, subst, IsTrue}
+use Rattle.ulfm_model.specs.declared.{call.Call.{Call}, contribution.Contribution.{Contribution}, contribution.Slot.TheVariants.{Given, Mark as Marked}, event.Caller.TheVariants.{Rank}}
+use Rattle.ulfm_model.specs.declared.{refusal.Refusal.TheVariants.{ProcFailed, Twice}, reply.Reply.{Reply}, reply.Reply.TheVariants.{Pending, Refused}}
+use Rattle.ulfm_model.specs.{Answers.{IsReply, IsSelfFailed}, History.{IsLegal, entries_by, failures, has, slot}, Records.{Held, Record, held_at, moment}, Runs.{IsRun, IsSpan, rests_on}, Terms.{comm_of}}
 use Rattle.ulfm_model.proofs.{OnlyRuns.{failures_same}, StepsStarts.{not_marked}}
 use Rattle.ulfm_words.specs.Steps.{Over, Sight, view_at}
 use Rattle.ulfm_comm.specs.{Calls.{Calls}, Ends.{IsEarlyRun, IsEndRun, IsRefusedAgain}, Local.{local}, Requests.{contributes}, Wings.{IsPlaceSet, WingsSettled}}

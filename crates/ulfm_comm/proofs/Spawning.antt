@@ -393,7 +393,7 @@ module _ {P : Type 0} (meld : P → P → P) (alone quiet : Bool) (only : IsTrue
       (may_hold meld name.limits alone (comm_of asked) i.round i.mask i.x i.count old before.seen own now.seen i.decided context reach group i.lowest i.left
       of.may_open.in_range.ranks)
 
-  rank_is : append.by ≡ Rank own.number
+  pub rank_is : append.by ≡ Rank own.number
   rank_is = let i = s.at.1 in i.mine ∙ ap Rank (sym (number_is meld name.limits alone (comm_of asked) i.round i.mask i.x i.count old before.seen own now.seen
       i.decided))
 

@@ -1,5 +1,5 @@
 -- A call under way stands as it stood, after others' events.
-use Rattle.std.proofs.Common.{◌≡◌, ℕ, Bool, true, List, [], Option, Some, None, IfSome, is_some, IsTrue, ap, sym, ◌∙◌, arith}
+use Rattle.std.proofs.Common.{◌≡◌, ℕ, Bool, true, List, [], Option, Some, None, IfSome, IsTrue, ap, sym, ◌∙◌, arith}
 use mathlib.Core.List.{IsPrefix}
 use Rattle.ulfm_laws.specs.declared.ctx_mask.CtxMask.{CtxMask}
 use Rattle.ulfm_model.specs.declared.call.Call.TheVariants as call

@@ -3,7 +3,7 @@ use Rattle.std.proofs.Common.{◌≡◌, ℕ, ◌<◌, ◌≤◌, ◌-◌, Bool,
 use Rattle.ulfm_comm.specs.Requests.{contributes}
 use Rattle.std.proofs.Common.{arith, inl, inr, IsTrue, MatchBool, MatchResult}
 use Rattle.ulfm_model.specs.declared.{call.Call.{Call}, call.Request.{Request}, contribution.Contribution.{Contribution}, contribution.MarkCount.{MarkCount}}
-use Rattle.ulfm_model.specs.declared.{contribution.Offer.{Offer}, contribution.Slot.{Slot}, contribution.Slot.TheVariants.{Given, Mark as Marked}}
+use Rattle.ulfm_model.specs.declared.{contribution.Offer.{Offer}, contribution.Slot.TheVariants.{Given, Mark as Marked}}
 use Rattle.ulfm_model.specs.declared.{event.Caller.TheVariants.{Rank}, event.Event.TheVariants.{Settle}, limits.Limits.{Limits}, refusal.Refusal.{Refusal}}
 use Rattle.ulfm_model.specs.declared.{refusal.Refusal.TheVariants.{Twice}, reply.Reply.{Reply}, reply.Reply.TheVariants.{Refused, Started}}
 use Rattle.ulfm_model.specs.Answers.{CallAdds, Replies, StartReplies, AtPoint, opened, refusal_of, traits_of}

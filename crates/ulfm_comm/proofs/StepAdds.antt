@@ -5,7 +5,7 @@ use Rattle.std.proofs.Common.{MatchBool}
 use Rattle.ulfm_words.specs.declared.sets.Settled.{Settled}
 use Rattle.ulfm_model.specs.declared.call.Call.TheVariants as call
 use Rattle.ulfm_model.specs.declared.{call.Call.{Call}, call.Request.{Request}, contribution.Contribution.{Contribution}, contribution.MarkCount.{MarkCount}}
-use Rattle.ulfm_model.specs.declared.{contribution.Offer.{Offer}, contribution.Slot.{Slot}, contribution.Slot.TheVariants.{Given, Mark as Marked}}
+use Rattle.ulfm_model.specs.declared.{contribution.Offer.{Offer}}
 use Rattle.ulfm_model.specs.declared.{event.Caller.TheVariants.{Rank}, event.Event.{Event}, event.Event.TheVariants.{Arrive, Mark, Revoke, Settle}}
 use Rattle.ulfm_model.specs.declared.{limits.Limits.{Limits}, reply.Reply.{Reply}, reply.Reply.TheVariants.{AlreadyRevoked, Revoked, Started}}
 use Rattle.ulfm_model.specs.{Answers.{CallAdds, MarksDeclared, PollAdds, traits_of}, History.{History, IsLegal, entries_by, failures, has}}

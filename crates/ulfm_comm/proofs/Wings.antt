@@ -1,17 +1,17 @@
 -- What turns of calls leave of the words that no event sets.
-use Rattle.std.proofs.Common.{◌≡◌, ◌⊎◌, inl, inr, ℕ, Bool, true, false, List, [], ◌∷◌, ◌++◌, Option, Some, refl, ap, sym, ◌∙◌, subst, IsTrue}
+use Rattle.std.proofs.Common.{◌≡◌, ◌⊎◌, inl, inr, ℕ, Bool, true, List, [], ◌∷◌, ◌++◌, Some, ap, sym, ◌∙◌, subst, IsTrue}
 use Rattle.std.specs.List.{Contains}
 use Rattle.std.specs.Prelude.{Result, Ok, Err}
 use mathlib.Core.List.{IsPrefix}
-use Rattle.ulfm_model.specs.declared.{block.Wing.{Wing}, call.Call.{Call}, contribution.Offer.{Offer}, contribution.Slot.{Slot}, contribution.Slot.TheVariants.{Given, Mark as Marking}}
-use Rattle.ulfm_model.specs.{Answers.{polled_by}, History.{History, slot}, Records.{Held, Record, held_at}, Terms.{comm_of}}
+use Rattle.ulfm_model.specs.declared.{block.Wing.{Wing}, call.Call.{Call}, contribution.Offer.{Offer}, contribution.Slot.TheVariants.{Given, Mark as Marking}}
+use Rattle.ulfm_model.specs.{Answers.{polled_by}, History.{History}, Records.{Held, Record, held_at}, Terms.{comm_of}}
 use Rattle.ulfm_model.proofs.Histories.{slot_stays}
 use Rattle.ulfm_words.specs.declared.{sets.Settled.{Settled}, sets.Settled.TheVariants.{Contributed, Marked}, step.Site.{Site}}
-use Rattle.ulfm_words.specs.Steps.{IsOfBlock, Over, Sight, TriesFurther, View, view_at}
+use Rattle.ulfm_words.specs.Steps.{IsOfBlock, TriesFurther, View}
 use Rattle.ulfm_words.proofs.Trails.{did_prefix}
 use Rattle.ulfm_words.proofs.Tried.{tried_or, tries_as, tries_none, tries_one, tries_then}
 use Rattle.ulfm_steps.specs.Settles.{WasTried}
-use Rattle.ulfm_comm.specs.{Exchange.{Settles}, Local.{Local}, Phase.{UnderWay, under_way}, Requests.{contributes, is_agreement}, Step.{TriesTurn, WingsIn, WingsNext}, Wings.{IsOwnPlace, IsPlaceSet, MayTry, WingsSettled}}
+use Rattle.ulfm_comm.specs.{Exchange.{Settles}, Local.{Local}, Phase.{UnderWay, under_way}, Requests.{is_agreement}, Step.{TriesTurn}, Wings.{IsOwnPlace, IsPlaceSet, MayTry, WingsIn, WingsNext, WingsSettled}}
 use Rattle.ulfm_comm.specs.declared.{phases.phase.Next.{Next}, phases.phase.Next.TheVariants.{Ends, Goes}, phases.phase.Phase.{Phase}, phases.phase.Phase.TheVariants.{Settling}}
 
 -- what a call may try rests on nothing of its record that a look changes
@@ -119,9 +119,9 @@ turn_settles {P} quiet was request offer old reply new at begins same x held set
         subst (λ n. IsPlaceSet new.view c k n) (sym own.rank) (subst (λ n. IsPlaceSet new.view c n old.own.number) round (subst (λ n. IsPlaceSet new.view n x.next_agreement old.own.number) comm set))
 
 -- turns after one another
-pub turns_then : {P : Type 0} (quiet : Bool) (asked : Call P) (first middle : Phase P) (left : List ℕ) (old mid : Local P) (next : Next P) (new : Local P) → mid.own ≡ record old.own { seen = mid.own.seen }
-    → TriesTurn quiet (under_way asked first []) old (Goes middle) mid → TriesTurn quiet (under_way asked middle left) mid next new → TriesTurn quiet (under_way asked first []) old next new
-turns_then quiet asked first middle left old mid next new kept one two = record {
+pub turns_then : {P : Type 0} (quiet : Bool) (asked : Call P) (first middle : Phase P) (begun left : List ℕ) (old mid : Local P) (next : Next P) (new : Local P) → mid.own ≡ record old.own { seen = mid.own.seen }
+    → TriesTurn quiet (under_way asked first begun) old (Goes middle) mid → TriesTurn quiet (under_way asked middle left) mid next new → TriesTurn quiet (under_way asked first begun) old next new
+turns_then quiet asked first middle begun left old mid next new kept one two = record {
   caches = tries_then old.view.pass.caches mid.view.pass.caches new.view.pass.caches one.caches (try_seen old.own mid.own mid.own.seen asked mid.view.pass.caches new.view.pass.caches kept two.caches);
   wings = λ here wings. two.wings here (one.wings here wings);
 }

@@ -4,7 +4,7 @@ use Rattle.ulfm_words.specs.{Tries.{IsSettledBy}, declared.{sets.Settled.{Settle
 use Rattle.ulfm_model.specs.declared.call.Call.TheVariants as call
 use Rattle.ulfm_model.specs.declared.{call.Call.{Call}, call.Request.{Request}, call.Request.TheVariants.{Agree, Shrink}, contribution.Offer.{Offer}}
 use Rattle.ulfm_model.specs.declared.{contribution.Offer.TheVariants.{Flag, Ctx}, event.Caller.TheVariants.{Rank}}
-use Rattle.ulfm_model.specs.declared.{refusal.Refusal.TheVariants.{SelfFailed, Twice}, contribution.Contribution.{Contribution}, contribution.Slot.{Slot}}
+use Rattle.ulfm_model.specs.declared.{refusal.Refusal.TheVariants.{SelfFailed, Twice}, contribution.Contribution.{Contribution}}
 use Rattle.ulfm_model.specs.declared.{contribution.Slot.TheVariants.{Given}, event.Event.TheVariants.{Settle}, refusal.Refusal.{Refusal}}
 use Rattle.ulfm_model.specs.{History.{History, has, slot}, Records.{Held, Record, free_ids, with_held}, Runs.{Did}, Answers.{opened}}
 

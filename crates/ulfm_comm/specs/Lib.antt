@@ -22,6 +22,7 @@ pub mod Phase
 pub mod Missing
 pub mod Misses
 pub mod Known
+pub mod Proposals
 pub mod Step
 pub mod Counts
 pub mod Begins

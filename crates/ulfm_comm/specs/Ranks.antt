@@ -1,9 +1,9 @@
 -- What a rank keeps beside its record.
-use Rattle.std.specs.Prelude.{ℕ, ◌<◌, ◌≤◌, List, map, nat_eq}
+use Rattle.std.specs.Prelude.{ℕ, ◌<◌, ◌≤◌, IsFalse, List, length, map, nat_eq, take}
 use Rattle.std.specs.List.{AllByRecursion, IsDistinct}
 use Rattle.ulfm_laws.specs.Ranges.{payload_bits}
 use Rattle.ulfm_model.specs.declared.limits.Limits.{Limits}
-use Rattle.ulfm_model.specs.{Records.{Held}, Words.{MayOpen}}
+use Rattle.ulfm_model.specs.{History.{has}, Records.{Held}, Words.{MayOpen}}
 
 -- All ranks can be declared without a growth of what was seen, which has this capacity. The communicators that are held have distinct
 -- context ids, each one of a mask's bits, and stand in a vector that has room for as many as there are ids.
@@ -14,7 +14,13 @@ pub record HasRoom (limits : Limits) (capacity places : ℕ) (held : List Held) 
   pub ids : AllByRecursion (λ i. i < payload_bits) (map (λ x. x.context) held)
   pub contexts : IsDistinct nat_eq (map (λ x. x.context) held)
 
--- its number is that of one of the world's ranks, and it has that room
-pub record IsKept (number : ℕ) (limits : Limits) (capacity places : ℕ) (held : List Held) : Type 0 where
+-- the first so many of the failures that a rank has seen are others
+pub record AreOthers (number : ℕ) (seen : List ℕ) (count : ℕ) : Type 0 where
+  pub within : count ≤ length seen
+  pub none : IsFalse (has (take count seen) number)
+
+-- its number is that of one of the world's ranks, it has that room, and so many that it has seen are others
+pub record IsKept (number : ℕ) (limits : Limits) (capacity places : ℕ) (held : List Held) (seen : List ℕ) (others : ℕ) : Type 0 where
   pub below : number < limits.ranks
   pub room : HasRoom limits capacity places held
+  pub others_are : AreOthers number seen others

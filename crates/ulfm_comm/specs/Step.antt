@@ -5,12 +5,11 @@ use Rattle.ulfm_model.specs.declared.{block.Beside.{Beside}, call.Call.{Call}, e
 use Rattle.ulfm_model.specs.declared.{refusal.Refusal.TheVariants.{SelfFailed}, reply.Reply.{Reply}, reply.Reply.TheVariants.{Refused, Revoked, Started}}
 use Rattle.ulfm_model.specs.{Answers.{CallAdds, polled_by, traits_of}, History.{History, entries_by, failures, has}}
 use Rattle.ulfm_model.specs.{Records.{Held, Record, held_at, is_shrink}, Runs.{Did}, Terms.{comm_of}}
-use Rattle.ulfm_words.specs.Steps.{IsView, Sight, TriesFurther, View, view_at, over}
-use Rattle.ulfm_steps.specs.Settles.{WasTried}
-use Rattle.ulfm_comm.specs.{Look.{JustLooked}, StepsLeft.{FewerLeft, MakesStep, Spends, steps_left}}
+use Rattle.ulfm_words.specs.Steps.{IsView, Sight, TriesFurther, View, view_at}
+use Rattle.ulfm_comm.specs.{Look.{JustLooked}, StepsLeft.{FewerLeft, MakesStep, Spends, steps_left, with_look}}
 use Rattle.ulfm_comm.specs.Missing.{AnsweredNow, AnswersMissing, FindsMissing, FoundNow, midway}
-use Rattle.ulfm_comm.specs.{AlsoLeft.{AlsoTurns, FindsSetIn, also_left}, Known.{KnowsIn, KnowsNext}, Requests.{BlocksStand, LeavesSet}, Wings.{IsOwnPlace, IsPlaceSet, MayTry, WingsSettled}}
-use Rattle.ulfm_comm.specs.Local.{Local, local, stance_of}
+use Rattle.ulfm_comm.specs.{AlsoLeft.{AlsoFollows, AlsoTurns, FindsSetIn, also_left}, Known.{KnowsIn, KnowsNext}, Requests.{BlocksStand, LeavesSet}}
+use Rattle.ulfm_comm.specs.{Local.{Local, local, stance_of}, Proposals.{WinsNext}, Wings.{MayTry, WingsIn, WingsNext}}
 use Rattle.ulfm_comm.specs.Phase.{Answered, UnderWay, under_way, is_looking, next_step, IsFurther, IsPast, LeadsTo, NextIs, reply_in, Stands, Turns}
 use Rattle.ulfm_comm.specs.declared.{phases.phase.Next.{Next}, phases.phase.Next.TheVariants.{Ends, Goes}, phases.phase.Phase.{Phase}}
 use Rattle.ulfm_comm.specs.declared.phases.phase.Phase.TheVariants.{Over, Begun, Looking, Settling, Arriving, Revoking, Marking, ReadingOn}
@@ -94,16 +93,6 @@ pub record Stepped {P : Type 0} (meld : P → P → P) (quiet : Bool) (was : Und
   pub checks : FoundNow (FindsMissing meld quiet (midway was old) new) was.phase next
   pub early : AnsweredNow (AnswersMissing meld quiet (midway was old) new.own) was.phase next
 
--- in a phase no wing stands without its place, but between the two words of a contribution, where the call's own may
-abbrev pub WingsIn : {P : Type 0} → Record → Call P → Phase P → View P → Type 0
-WingsIn own asked (Settling request offer) view = (c k r : ℕ) → WasTried view c k r → IsPlaceSet view c k r ⊎ IsOwnPlace own asked c k r
-WingsIn own asked _ view = WingsSettled view
-
--- .. in what comes next
-abbrev pub WingsNext : {P : Type 0} → Record → Call P → Next P → View P → Type 0
-WingsNext own asked (Goes phase) view = WingsIn own asked phase view
-WingsNext own asked (Ends reply) view = WingsSettled view
-
 -- what a call's turn leaves of the words that no event sets: it tries to set no others than it may, and where nobody else steps, no wing without its
 -- place, but between the two words of its contribution
 pub record TriesTurn {P : Type 0} (quiet : Bool) (was : UnderWay P) (old : Local P) (next : Next P) (new : Local P) : Type 0 where
@@ -139,14 +128,15 @@ pub record TakesTurn {P : Type 0} (meld : P → P → P) (quiet whole : Bool) (w
   pub leads : LeadsTo was.phase comes.next
   pub turns : Turns meld quiet was old comes.next comes.group new
 
--- A call goes on in any phase: it takes its turn; one that is over is refused again, with its record as it was; and a barrier's poll finds who is
--- missing, or is answered as it was when that was found.
+-- A call goes on in any phase: it takes its turn; one that is over is refused again, with its record as it was; a barrier's poll finds who is
+-- missing, or is answered as it was when that was found; and a single step wins the exchange of an event that may come next.
 pub record GoesOn {P : Type 0} (meld : P → P → P) (quiet whole : Bool) (was : UnderWay P) (old : Local P) (comes : Coming P) (new : Local P)
     : Type 0 where
   pub turn : TakesTurn meld quiet whole was old comes new
   pub over : was.phase ≡ Over → (comes.next ≡ Ends (Refused SelfFailed)) × (new.own ≡ old.own)
   pub checks : FoundNow (FindsMissing meld quiet (midway was old) new) was.phase comes.next
   pub early : AnsweredNow (AnswersMissing meld quiet (midway was old) new.own) was.phase comes.next
+  pub wins : whole ≡ false → WinsNext meld quiet was.asked was.phase old comes.next new.view
 
 -- The poll of a shrink has read on in the list of failures, behind what its look found. All blocks of its round are known to be set then.
 pub record HasReadOn {P : Type 0} (old : Record) (asked : Call P) (found seen : List ℕ) (cached : List Beside) : Type 0 where
@@ -156,21 +146,45 @@ pub record HasReadOn {P : Type 0} (old : Record) (asked : Call P) (found seen : 
 
 -- The rest of a call, behind its look: no more steps than are left, also by what it sees more. It sees more only where it reads on for a shrink.
 -- It leaves its round's blocks known where they have told its reply, and it is answered.
-pub record RunsOn {P : Type 0} (meld : P → P → P) (alone : Bool) (asked : Call P) (phase : Phase P) (old : Local P) (reply : Reply P) (new : Local P)
-    : Type 0 where
+pub record RunsOn {P : Type 0} (meld : P → P → P) (alone : Bool) (was : UnderWay P) (old : Local P) (reply : Reply P) (new : Local P) : Type 0 where
   pub of : IsView meld new.view
   pub begins : IsPrefix old.view.pass.seen new.view.pass.seen
   pub cached : IsPrefix old.view.pass.cached new.view.pass.cached
-  pub beside : TriesTurn alone (under_way asked phase []) old (Ends reply) new
+  pub beside : TriesTurn alone was old (Ends reply) new
   pub onward : old.view.pass.steps ≤ new.view.pass.steps
-  pub spends : new.view.pass.steps ≤ old.view.pass.steps + steps_left new.view.words.limits old.own asked phase
-  pub also : FindsSetIn old.own asked old.view.pass.cached phase
-      → new.view.pass.steps + length old.own.seen ≤ old.view.pass.steps + also_left new.view.words.limits old.own asked phase + length new.own.seen
-  pub sees : KnowsIn old.own asked old.view.pass.cached phase
-      → (new.own.seen ≡ old.own.seen) ⊎ HasReadOn old.own asked old.own.seen new.own.seen new.view.pass.cached
-  pub knows : KnowsIn old.own asked old.view.pass.cached phase → LeavesSet old.own asked reply new.view.pass.cached
-  pub turns : (own : Record) → (before : Sight P) → Stands meld alone (local own (view_at old.view.words before)) (under_way asked phase []) old
-      → Answered meld alone asked (local own (view_at old.view.words before)) reply new
+  pub spends : new.view.pass.steps ≤ old.view.pass.steps + steps_left new.view.words.limits old.own was.asked was.phase
+  pub also : FindsSetIn old.own was.asked old.view.pass.cached was.phase → new.view.pass.steps + length old.own.seen
+      ≤ old.view.pass.steps + also_left new.view.words.limits old.own was.asked was.phase + length new.own.seen
+  pub sees : KnowsIn old.own was.asked old.view.pass.cached was.phase
+      → (new.own.seen ≡ old.own.seen) ⊎ HasReadOn old.own was.asked old.own.seen new.own.seen new.view.pass.cached
+  pub knows : KnowsIn old.own was.asked old.view.pass.cached was.phase → LeavesSet old.own was.asked reply new.view.pass.cached
+  pub turns : (own : Record) → (before : Sight P) → Stands meld alone (local own (view_at old.view.words before)) was old
+      → Answered meld alone was.asked (local own (view_at old.view.words before)) reply new
+
+-- What comes next is run to the reply: a phase goes on to it, an answer is it.
+abbrev pub RunsFrom : {P : Type 0} → (P → P → P) → Bool → Call P → Local P → Next P → Reply P → Local P → Type 0
+RunsFrom meld alone asked now (Goes phase) reply new = RunsOn meld alone (under_way asked phase []) now reply new
+RunsFrom meld alone asked now (Ends answer) reply new = (answer ≡ reply) × (now.own ≡ new.own) × (now.view.pass ≡ new.view.pass)
+
+-- A whole call behind its look, which has just ended: what comes next follows the look, and is run to the reply.
+pub record RunsBehind {P : Type 0} (meld : P → P → P) (alone : Bool) (asked : Call P) (now : Local P) (reply : Reply P) (new : Local P) : Type 0 where
+  pub next : Next P
+  pub mid : Record
+  pub further : IsFurther Looking next
+  pub nearer : FewerLeft (with_look now.view.words.limits now.own asked) now.view.words.limits mid asked next
+  pub also : AlsoFollows now.view.words.limits asked now.own next mid
+  pub knows : (cached : List Beside) → KnowsNext now.own asked cached next
+  pub turns : FollowsLook meld asked now next mid
+  pub runs : RunsFrom meld alone asked (local mid now.view) next reply new
+
+-- A whole call from a phase of its look on: it takes its turn there, which ends the look, and what comes next is run to the reply.
+pub record RunsThrough {P : Type 0} (meld : P → P → P) (alone : Bool) (was : UnderWay P) (old : Local P) (reply : Reply P) (new : Local P) : Type 0 where
+  pub next : Next P
+  pub mid : Record
+  pub looked : Sight P
+  pub turn : TakesTurn meld alone true was old (coming next []) (local mid (view_at old.view.words looked))
+  pub past : IsPast next
+  pub runs : RunsFrom meld alone was.asked (local mid (view_at old.view.words looked)) next reply new
 
 -- a phase of one step ends its call, with this reply
 abbrev pub EndsTurn : {P : Type 0} → (P → P → P) → Bool → Call P → Phase P → Local P → Reply P → Local P → Type 0

@@ -4,5 +4,7 @@ mod barrier;
 mod exchange;
 mod look;
 pub mod phase;
+mod proposal;
 pub(crate) mod spawning;
 mod step;
+mod whole;

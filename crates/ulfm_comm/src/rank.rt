@@ -26,7 +26,7 @@ use ulfm_model::limits::Limits;
 use ulfm_model::refusal::Refusal;
 use ulfm_record::held::{self, HeldComm, place_of, refusal_on, take_in};
 use ulfm_record::ids::free_ids;
-use ulfm_steps::group::{make_room, put_in, without};
+use ulfm_steps::group::{has_rank, make_room, put_in, without};
 use ulfm_steps::{Append, Look, ReadOn};
 use ulfm_words::Words;
 
@@ -42,6 +42,8 @@ pub(crate) struct LocalState<P: Packed, A: Allocator> {
     held: Vec<HeldComm<A>, A>,
     // All failures that it has seen, in order. It has room for all ranks.
     seen: Vec<u16, A>,
+    // How many of them, from the first on, are known to be other ranks.
+    others: usize,
     refused: bool,
     flags: PhantomData<P>,
 }
@@ -55,7 +57,7 @@ impl<P: Packed, A: Allocator> Model for LocalState<P, A> {
 
     ghost view = { λ a. record { number = a.number; limits = a.limits; held = a.held.items; seen = a.seen.items; refused = a.refused } };
 
-    ghost invariant = { λ a. IsKept a.number a.limits (vec_capacity a.seen) (vec_capacity a.held) a.held.items };
+    ghost invariant = { λ a. IsKept a.number a.limits (vec_capacity a.seen) (vec_capacity a.held) a.held.items a.seen.items a.others };
 }
 
 impl<P: Packed, A: Allocator + Copy> LocalState<P, A> {
@@ -80,6 +82,7 @@ impl<P: Packed, A: Allocator + Copy> LocalState<P, A> {
             limits,
             held,
             seen,
+            others: 0,
             refused: false,
             flags: PhantomData,
         })
@@ -102,6 +105,7 @@ impl<P: Packed, A: Allocator> LocalState<P, A> {
     }
 
     /// The communicator of this number, if the rank holds it.
+    #[inline(always)]
     pub(crate) fn held(&self, comm: u16) -> Option<&HeldComm<A>>
         ensures held { MatchOption result (held_at self.now comm ≡ None) (λ x. held_at self.now comm ≡ Some x.now) }
         ensures contexts { IsDistinct nat_eq (map (λ x. x.context) self.now.held) }
@@ -113,6 +117,7 @@ impl<P: Packed, A: Allocator> LocalState<P, A> {
     }
 
     /// A communicator that it holds.
+    #[inline(always)]
     pub(crate) fn held_comm(&self, comm: u16) -> &HeldComm<A>
         requires { (x : Held) × (held_at self.now comm ≡ Some x) }
         ensures { held_at self.now comm ≡ Some result.now }
@@ -162,12 +167,26 @@ impl<P: Packed, A: Allocator> LocalState<P, A> {
         self.seen.len() == self.limits.ranks as usize
     }
 
+    // Whether it is among the failures that it has seen. Those that are known to be others aren't compared again.
+    #[inline(always)]
+    pub(crate) fn finds_itself(&mut self) -> bool
+        ensures kept { self.new ≡ self.old }
+        ensures found { result ≡ has self.old.seen self.old.number }
+    {
+        if has_rank(&self.seen[self.others..], self.number) {
+            return true;
+        }
+        self.others = self.seen.len();
+        false
+    }
+
     // A look begins behind what it has seen. Where that is all ranks, it begins at the last of them, so that it has a load to make.
     pub(crate) fn resume(&mut self)
         ensures { self.new ≡ record self.old { seen = take (self.old.limits.ranks - 1) self.old.seen } }
     {
         let most = (self.limits.ranks as usize).saturating_sub(1);
         self.seen.truncate(most);
+        self.others = 0;
     }
 
     // From now on it is refused.
@@ -185,6 +204,7 @@ impl<P: Packed, A: Allocator> LocalState<P, A> {
     }
 
     // The first refusal of a call on a communicator that it holds, if its record has one.
+    #[inline(always)]
     pub(crate) fn refusal(&self, x: &HeldComm<A>, asked: &Call<P>) -> Option<Refusal>
         ensures { result ≡ first_refusal (tests_of self.now x.now asked.now) }
     {
@@ -199,6 +219,7 @@ impl<P: Packed, A: Allocator> LocalState<P, A> {
     }
 
     // A request is open on a communicator, and its round is used up.
+    #[inline(always)]
     pub(crate) fn open(&mut self, comm: u16, request: Request)
         requires next { HasNext request }
         ensures { self.new ≡ with_held self.old comm (λ y. opened y (Some request)) }
@@ -207,6 +228,7 @@ impl<P: Packed, A: Allocator> LocalState<P, A> {
     }
 
     // No request is open on a communicator.
+    #[inline(always)]
     pub(crate) fn close(&mut self, comm: u16)
         ensures { self.new ≡ closed self.old comm }
     {
@@ -240,6 +262,9 @@ impl<P: Packed, A: Allocator> LocalState<P, A> {
     {
         let mut look = Look { done: false };
         look.advance(words, pass, &mut self.seen, whole);
+        if !look.done {
+            self.others = 0;
+        }
         look.done
     }
 

@@ -227,7 +227,18 @@ pub record ReadsBlocks {P : Type 0} (meld : P → P → P) (alone whole : Bool) 
 -- a reading that has read nothing of a block yet
 abbrev pub begins_at : {P : Type 0} → ℕ → ℕ → RoundBlocks P → ℕ → Side → ReadBlocks P
 begins_at c k blocks n side =
-    record { comm = c; round = k; side = side; width = width n; begin = first_of side n; read = 0; all = summary_unit; blocks = blocks; first = None; winged = false }
+    record {
+      comm = c;
+      round = k;
+      side = side;
+      width = width n;
+      begin = first_of side n;
+      read = 0;
+      all = summary_unit;
+      blocks = blocks;
+      first = None;
+      winged = false;
+    }
 
 -- a reading that has read nothing yet: at the front block, or, where that is known, at the back one
 abbrev pub starts_at : {P : Type 0} → ℕ → ℕ → RoundBlocks P → ℕ → ReadBlocks P

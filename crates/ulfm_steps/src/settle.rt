@@ -35,8 +35,8 @@ impl<P: Packed> Settle<P> {
     pub fn spread<A: Allocator, W: Words<P, A>>(&self, words: &W, pass: &mut W::Pass) -> bool
         requires of { IsView P.meld (view_of P.pack (W.name words.now) (W.sight pass.old)) }
         requires may { MayGiveIn (view_of P.pack (W.name words.now) (W.sight pass.old)) self.now.comm self.now.round self.now.rank self.now.given }
-        ensures { Spreads P.meld W.alone self.now.comm self.now.round self.now.rank self.now.given result
-            (view_of P.pack (W.name words.now) (W.sight pass.old)) (view_of P.pack (W.name words.now) (W.sight pass.new)) }
+        ensures { Spreads P.meld W.alone self.now result (view_of P.pack (W.name words.now) (W.sight pass.old))
+            (view_of P.pack (W.name words.now) (W.sight pass.new)) }
     {
         let wing = Wing::Slot {
             comm: self.comm,

@@ -1,7 +1,7 @@
 // The steps of an agreement's poll: loads of the round's blocks; and, where not all are set, marks, and readings of those that aren't.
 ghost use Rattle.std.specs.Prelude.{ℕ, Bool, List, ◌≡◌, ◌+◌, ◌<◌, ◌≤◌, false, true};
 ghost use Rattle.ulfm_model.specs.{Answers.{closed}, Records.{Record}, Terms.{comm_of}};
-ghost use Rattle.ulfm_comm.specs.{Phase.{IsPast, NextBelow, NextIs, StillStands, is_looking, left}, Step.{TakesTurn}};
+ghost use Rattle.ulfm_comm.specs.{Phase.{IsPast, NextBelow, NextIs, StillStands, is_looking, left}, Step.{TakesTurn}, Proposals.{WinsNext}};
 ghost use Rattle.ulfm_comm.specs.Agreement.{HasPeeked, HasReadAll, agreed_reply};
 ghost use Rattle.ulfm_model.specs.declared.block.Beside.{Beside};
 ghost use Rattle.ulfm_comm.specs.StepsLeft.{FewerLeft, after_peek, after_round, steps_left};
@@ -42,9 +42,11 @@ impl<P: Packed, A: Allocator> LocalState<P, A> {
         requires stands { (group : List ℕ)
             × StillStands P.meld (under_way asked.now (AtMarking marks blocks shrinks) group)
             (local self.now (view_of P.pack (W.name words.now) (W.sight pass.old))) }
-        ensures { (group : List ℕ) → TakesTurn P.meld W.alone whole (under_way asked.now (AtMarking marks blocks shrinks) group)
+        ensures turn { (group : List ℕ) → TakesTurn P.meld W.alone whole (under_way asked.now (AtMarking marks blocks shrinks) group)
             (local self.now (view_of P.pack (W.name words.now) (W.sight pass.old))) (coming result group)
             (local self.now (view_of P.pack (W.name words.now) (W.sight pass.new))) }
+        ensures wins { whole ≡ false → WinsNext P.meld W.alone asked.now (AtMarking marks blocks shrinks)
+            (local self.now (view_of P.pack (W.name words.now) (W.sight pass.old))) result (view_of P.pack (W.name words.now) (W.sight pass.new)) }
     {
         let x = self.held_comm(comm_of(asked));
         let seen = self.failures();
@@ -173,6 +175,7 @@ impl<P: Packed, A: Allocator + Copy> LocalState<P, A> {
     }
 
     // What comes next where a round's members all say this.
+    #[inline(always)]
     fn decided<W: Words<P, A>>(
         &mut self,
         words: &W,
@@ -206,6 +209,7 @@ impl<P: Packed, A: Allocator + Copy> LocalState<P, A> {
     }
 
     // The reply to an agree whose round says this.
+    #[inline(always)]
     fn agreed(&mut self, comm: u16, all: Summary<P>) -> Reply<P>
         ensures closes { self.new ≡ closed self.old comm }
         ensures reply { result ≡ agreed_reply all all.body }

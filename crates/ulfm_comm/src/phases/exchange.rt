@@ -5,6 +5,8 @@ ghost use mathlib.Core.List.{IsPrefix};
 ghost use Rattle.ulfm_model.specs.{Terms.{comm_of}, History.{has}, Records.{Fits, held_at}};
 ghost use Rattle.ulfm_record.specs.Kept.{HasNext};
 ghost use Rattle.ulfm_comm.specs.{Phase.{StillStands}, Exchange.{IsOffered, Settles, start_leaves, start_result}, Step.{EndsTurn, TakesTurn, coming}};
+ghost use Rattle.ulfm_comm.specs.Proposals.{WinsNext};
+ghost use Rattle.ulfm_comm.specs.declared.phases.phase.Next.TheVariants.{Ends as NextEnds};
 ghost use Rattle.ulfm_comm.specs.declared.phases.phase.Phase.TheVariants.{Settling as AtSettling, Spreading as AtSpreading, Arriving as AtArriving, Revoking as AtRevoking};
 ghost use Rattle.ulfm_comm.specs.Local.{local};
 ghost use Rattle.ulfm_comm.specs.Phase.{under_way};
@@ -28,6 +30,7 @@ use ulfm_steps::group::count_in;
 use ulfm_words::{Settled, Words, set_arrival, set_revocation};
 
 // An offer with these counts of failures.
+#[inline(always)]
 fn contribution<P: Packed>(offer: Offer<P>, known: usize, acked: u16) -> Contribution<P>
     requires known { known ≤ 1024 }
     requires acked { acked ≤ known }
@@ -58,9 +61,11 @@ impl<P: Packed, A: Allocator> LocalState<P, A> {
         requires of { IsView P.meld (view_of P.pack (W.name words.now) (W.sight pass.old)) }
         requires stands { (group : List ℕ)
             × StillStands P.meld (under_way asked.now (AtSpreading request offer) group) (local self.now (view_of P.pack (W.name words.now) (W.sight pass.old))) }
-        ensures { (group : List ℕ) (whole : Bool) → TakesTurn P.meld W.alone whole (under_way asked.now (AtSpreading request offer) group)
+        ensures turn { (group : List ℕ) (whole : Bool) → TakesTurn P.meld W.alone whole (under_way asked.now (AtSpreading request offer) group)
             (local self.now (view_of P.pack (W.name words.now) (W.sight pass.old))) (coming result group)
             (local self.now (view_of P.pack (W.name words.now) (W.sight pass.new))) }
+        ensures wins { WinsNext P.meld W.alone asked.now (AtSpreading request offer) (local self.now (view_of P.pack (W.name words.now) (W.sight pass.old)))
+            result (view_of P.pack (W.name words.now) (W.sight pass.new)) }
     {
         let x = self.held_comm(comm_of(asked));
         if !self.spreading(x, offer).spread(words, pass) {
@@ -82,8 +87,10 @@ impl<P: Packed, A: Allocator> LocalState<P, A> {
         requires of { IsView P.meld (view_of P.pack (W.name words.now) (W.sight pass.old)) }
         requires stands { (group : List ℕ)
             × StillStands P.meld (under_way asked.now (AtSettling request offer) group) (local self.old (view_of P.pack (W.name words.now) (W.sight pass.old))) }
-        ensures { EndsTurn P.meld W.alone asked.now (AtSettling request offer) (local self.old (view_of P.pack (W.name words.now) (W.sight pass.old))) result
+        ensures turn { EndsTurn P.meld W.alone asked.now (AtSettling request offer) (local self.old (view_of P.pack (W.name words.now) (W.sight pass.old))) result
             (local self.new (view_of P.pack (W.name words.now) (W.sight pass.new))) }
+        ensures wins { WinsNext P.meld W.alone asked.now (AtSettling request offer) (local self.old (view_of P.pack (W.name words.now) (W.sight pass.old)))
+            (NextEnds result) (view_of P.pack (W.name words.now) (W.sight pass.new)) }
     {
         let x = self.held_comm(comm_of(asked));
         let settled = self.contribute(words, pass, x, offer);
@@ -105,8 +112,10 @@ impl<P: Packed, A: Allocator> LocalState<P, A> {
         requires of { IsView P.meld (view_of P.pack (W.name words.now) (W.sight pass.old)) }
         requires stands { (group : List ℕ) × StillStands P.meld (under_way asked.now (AtArriving round) group)
             (local self.old (view_of P.pack (W.name words.now) (W.sight pass.old))) }
-        ensures { EndsTurn P.meld W.alone asked.now (AtArriving round) (local self.old (view_of P.pack (W.name words.now) (W.sight pass.old))) result
+        ensures turn { EndsTurn P.meld W.alone asked.now (AtArriving round) (local self.old (view_of P.pack (W.name words.now) (W.sight pass.old))) result
             (local self.new (view_of P.pack (W.name words.now) (W.sight pass.new))) }
+        ensures wins { WinsNext P.meld W.alone asked.now (AtArriving round) (local self.old (view_of P.pack (W.name words.now) (W.sight pass.old)))
+            (NextEnds result) (view_of P.pack (W.name words.now) (W.sight pass.new)) }
     {
         let comm = comm_of(asked);
         let number = self.number();
@@ -129,8 +138,10 @@ impl<P: Packed, A: Allocator> LocalState<P, A> {
         requires of { IsView P.meld (view_of P.pack (W.name words.now) (W.sight pass.old)) }
         requires stands { (group : List ℕ) × StillStands P.meld (under_way asked.now AtRevoking group)
             (local self.now (view_of P.pack (W.name words.now) (W.sight pass.old))) }
-        ensures { EndsTurn P.meld W.alone asked.now AtRevoking (local self.now (view_of P.pack (W.name words.now) (W.sight pass.old))) result
+        ensures turn { EndsTurn P.meld W.alone asked.now AtRevoking (local self.now (view_of P.pack (W.name words.now) (W.sight pass.old))) result
             (local self.now (view_of P.pack (W.name words.now) (W.sight pass.new))) }
+        ensures wins { WinsNext P.meld W.alone asked.now AtRevoking (local self.now (view_of P.pack (W.name words.now) (W.sight pass.old)))
+            (NextEnds result) (view_of P.pack (W.name words.now) (W.sight pass.new)) }
     {
         let by = Caller::Rank(self.number());
         if set_revocation(words, pass, by, comm_of(asked)) {
@@ -142,6 +153,7 @@ impl<P: Packed, A: Allocator> LocalState<P, A> {
 
     // A contribution to the rank's next agreement round of a communicator that it holds: an offer, the failures that its look found and
     // those of them that it has acknowledged.
+    #[inline(always)]
     fn offered(&self, x: &HeldComm<A>, offer: Offer<P>) -> Settle<P>
         requires rises { IsStrictlyIncreasing x.now.group }
         requires few { length (filter (has x.now.group) self.now.seen) ≤ 1024 }
@@ -161,6 +173,7 @@ impl<P: Packed, A: Allocator> LocalState<P, A> {
     }
 
     // What the wing of such a contribution is told by: the place and the offer. The failures that it knows aren't counted twice.
+    #[inline(always)]
     fn spreading(&self, x: &HeldComm<A>, offer: Offer<P>) -> Settle<P>
         ensures comm { result.comm ≡ x.now.comm }
         ensures round { result.round ≡ x.now.next_agreement }
@@ -177,6 +190,7 @@ impl<P: Packed, A: Allocator> LocalState<P, A> {
     }
 
     // Contributes, once the wing is set. It is one step: an exchange, which tells what stood there before.
+    #[inline(always)]
     fn contribute<W: Words<P, A>>(
         &self,
         words: &W,
@@ -200,6 +214,7 @@ impl<P: Packed, A: Allocator> LocalState<P, A> {
     }
 
     // Ends a start: the request is open where the rank has contributed. A mark means that the rank was declared.
+    #[inline(always)]
     fn end_start(
         &mut self,
         comm: u16,

@@ -36,7 +36,7 @@ fn barrier(request: Option<Request>) -> Option<u16>
 }
 
 // The round of an open agreement, and whether it is a shrink.
-fn agreement(request: Option<Request>) -> Option<(u16, bool)>
+pub(crate) fn agreement(request: Option<Request>) -> Option<(u16, bool)>
     ensures { MatchOption result (IsAgreement request → request ≡ None) (λ found. request ≡ Some (agreement found.1 found.0)) }
 {
     match request {
@@ -115,7 +115,12 @@ impl<P: Packed, A: Allocator> LocalState<P, A> {
     }
 
     // What comes next where the record doesn't refuse the call.
-    fn passed<W: Words<P, A>>(&mut self, words: &W, pass: &W::Pass, asked: &Call<P>) -> Next<P>
+    pub(crate) fn passed<W: Words<P, A>>(
+        &mut self,
+        words: &W,
+        pass: &W::Pass,
+        asked: &Call<P>,
+    ) -> Next<P>
         requires passes { Passes self.old asked.now }
         requires of { IsView P.meld (view_of P.pack (W.name words.now) (W.sight pass.now)) }
         requires just { HasJustLooked P.meld asked.now (local self.old (view_of P.pack (W.name words.now) (W.sight pass.now))) }

@@ -2,7 +2,7 @@
 ghost use Rattle.std.specs.Prelude.{Bool, ◌≡◌, ◌+◌, ◌-◌, ◌*◌, ◌≤◌, false, true, ◌⊎◌, MatchOption};
 ghost use Rattle.ulfm_model.specs.{Records.{Record}, Terms.{comm_of}};
 ghost use Rattle.ulfm_comm.specs.{Spawning.{HadMemory, HasReached}, Agreement.{HasReadAll}, Phase.{IsMaking, IsPast, NextBelow, NextIs, StillStands}};
-ghost use Rattle.ulfm_comm.specs.{StepsLeft.{FewerLeft, after_round}, AlsoLeft.{also_after_round, also_in}, Step.{TakesTurn}};
+ghost use Rattle.ulfm_comm.specs.{StepsLeft.{FewerLeft, after_round}, AlsoLeft.{also_after_round, also_in}, Step.{TakesTurn}, Proposals.{WinsNext}};
 ghost use Rattle.ulfm_comm.specs.declared.phases.phase.Phase.TheVariants.{ReadingOn as AtReadingOn, Spawning as AtSpawning};
 ghost use Rattle.ulfm_comm.specs.Local.{local};
 ghost use Rattle.ulfm_comm.specs.Requests.{polled_round};
@@ -184,9 +184,11 @@ impl<P: Packed, A: Allocator + Copy> LocalState<P, A> {
         requires of { IsView P.meld (view_of P.pack (W.name words.now) (W.sight pass.old)) }
         requires stands { StillStands P.meld (under_way asked.now (AtSpawning append context reach) group.old.items)
             (local self.old (view_of P.pack (W.name words.now) (W.sight pass.old))) }
-        ensures { TakesTurn P.meld W.alone whole (under_way asked.now (AtSpawning append context reach) group.old.items)
+        ensures turn { TakesTurn P.meld W.alone whole (under_way asked.now (AtSpawning append context reach) group.old.items)
             (local self.old (view_of P.pack (W.name words.now) (W.sight pass.old))) (coming result group.new.items)
             (local self.new (view_of P.pack (W.name words.now) (W.sight pass.new))) }
+        ensures wins { whole ≡ false → WinsNext P.meld W.alone asked.now (AtSpawning append context reach)
+            (local self.old (view_of P.pack (W.name words.now) (W.sight pass.old))) result (view_of P.pack (W.name words.now) (W.sight pass.new)) }
     {
         let comm = comm_of(asked);
         let mut append = append;

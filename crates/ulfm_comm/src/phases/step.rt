@@ -1,14 +1,14 @@
 // Calls, step by step and whole.
-ghost use Rattle.std.specs.Prelude.{◌≡◌, ◌+◌, ◌<◌, ◌≤◌, [], Bool, false, length, IsTrue, MatchOption, OnSome, if◌then◌else◌};
+ghost use Rattle.std.specs.Prelude.{◌≡◌, ◌+◌, ◌<◌, ◌≤◌, Bool, length, IsTrue, MatchOption, OnSome, if◌then◌else◌};
 ghost use Rattle.ulfm_model.specs.declared.event.Caller.TheVariants.{Rank as OfRank};
 ghost use Rattle.ulfm_model.specs.{Answers.{traits_of}, Records.{Fits}};
 ghost use Rattle.ulfm_comm.specs.{Begins.{loads_again}, Bound.{also_bound, step_bound}, AlsoLeft.{also_left}, Counts.{MakesSteps, StepCounts, TakesSteps}};
-ghost use Rattle.ulfm_comm.specs.{StepsLeft.{Spends, steps_left}, Step.{GoesOn, RunsOn, Stepped}, Calls.{EndsReply}, Polls.{PendsIn}};
-ghost use Rattle.ulfm_comm.specs.Phase.{under_way, is_looking, next_of, MayStep, Stands, StandsOrEnds, StillStands};
+ghost use Rattle.ulfm_comm.specs.{StepsLeft.{Spends, steps_left}, Step.{GoesOn, Stepped}, Calls.{EndsReply}, Polls.{PendsIn}};
+ghost use Rattle.ulfm_comm.specs.Phase.{under_way, next_of, MayStep, Stands, StandsOrEnds, StillStands};
 ghost use Rattle.ulfm_words.specs.Steps.{view_at, view_of, IsView, Over, Sight};
 ghost use Rattle.ulfm_comm.specs.declared.phases.phase.Phase.TheVariants.{Begun as AtBegun, Over as AtOver};
 ghost use Rattle.ulfm_comm.specs.Local.{local, FitsView};
-ghost use Rattle.ulfm_comm.specs.Step.{coming};
+ghost use Rattle.ulfm_comm.specs.{Proposals.{WinsNext}, Step.{coming}, Wings.{WingsIn, WingsNext}};
 
 use crate::phases::phase::{Doing, Next, Phase, Way};
 use crate::rank::{LocalState, Rank};
@@ -51,7 +51,7 @@ impl<P: Packed, A: Allocator + Copy> LocalState<P, A> {
 
     // One step of a call, or all of its phase: what comes next.
     #[inline(always)]
-    fn go<W: Words<P, A>>(
+    pub(crate) fn go<W: Words<P, A>>(
         &mut self,
         words: &W,
         pass: &mut W::Pass,
@@ -125,6 +125,10 @@ impl<P: Packed, A: Allocator + Copy> LocalState<P, A> {
             (local self.new (view_of P.pack (W.name words.now) (W.sight pass.new))) }
         ensures spends { Spends (steps_left (W.name words.now).limits self.old doing.old.asked doing.old.phase) (W.name words.now).limits self.new
             doing.old.asked (next_of result doing.new.phase) (W.sight pass.old) (W.sight pass.new) }
+        ensures wings { IsTrue W.alone → WingsIn self.old doing.old.asked doing.old.phase (view_of P.pack (W.name words.now) (W.sight pass.old))
+            → WingsNext self.new doing.new.asked (next_of result doing.new.phase) (view_of P.pack (W.name words.now) (W.sight pass.new)) }
+        ensures wins { WinsNext P.meld W.alone doing.old.asked doing.old.phase (local self.old (view_of P.pack (W.name words.now) (W.sight pass.old)))
+            (next_of result doing.new.phase) (view_of P.pack (W.name words.now) (W.sight pass.new)) }
     {
         let phase = mem::replace(&mut doing.phase, Phase::Over);
         match self.go(words, pass, &doing.asked, phase, &mut doing.group, false) {
@@ -161,34 +165,7 @@ impl<P: Packed, A: Allocator + Copy> LocalState<P, A> {
             self.refuse();
             return Reply::Refused(Refusal::SelfFailed);
         }
-        match self.go_begun(words, pass, &asked, true) {
-            Next::Goes(phase) => self.run_on(words, pass, &asked, phase),
-            Next::Ends(reply) => reply,
-        }
-    }
-
-    // The rest of a whole call, behind its look.
-    #[inline(always)]
-    fn run_on<W: Words<P, A>>(
-        &mut self,
-        words: &W,
-        pass: &mut W::Pass,
-        asked: &Call<P>,
-        mut phase: Phase<P>,
-    ) -> Reply<P>
-        requires of { IsView P.meld (view_of P.pack (W.name words.now) (W.sight pass.old)) }
-        requires stands { StillStands P.meld (under_way asked.now phase []) (local self.old (view_of P.pack (W.name words.now) (W.sight pass.old))) }
-        requires past { is_looking phase ≡ false }
-        ensures { RunsOn P.meld W.alone asked.now phase (local self.old (view_of P.pack (W.name words.now) (W.sight pass.old))) result
-            (local self.new (view_of P.pack (W.name words.now) (W.sight pass.new))) }
-    {
-        let mut group = Vec::new(self.allocator());
-        loop {
-            match self.go(words, pass, asked, phase, &mut group, true) {
-                Next::Goes(next) => phase = next,
-                Next::Ends(reply) => return reply,
-            }
-        }
+        self.run_begun(words, pass, &asked)
     }
 }
 
@@ -228,6 +205,9 @@ impl<P: Packed, A: Allocator + Copy> Rank<P, A> {
     /// call is over, and no step of it is named. A step counts as one of the call's where it was named; `last_steps` tells how many the
     /// call made once it is answered.
     ///
+    /// Where nobody else steps, and each wing that was set has its contribution, the step adds the event that `proposal` names, if that may
+    /// come next. The step that sets a contribution's wing adds none: the one behind it adds the contribution.
+    ///
     /// ```
     /// let asked = Call::IsRevoked {
     ///     rank: rank.number(),
@@ -254,6 +234,10 @@ impl<P: Packed, A: Allocator + Copy> Rank<P, A> {
             (local self.new.own (view_of P.pack world.now (W.sight pass.new))) }
         ensures made { StepCounts doing.old (local self.old.own (view_of P.pack world.now (W.sight pass.old))) (next_of result doing.new.way.phase) doing.new.made
             (local self.new.own (view_of P.pack world.now (W.sight pass.new))) }
+        ensures wings { IsTrue W.alone → WingsIn self.old.own doing.old.way.asked doing.old.way.phase (view_of P.pack world.now (W.sight pass.old))
+            → WingsNext self.new.own doing.new.way.asked (next_of result doing.new.way.phase) (view_of P.pack world.now (W.sight pass.new)) }
+        ensures wins { WinsNext P.meld W.alone doing.old.way.asked doing.old.way.phase (local self.old.own (view_of P.pack world.now (W.sight pass.old)))
+            (next_of result doing.new.way.phase) (view_of P.pack world.now (W.sight pass.new)) }
         ensures last { MatchOption result (self.new.last ≡ self.old.last) (λ _. self.new.last ≡ doing.new.made) }
     {
         doing.count();

@@ -5,5 +5,6 @@ use Rattle.ulfm_comm.proofs.rank.LocalState.close.Goals as goal
 pub invariant_of-self : goal.invariant_of-self
 invariant_of-self g c = record {
   below = c.self.invariant.below;
+  others_are = c.self.invariant.others_are;
   room = room_changed _ _ _ _ c.args.comm _ c.self.inside.held.items _ c.self.invariant.room (λ y. refl) c.close.ensures.items c.close.ensures.room;
 }

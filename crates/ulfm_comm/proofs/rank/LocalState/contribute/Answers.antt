@@ -1,7 +1,4 @@
-use Rattle.std.proofs.Common.{◌≡◌, ◌<◌, ◌≤◌, length, filter, Some, sym, ◌∙◌, subst, refl, arith}
-use Rattle.std.specs.List.Sorted.{IsStrictlyIncreasing}
-use Rattle.ulfm_model.specs.{History.{IsPlace, has}, Records.{Held, held_at}}
-use Rattle.ulfm_comm.specs.Exchange.{Settles}
+use Rattle.std.proofs.Common.{refl, arith}
 use Rattle.ulfm_comm.proofs.{Holding.{group_rises}, Starts.{known_few, offered_may, settles_is}}
 use Rattle.ulfm_comm.proofs.rank.LocalState.contribute.Goals as goal
 

@@ -50,6 +50,7 @@ returns-in-Over g c =
       over = λ at. (refl, refl);
       checks = tt;
       early = tt;
+      wins = λ not here wings some. absurd (cc some);
     })
 
 pub returns-in-Begun : goal.returns-in-Begun
@@ -59,6 +60,7 @@ returns-in-Begun g c =
       over = λ at. absurd (cc at);
       checks = tt;
       early = tt;
+      wins = λ not here wings some. absurd (cc some);
     })
 
 pub returns-in-Looking : goal.returns-in-Looking
@@ -68,42 +70,47 @@ returns-in-Looking g c =
       over = λ at. absurd (cc at);
       checks = tt;
       early = tt;
+      wins = λ not here wings some. absurd (cc some);
     })
 
 pub returns-in-Spreading : goal.returns-in-Spreading
 returns-in-Spreading g c =
     rw c.in-Spreading.is (record {
-      turn = c.go_spreading.ensures c.args.group.now.items c.args.whole;
+      turn = c.go_spreading.ensures.turn c.args.group.now.items c.args.whole;
       over = λ at. absurd (cc at);
       checks = search rules;
       early = search rules;
+      wins = λ not. c.go_spreading.ensures.wins;
     })
 
 pub returns-in-Settling : goal.returns-in-Settling
 returns-in-Settling g c =
     rw c.in-Settling.is (record {
-      turn = c.go_settling.ensures c.args.group.now.items c.args.whole;
+      turn = c.go_settling.ensures.turn c.args.group.now.items c.args.whole;
       over = λ at. absurd (cc at);
       checks = tt;
       early = tt;
+      wins = λ not. c.go_settling.ensures.wins;
     })
 
 pub returns-in-Arriving : goal.returns-in-Arriving
 returns-in-Arriving g c =
     rw c.in-Arriving.is (record {
-      turn = c.go_arriving.ensures c.args.group.now.items c.args.whole;
+      turn = c.go_arriving.ensures.turn c.args.group.now.items c.args.whole;
       over = λ at. absurd (cc at);
       checks = tt;
       early = tt;
+      wins = λ not. c.go_arriving.ensures.wins;
     })
 
 pub returns-in-Revoking : goal.returns-in-Revoking
 returns-in-Revoking g c =
     rw c.in-Revoking.is (record {
-      turn = c.go_revoking.ensures c.args.group.now.items c.args.whole;
+      turn = c.go_revoking.ensures.turn c.args.group.now.items c.args.whole;
       over = λ at. absurd (cc at);
       checks = tt;
       early = tt;
+      wins = λ not. c.go_revoking.ensures.wins;
     })
 
 -- a call that asks whether its communicator is revoked loads it
@@ -149,6 +156,7 @@ returns-in-Asking g c =
       over = λ at. absurd (cc at);
       checks = tt;
       early = tt;
+      wins = λ not here wings some. absurd (cc some);
     })
 
 pub returns-in-Peeking : goal.returns-in-Peeking
@@ -158,15 +166,17 @@ returns-in-Peeking g c =
       over = λ at. absurd (cc at);
       checks = tt;
       early = tt;
+      wins = λ not here wings some. absurd (cc some);
     })
 
 pub returns-in-Marking : goal.returns-in-Marking
 returns-in-Marking g c =
     rw c.in-Marking.is (record {
-      turn = c.go_marking.ensures c.args.group.now.items;
+      turn = c.go_marking.ensures.turn c.args.group.now.items;
       over = λ at. absurd (cc at);
       checks = tt;
       early = tt;
+      wins = c.go_marking.ensures.wins;
     })
 
 pub returns-in-Reading : goal.returns-in-Reading
@@ -176,6 +186,7 @@ returns-in-Reading g c =
       over = λ at. absurd (cc at);
       checks = tt;
       early = tt;
+      wins = λ not here wings some. absurd (cc some);
     })
 
 pub returns-in-ReadingOn : goal.returns-in-ReadingOn
@@ -185,15 +196,17 @@ returns-in-ReadingOn g c =
       over = λ at. absurd (cc at);
       checks = tt;
       early = tt;
+      wins = λ not here wings some. absurd (cc some);
     })
 
 pub returns-in-Spawning : goal.returns-in-Spawning
 returns-in-Spawning g c =
     rw c.in-Spawning.is (record {
-      turn = c.go_spawning.ensures;
+      turn = c.go_spawning.ensures.turn;
       over = λ at. absurd (cc at);
       checks = tt;
       early = tt;
+      wins = c.go_spawning.ensures.wins;
     })
 
 pub returns-in-Waiting : goal.returns-in-Waiting
@@ -203,6 +216,7 @@ returns-in-Waiting g c =
       over = λ at. absurd (cc at);
       checks = c.go_waiting.ensures.checks c.args.group.now.items;
       early = tt;
+      wins = λ not here wings some. absurd (cc some);
     })
 
 pub returns-in-Checking : goal.returns-in-Checking
@@ -212,6 +226,7 @@ returns-in-Checking g c =
       over = λ at. absurd (cc at);
       checks = tt;
       early = c.go_checking.ensures.early c.args.group.now.items;
+      wins = λ not here wings some. absurd (cc some);
     })
 
 pub go_begun-requires-clause-stands : goal.go_begun-requires-clause-stands

@@ -14,6 +14,8 @@ use Rattle.ulfm_comm.proofs.StepAdds.{adds_arrived, adds_none}
 use Rattle.ulfm_comm.proofs.rank.LocalState.go_arriving.Goals as goal
 use Rattle.ulfm_comm.proofs.rank.LocalState.go_arriving.Goals.{After-set_arrival}
 use Rattle.ulfm_comm.specs.Local.{frame, local}
+use Rattle.ulfm_model.specs.declared.event.Event.{Event}
+use Rattle.ulfm_comm.proofs.Wins.{Comes, tried_comes}
 
 pub set_arrival-requires-clause-within : goal.set_arrival-requires-clause-within
 set_arrival-requires-clause-within g c =
@@ -48,12 +50,12 @@ walks g c =
     c.set_arrival.ensures.tries.of c.set_arrival.ensures.tries.steps c.set_arrival.ensures.tries.cached c.set_arrival.result
     (Arrive (comm_of c.args.asked.now) c.args.round c.args.self.now.number) (outcome g c)
 
-pub returns-then-not-set_arrival : goal.returns-then-not-set_arrival
-returns-then-not-set_arrival g c =
+pub returns-then-not-set_arrival-clause-turn : goal.returns-then-not-set_arrival-clause-turn
+returns-then-not-set_arrival-clause-turn g c =
     λ group whole.
     record {
-      walks = walks g (goal.at.returns-then-not-set_arrival g c).After-set_arrival;
-      beside = turn_same _ _ _ _ _ (λ w. w) (did_prefix g.W.Words.alone _ _ _ (walks g (goal.at.returns-then-not-set_arrival g c).After-set_arrival).did) c.set_arrival.ensures.tries.caches;
+      walks = walks g (goal.at.returns-then-not-set_arrival-clause-turn g c).After-set_arrival;
+      beside = turn_same _ _ _ _ _ (λ w. w) (did_prefix g.W.Words.alone _ _ _ (walks g (goal.at.returns-then-not-set_arrival-clause-turn g c).After-set_arrival).did) c.set_arrival.ensures.tries.caches;
       named = search rules;
       nearer = search rules;
       spends = omega (arith, c.set_arrival.ensures.tries.steps);
@@ -62,7 +64,7 @@ returns-then-not-set_arrival g c =
           (g.W.Words.sight c.set_arrival.new.pass) _ (omega (arith, c.set_arrival.ensures.tries.steps)) refl;
       further = search rules;
       adds = λ not.
-          let at = (goal.at.returns-then-not-set_arrival g c).After-set_arrival in
+          let at = (goal.at.returns-then-not-set_arrival-clause-turn g c).After-set_arrival in
           adds_none g.W.Words.alone c.args.self.now.seen c.args.self.now c.args.asked.now (Some (Refused Twice)) (g.W.Words.sight c.args.pass.now).seen
           (g.W.Words.sight c.set_arrival.new.pass).seen
           (when_lost _ _ c.set_arrival.result c.if-not-set_arrival.true (outcome g at));
@@ -71,7 +73,7 @@ returns-then-not-set_arrival g c =
       knows = λ known of. absurd (cc of);
       leads = search rules;
       turns = λ alone only old before stands.
-          let at = (goal.at.returns-then-not-set_arrival g c).After-set_arrival in
+          let at = (goal.at.returns-then-not-set_arrival-clause-turn g c).After-set_arrival in
           let lost = when_lost _ _ c.set_arrival.result c.if-not-set_arrival.true (outcome g at) in
           let name = over g.P.Packed.pack (g.W.Words.name c.args.words.now) in
           let own = c.args.self.now in
@@ -84,12 +86,12 @@ returns-then-not-set_arrival g c =
           (stands.at.0, stands.at.2);
     }
 
-pub returns : goal.returns
-returns g c =
+pub returns-clause-turn : goal.returns-clause-turn
+returns-clause-turn g c =
     λ group whole.
     record {
-      walks = walks g (goal.at.returns g c).After-set_arrival;
-      beside = turn_same _ _ _ _ _ (λ w. w) (did_prefix g.W.Words.alone _ _ _ (walks g (goal.at.returns g c).After-set_arrival).did) c.set_arrival.ensures.tries.caches;
+      walks = walks g (goal.at.returns-clause-turn g c).After-set_arrival;
+      beside = turn_same _ _ _ _ _ (λ w. w) (did_prefix g.W.Words.alone _ _ _ (walks g (goal.at.returns-clause-turn g c).After-set_arrival).did) c.set_arrival.ensures.tries.caches;
       named = search rules;
       nearer = search rules;
       spends = omega (arith, c.set_arrival.ensures.tries.steps);
@@ -98,7 +100,7 @@ returns g c =
           (g.W.Words.sight c.set_arrival.new.pass) _ (omega (arith, c.set_arrival.ensures.tries.steps)) (ap (λ (w : Record). w.seen) c.open.ensures);
       further = search rules;
       adds = λ not.
-          let at = (goal.at.returns g c).After-set_arrival in
+          let at = (goal.at.returns-clause-turn g c).After-set_arrival in
           let s = c.requires.stands.1 in
           adds_arrived g.P.Meld.meld g.W.Words.alone (g.W.Words.name c.args.words.now).limits c.args.asked.now s.0 s.1.seen c.args.self.now
           (g.W.Words.sight c.args.pass.now).seen (g.W.Words.sight c.set_arrival.new.pass).seen
@@ -108,7 +110,7 @@ returns g c =
       knows = λ known of. absurd (cc of);
       leads = search rules;
       turns = λ alone only old before stands.
-          let at = (goal.at.returns g c).After-set_arrival in
+          let at = (goal.at.returns-clause-turn g c).After-set_arrival in
           let won = when_won _ _ c.set_arrival.result c.if-not-set_arrival.false (outcome g at) in
           let name = over g.P.Packed.pack (g.W.Words.name c.args.words.now) in
           let own = c.args.self.now in
@@ -122,3 +124,26 @@ returns g c =
           (arrived g at) c.open.new.self won leaves)
           (stands.at.0, stands.at.2);
     }
+
+-- the arrival comes where it may
+wins : (g : _) (c : After-set_arrival g) → IsTrue g.W.Words.alone → (event : Event g.row.P.Denot)
+    → event ≡ Arrive (comm_of c.args.asked.now) c.args.round c.args.self.now.number
+    → Comes g.P.Meld.meld (g.W.Words.name c.args.words.now).limits (Rank c.args.self.now.number) event (g.W.Words.sight c.args.pass.now).seen
+    (g.W.Words.sight c.set_arrival.new.pass).seen
+wins g c here event is =
+    let limits = (g.W.Words.name c.args.words.now).limits in
+    let now = (g.W.Words.sight c.args.pass.now).seen in
+    let after = (g.W.Words.sight c.set_arrival.new.pass).seen in
+    let by = Rank c.args.self.now.number in
+    subst (λ e. Comes g.P.Meld.meld limits by e now after) (sym is)
+    (tried_comes g.P.Meld.meld limits by now after c.set_arrival.ensures.tries.of.legal g.W.Words.alone here
+    (Arrive (comm_of c.args.asked.now) c.args.round c.args.self.now.number) c.set_arrival.result (outcome g c)
+    (λ same may.
+    let clash = sym (arrived g c) ∙ (ap (λ w. has_arrived w (comm_of c.args.asked.now) c.args.round c.args.self.now.number) same ∙ may.1) in
+    absurd (cc clash)))
+
+pub returns-then-not-set_arrival-clause-wins : goal.returns-then-not-set_arrival-clause-wins
+returns-then-not-set_arrival-clause-wins g c = λ here wings some. wins g (goal.at.returns-then-not-set_arrival-clause-wins g c).After-set_arrival here
+
+pub returns-clause-wins : goal.returns-clause-wins
+returns-clause-wins g c = λ here wings some. wins g (goal.at.returns-clause-wins g c).After-set_arrival here

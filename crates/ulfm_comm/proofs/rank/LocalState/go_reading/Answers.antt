@@ -7,7 +7,6 @@ use Rattle.ulfm_comm.specs.{Known.{KnowsNext}, Phase.{IsFurther, IsPast, NextBel
 use Rattle.ulfm_comm.specs.StepsLeft.{FewerLeft, Spends, steps_left}
 use Rattle.ulfm_model.specs.declared.reply.Reply.TheVariants.{Pending}
 use Rattle.ulfm_comm.specs.declared.{phases.phase.Next.{Next}, phases.phase.Next.TheVariants.{Ends}, phases.phase.Phase.TheVariants.{Reading}}
-use Rattle.std.proofs.lemmas.Bool.{false≢true}
 use Rattle.ulfm_comm.proofs.{Known.{agreement_caches, known_next, round_known}, Agreement.{reading_ends, reading_goes, reading_may, reading_pends, reads_named}}
 use Rattle.ulfm_comm.proofs.StepsLeft.{reads_fewer, reads_on, reads_spend}
 use Rattle.ulfm_comm.proofs.rank.LocalState.go_reading.Goals as goal

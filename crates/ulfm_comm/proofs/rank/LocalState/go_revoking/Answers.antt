@@ -16,6 +16,8 @@ use Rattle.ulfm_comm.proofs.rank.LocalState.go_revoking.Goals.{After-set_revocat
 use Rattle.ulfm_comm.specs.Local.{frame, local}
 use Rattle.ulfm_comm.specs.Phase.{under_way}
 use Rattle.ulfm_comm.specs.Step.{coming}
+use Rattle.ulfm_model.specs.declared.event.Event.{Event}
+use Rattle.ulfm_comm.proofs.Wins.{Comes, tried_comes}
 
 pub set_revocation-requires-clause-within : goal.set_revocation-requires-clause-within
 set_revocation-requires-clause-within g c = rw c.comm_of.ensures (asked_below _ _ _ _ _ _ _ _ c.requires.stands.1.2.at.0 c.requires.of.legal
@@ -83,8 +85,29 @@ ends g c reply is = λ group whole.
       turns = answered g c group;
     })
 
-pub returns-then-set_revocation : goal.returns-then-set_revocation
-returns-then-set_revocation g c = ends g (goal.at.returns-then-set_revocation g c).After-set_revocation Revoked (ap revoked c.if-set_revocation.true)
+pub returns-then-set_revocation-clause-turn : goal.returns-then-set_revocation-clause-turn
+returns-then-set_revocation-clause-turn g c = ends g (goal.at.returns-then-set_revocation-clause-turn g c).After-set_revocation Revoked (ap revoked c.if-set_revocation.true)
 
-pub returns-else-set_revocation : goal.returns-else-set_revocation
-returns-else-set_revocation g c = ends g (goal.at.returns-else-set_revocation g c).After-set_revocation AlreadyRevoked (ap revoked c.if-set_revocation.false)
+pub returns-else-set_revocation-clause-turn : goal.returns-else-set_revocation-clause-turn
+returns-else-set_revocation-clause-turn g c = ends g (goal.at.returns-else-set_revocation-clause-turn g c).After-set_revocation AlreadyRevoked (ap revoked c.if-set_revocation.false)
+
+-- the revocation comes where it may
+wins : (g : _) (c : After-set_revocation g) → IsTrue g.W.Words.alone → (event : Event g.row.P.Denot) → event ≡ Revoke (comm_of c.args.asked.now)
+    → Comes g.P.Meld.meld (g.W.Words.name c.args.words.now).limits (Rank c.args.self.now.number) event (g.W.Words.sight c.args.pass.now).seen
+    (g.W.Words.sight c.set_revocation.new.pass).seen
+wins g c here event is =
+    let limits = (g.W.Words.name c.args.words.now).limits in
+    let now = (g.W.Words.sight c.args.pass.now).seen in
+    let after = (g.W.Words.sight c.set_revocation.new.pass).seen in
+    let by = Rank c.args.self.now.number in
+    let there : IsTrue (is_revoked after (comm_of c.args.asked.now)) = rw (← c.comm_of.ensures) c.set_revocation.ensures.stands in
+    subst (λ e. Comes g.P.Meld.meld limits by e now after) (sym is)
+    (tried_comes g.P.Meld.meld limits by now after c.set_revocation.ensures.tries.of.legal g.W.Words.alone here (Revoke (comm_of c.args.asked.now))
+    c.set_revocation.result (outcome g c)
+    (λ same may. let clash = sym there ∙ (ap (λ w. is_revoked w (comm_of c.args.asked.now)) same ∙ may.1) in absurd (cc clash)))
+
+pub returns-then-set_revocation-clause-wins : goal.returns-then-set_revocation-clause-wins
+returns-then-set_revocation-clause-wins g c = λ here wings some. wins g (goal.at.returns-then-set_revocation-clause-wins g c).After-set_revocation here
+
+pub returns-else-set_revocation-clause-wins : goal.returns-else-set_revocation-clause-wins
+returns-else-set_revocation-clause-wins g c = λ here wings some. wins g (goal.at.returns-else-set_revocation-clause-wins g c).After-set_revocation here

@@ -19,6 +19,10 @@ use Rattle.ulfm_comm.specs.Local.{local}
 use Rattle.ulfm_comm.specs.Phase.{under_way}
 use Rattle.ulfm_comm.specs.Step.{coming}
 use Rattle.ulfm_words.specs.Steps.{view_of, view_at, over}
+use Rattle.std.proofs.Common.{IsTrue}
+use Rattle.ulfm_model.specs.declared.{event.Caller.TheVariants.{Rank}, event.Event.{Event}}
+use Rattle.ulfm_comm.specs.Proposals.{OffersOwn}
+use Rattle.ulfm_comm.proofs.Wins.{Comes, settles_comes}
 
 pub contribute-settled-requires-clause-fits : goal.contribute-settled-requires-clause-fits
 contribute-settled-requires-clause-fits g c =
@@ -119,8 +123,25 @@ ends g c reply is = λ group whole.
           subst (λ r. Answered g.P.Meld.meld alone c.args.asked.now (local old (view_of g.P.Packed.pack (g.W.Words.name c.args.words.now) before)) r (local c.end_start.new.self (view_of g.P.Packed.pack (g.W.Words.name c.args.words.now) (g.W.Words.sight c.contribute-settled.new.pass)))) is (answered g c group alone only old before stands);
     }
 
-pub returns-in-Ok : goal.returns-in-Ok
-returns-in-Ok g c = ends g (goal.at.returns-in-Ok g c).After-end_start Started (ap (reply_of (λ _. Started)) c.in-Ok.is)
+pub returns-in-Ok-clause-turn : goal.returns-in-Ok-clause-turn
+returns-in-Ok-clause-turn g c = ends g (goal.at.returns-in-Ok-clause-turn g c).After-end_start Started (ap (reply_of (λ _. Started)) c.in-Ok.is)
 
-pub returns-in-Err : goal.returns-in-Err
-returns-in-Err g c = ends g (goal.at.returns-in-Err g c).After-end_start _ (ap (reply_of (λ _. Started)) c.in-Err.is)
+pub returns-in-Err-clause-turn : goal.returns-in-Err-clause-turn
+returns-in-Err-clause-turn g c = ends g (goal.at.returns-in-Err-clause-turn g c).After-end_start _ (ap (reply_of (λ _. Started)) c.in-Err.is)
+
+-- the contribution comes where it may
+wins : (g : _) (c : After-end_start g) → IsTrue g.W.Words.alone → (event : Event g.row.P.Denot)
+    → OffersOwn c.args.self.now (comm_of c.args.asked.now) c.args.offer event
+    → Comes g.P.Meld.meld (g.W.Words.name c.args.words.now).limits (Rank c.args.self.now.number) event (g.W.Words.sight c.args.pass.now).seen
+    (g.W.Words.sight c.contribute-settled.new.pass).seen
+wins g c here event offers =
+    settles_comes c.args.self.now (comm_of c.args.asked.now) c.args.offer c.held_comm-x.result.now (rw (← c.comm_of.ensures) c.held_comm-x.ensures) event offers
+    g.P.Meld.meld (g.W.Words.name c.args.words.now).limits g.W.Words.alone here (g.W.Words.sight c.args.pass.now).seen
+    (g.W.Words.sight c.contribute-settled.new.pass).seen c.contribute-settled.ensures.of.legal c.contribute-settled.result
+    c.contribute-settled.ensures.settles
+
+pub returns-in-Ok-clause-wins : goal.returns-in-Ok-clause-wins
+returns-in-Ok-clause-wins g c = λ here wings some. wins g (goal.at.returns-in-Ok-clause-wins g c).After-end_start here
+
+pub returns-in-Err-clause-wins : goal.returns-in-Err-clause-wins
+returns-in-Err-clause-wins g c = λ here wings some. wins g (goal.at.returns-in-Err-clause-wins g c).After-end_start here

@@ -16,6 +16,10 @@ use Rattle.ulfm_comm.specs.Spawning.{seeking, target}
 use Rattle.ulfm_comm.specs.Phase.{under_way}
 use Rattle.ulfm_comm.specs.Step.{coming}
 use Rattle.ulfm_words.specs.Steps.{view_of, over}
+use Rattle.std.proofs.Common.{◌+◌, subst, sym, IsTrue}
+use Rattle.ulfm_model.specs.declared.{event.Caller.TheVariants.{Rank}, event.Event.{Event}, event.Event.TheVariants.{Spawn}}
+use Rattle.ulfm_comm.specs.Spawning.{SpawnTakes}
+use Rattle.ulfm_comm.proofs.{Spawning.{rank_is}, Wins.{Comes, spawns_comes}}
 
 -- the item that is looked for
 item : (g : _) (c : After-comm_of-comm g) → c.args.append.item ≡ OfComm c.comm_of-comm.result c.requires.stands.2.at.1.round
@@ -87,10 +91,10 @@ spawns g c result next left new is nearer spends further sees leads also turns =
       turns = turns;
     }
 
-pub returns-in-Unknown : goal.returns-in-Unknown
-returns-in-Unknown g c =
-    let is = c.in-Unknown.ensures.spawns c.requires.stands.2.at.1.round (item g (goal.at.returns-in-Unknown g c).After-comm_of-comm) in
-    spawns g (goal.at.returns-in-Unknown g c).After-spawn spawned.Unknown _ _ c.spawn.new.self is (search rules) (search rules) (search rules) (search rules)
+pub returns-in-Unknown-clause-turn : goal.returns-in-Unknown-clause-turn
+returns-in-Unknown-clause-turn g c =
+    let is = c.in-Unknown.ensures.spawns c.requires.stands.2.at.1.round (item g (goal.at.returns-in-Unknown-clause-turn g c).After-comm_of-comm) in
+    spawns g (goal.at.returns-in-Unknown-clause-turn g c).After-spawn spawned.Unknown _ _ c.spawn.new.self is (search rules) (search rules) (search rules) (search rules)
     (search rules)
     (λ all. also_spawns (g.W.Words.name c.args.words.now).limits c.args.asked.now c.args.self.now c.spawn.new.self (g.W.Words.sight c.args.pass.now)
     (g.W.Words.sight c.spawn.new.pass) c.args.append c.spawn.new.append c.args.context c.args.reach c.in-Unknown.ensures.takes.turns is.1)
@@ -104,10 +108,10 @@ returns-in-Unknown g c =
     c.spawn.new.append c.spawn.new.self (g.W.Words.sight c.spawn.new.pass) c.spawn.new.group.items (c.spawn.ensures.kept c.in-Unknown.is)
     (c.in-Unknown.ensures.spawns s.at.1.round here))
 
-pub returns-in-Made : goal.returns-in-Made
-returns-in-Made g c =
-    let is = c.in-Made.ensures.spawns c.requires.stands.2.at.1.round (item g (goal.at.returns-in-Made g c).After-comm_of-comm) in
-    spawns g (goal.at.returns-in-Made g c).After-spawn (spawned.Made c.in-Made.comm c.in-Made.size) _ _ c.spawn.new.self is (search rules) (search rules)
+pub returns-in-Made-clause-turn : goal.returns-in-Made-clause-turn
+returns-in-Made-clause-turn g c =
+    let is = c.in-Made.ensures.spawns c.requires.stands.2.at.1.round (item g (goal.at.returns-in-Made-clause-turn g c).After-comm_of-comm) in
+    spawns g (goal.at.returns-in-Made-clause-turn g c).After-spawn (spawned.Made c.in-Made.comm c.in-Made.size) _ _ c.spawn.new.self is (search rules) (search rules)
     (search rules) (ap (λ (w : Record). w.seen) is.1.record_is) (search rules)
     (λ all. also_ends _ (g.W.Words.name c.args.words.now).limits c.args.asked.now c.args.self.now c.spawn.new.self (g.W.Words.sight c.args.pass.now)
     (g.W.Words.sight c.spawn.new.pass) _ (omega (arith, c.in-Made.ensures.takes.turns)) (ap (λ (w : Record). w.seen) is.1.record_is))
@@ -120,10 +124,10 @@ returns-in-Made g c =
     c.requires.of s c.comm_of-comm.result c.comm_of-comm.ensures
     c.spawn.new.append c.spawn.new.self (g.W.Words.sight c.spawn.new.pass) c.in-Made.comm c.in-Made.size (c.in-Made.ensures.spawns s.at.1.round here))
 
-pub returns-in-Full : goal.returns-in-Full
-returns-in-Full g c =
-    let is = c.in-Full.ensures.spawns c.requires.stands.2.at.1.round (item g (goal.at.returns-in-Full g c).After-comm_of-comm) in
-    spawns g (goal.at.returns-in-Full g c).After-spawn spawned.Full _ _ c.close.new.self is (search rules) (search rules) (search rules)
+pub returns-in-Full-clause-turn : goal.returns-in-Full-clause-turn
+returns-in-Full-clause-turn g c =
+    let is = c.in-Full.ensures.spawns c.requires.stands.2.at.1.round (item g (goal.at.returns-in-Full-clause-turn g c).After-comm_of-comm) in
+    spawns g (goal.at.returns-in-Full-clause-turn g c).After-spawn spawned.Full _ _ c.close.new.self is (search rules) (search rules) (search rules)
     (ap (λ (w : Record). w.seen) c.close.ensures ∙ ap (λ (w : Record). w.seen) is.1) (search rules)
     (λ all. also_ends _ (g.W.Words.name c.args.words.now).limits c.args.asked.now c.args.self.now c.close.new.self (g.W.Words.sight c.args.pass.now)
     (g.W.Words.sight c.spawn.new.pass) _ (omega (arith, c.in-Full.ensures.takes.turns))
@@ -135,3 +139,39 @@ returns-in-Full g c =
     c.args.group.now.items old before c.args.self.now (g.W.Words.sight c.args.pass.now)
     c.requires.of s c.comm_of-comm.result c.comm_of-comm.ensures
     c.spawn.new.append c.spawn.new.self (g.W.Words.sight c.spawn.new.pass) c.close.new.self (c.in-Full.ensures.spawns s.at.1.round here) c.close.ensures)
+
+-- the communicator comes where it may
+wins : (g : _) (c : After-spawn g) → c.args.whole ≡ false → IsTrue g.W.Words.alone → c.args.append.empty ≡ true → (event : Event g.row.P.Denot)
+    → (parent k : ℕ) × (c.args.append.item ≡ OfComm parent k) × (event ≡ Spawn (c.args.append.index + 1) parent k)
+    → Comes g.P.Meld.meld (g.W.Words.name c.args.words.now).limits (Rank c.args.self.now.number) event (g.W.Words.sight c.args.pass.now).seen
+    (g.W.Words.sight c.spawn.new.pass).seen
+wins g c not here some event is =
+    let name = over g.P.Packed.pack (g.W.Words.name c.args.words.now) in
+    let own = c.args.self.now in
+    let now = g.W.Words.sight c.args.pass.now in
+    let after = g.W.Words.sight c.spawn.new.pass in
+    let append = c.args.append in
+    let comm = c.comm_of-comm.result in
+    let s = c.requires.stands in
+    let may = may_step g.P.Meld.meld false g.W.Words.alone (λ here. absurd (cc here)) name c.args.asked.now append c.args.context c.args.reach c.args.group.now.items
+    s.0 s.1 own now c.requires.of s.2 comm c.comm_of-comm.ensures in
+    let mine = rank_is g.P.Meld.meld false g.W.Words.alone (λ here. absurd (cc here)) name c.args.asked.now append c.args.context c.args.reach c.args.group.now.items
+    s.0 s.1 own now c.requires.of s.2 comm c.comm_of-comm.ensures in
+    let both : OfComm is.0 is.1 ≡ OfComm comm s.2.at.1.round = sym is.2 ∙ item g (goal.at.After-spawn g c).After-comm_of-comm in
+    let first : is.0 ≡ comm = cc both in
+    let there : append.item ≡ OfComm comm is.1 = is.2 ∙ ap (λ n. OfComm n is.1) first in
+    let takes = subst (λ whole. SpawnTakes whole name.limits append c.spawn.result c.spawn.new.append now after) not c.spawn.ensures.takes in
+    let comes = spawns_comes g.P.Meld.meld g.W.Words.alone here name comm is.1 c.args.context c.args.group.now.items append c.spawn.new.append own c.spawn.new.self
+    now after some may.more c.spawn.result (c.spawn.ensures.spawns is.1 there) takes in
+    let named : Spawn (append.index + 1) comm is.1 ≡ event = ap (λ n. Spawn (append.index + 1) n is.1) (sym first) ∙ sym is.3 in
+    subst (λ e. Comes g.P.Meld.meld name.limits (Rank own.number) e now.seen after.seen) named
+    (subst (λ by. Comes g.P.Meld.meld name.limits by (Spawn (append.index + 1) comm is.1) now.seen after.seen) mine comes)
+
+pub returns-in-Unknown-clause-wins : goal.returns-in-Unknown-clause-wins
+returns-in-Unknown-clause-wins g c = λ not here wings some. wins g (goal.at.returns-in-Unknown-clause-wins g c).After-spawn not here some
+
+pub returns-in-Made-clause-wins : goal.returns-in-Made-clause-wins
+returns-in-Made-clause-wins g c = λ not here wings some. wins g (goal.at.returns-in-Made-clause-wins g c).After-spawn not here some
+
+pub returns-in-Full-clause-wins : goal.returns-in-Full-clause-wins
+returns-in-Full-clause-wins g c = λ not here wings some. wins g (goal.at.returns-in-Full-clause-wins g c).After-spawn not here some

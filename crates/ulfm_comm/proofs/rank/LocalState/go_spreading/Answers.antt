@@ -1,19 +1,19 @@
-use Rattle.std.proofs.Common.{rules, ◌≡◌, ◌≤◌, ◌<◌, ◌∙◌, ℕ, arith, Some, ap, sym, subst, length, filter, refl, true, false}
+use Rattle.std.proofs.Common.{◌≡◌, ◌<◌, ◌∙◌, arith, Some, subst, refl, true, false}
 use Rattle.ulfm_words.proofs.Trails.{did_prefix}
 use Rattle.ulfm_comm.proofs.Wings.{turn_spreads, turn_stood}
-use Rattle.ulfm_model.specs.{History.{has}, Records.{Held, held_at}, Terms.{comm_of}}
+use Rattle.ulfm_model.specs.{Records.{Held, held_at}, Terms.{comm_of}}
 use Rattle.ulfm_words.specs.Steps.{over, view_of}
-use Rattle.ulfm_comm.specs.Phase.{under_way}
-use Rattle.std.proofs.Common.{if◌then◌else◌}
 use Rattle.ulfm_model.specs.declared.{block.Wing.{Wing}, limits.Limits.{Limits}, refusal.Refusal.TheVariants.{Twice}, reply.Reply.TheVariants.{Refused}, step_name.StepName.TheVariants.{Wing as AtWing}}
-use Rattle.ulfm_model.specs.Answers.{polled_by}
 use Rattle.ulfm_steps.specs.Settles.{IsSpreadIn}
 use Rattle.ulfm_comm.specs.{StepsLeft.{IsStepOf}, Requests.{contributes}, Wings.{IsOwnPlace}}
-use Rattle.ulfm_comm.proofs.{AlsoLeft.{also_ends, also_spreads}, Holding.{comm_is, found_there, group_rises}}
-use Rattle.ulfm_comm.proofs.Exchange.{IsStarting, fits_now, found_same, is_starting, passes_tests, seen_is, spread_before, spread_goes, walks_none}
+use Rattle.ulfm_comm.proofs.{AlsoLeft.{also_ends, also_spreads}, Holding.{comm_is, found_there}}
+use Rattle.ulfm_comm.proofs.Exchange.{IsStarting, fits_now, found_same, is_starting, passes_tests, spread_before, spread_goes, walks_none}
 use Rattle.ulfm_comm.proofs.Starts.{spreading_may}
 use Rattle.ulfm_comm.proofs.rank.LocalState.go_spreading.Goals as goal
 use Rattle.ulfm_comm.proofs.rank.LocalState.go_spreading.Goals.{After-held_comm-x, After-spread}
+use Rattle.std.proofs.Common.{sym}
+use Rattle.ulfm_words.proofs.Trails.{did_quiet}
+use Rattle.ulfm_comm.proofs.Wins.{offers_empty}
 
 -- what the rank holds of the communicator
 held : (g : _) (c : After-held_comm-x g) → held_at c.args.self.now c.held_comm-x.result.now.comm ≡ Some c.held_comm-x.result.now
@@ -71,15 +71,15 @@ own_place g c contributing = record {
   rank = c.spreading.ensures.rank;
 }
 
-pub returns-then-not-spread : goal.returns-then-not-spread
-returns-then-not-spread g c = λ group whole.
+pub returns-then-not-spread-clause-turn : goal.returns-then-not-spread-clause-turn
+returns-then-not-spread-clause-turn g c = λ group whole.
     let limits = (g.W.Words.name c.args.words.now).limits in
     let now = g.W.Words.sight c.args.pass.now in
     let after = g.W.Words.sight c.spread.new.pass in
     let own = c.args.self.now in
     let e = c.spread.ensures in
-    let at = (goal.at.returns-then-not-spread g c).After-spread in
-    let contributing = (starting g (goal.at.returns-then-not-spread g c).After-held_comm-x).contributing in
+    let at = (goal.at.returns-then-not-spread-clause-turn g c).After-spread in
+    let contributing = (starting g (goal.at.returns-then-not-spread-clause-turn g c).After-held_comm-x).contributing in
     record {
       walks = walks_none g.P.Meld.meld g.W.Words.alone (over g.P.Packed.pack (g.W.Words.name c.args.words.now)) own.number now after e.of e.step.steps e.cached e.did;
       beside = turn_stood _ _ _ _ (λ w. w) (did_prefix g.W.Words.alone _ _ _ e.did) _ _ _ (own_place g at contributing) e.caches _ (λ here. e.before here c.if-not-spread.true);
@@ -99,15 +99,15 @@ returns-then-not-spread g c = λ group whole.
           (rw (c.spreading.ensures.comm, c.spreading.ensures.round, c.spreading.ensures.rank) at e.stood c.if-not-spread.true);
     }
 
-pub returns : goal.returns
-returns g c = λ group whole.
+pub returns-clause-turn : goal.returns-clause-turn
+returns-clause-turn g c = λ group whole.
     let limits = (g.W.Words.name c.args.words.now).limits in
     let now = g.W.Words.sight c.args.pass.now in
     let after = g.W.Words.sight c.spread.new.pass in
     let own = c.args.self.now in
     let e = c.spread.ensures in
-    let at = (goal.at.returns g c).After-spread in
-    let contributing = (starting g (goal.at.returns g c).After-held_comm-x).contributing in
+    let at = (goal.at.returns-clause-turn g c).After-spread in
+    let contributing = (starting g (goal.at.returns-clause-turn g c).After-held_comm-x).contributing in
     record {
       walks = walks_none g.P.Meld.meld g.W.Words.alone (over g.P.Packed.pack (g.W.Words.name c.args.words.now)) own.number now after e.of e.step.steps e.cached e.did;
       beside = turn_spreads _ _ _ _ (λ w. w) (did_prefix g.W.Words.alone _ _ _ e.did) _ _ _ (own_place g at contributing) e.caches refl _ _;
@@ -127,3 +127,25 @@ returns g c = λ group whole.
           (subst (λ o. IsSpreadIn (view_of g.P.Packed.pack (g.W.Words.name c.args.words.now) after) c.held_comm-x.result.now.comm c.held_comm-x.result.now.next_agreement own.number o) c.spreading.ensures.offer
           (rw (c.spreading.ensures.comm, c.spreading.ensures.round, c.spreading.ensures.rank) at e.set c.if-not-spread.false));
     }
+
+-- where the wing stood, it was tried before, so that its place is set, and the contribution may not come any more
+pub returns-then-not-spread-clause-wins : goal.returns-then-not-spread-clause-wins
+returns-then-not-spread-clause-wins g c = λ here wings some event offers.
+    let limits = (g.W.Words.name c.args.words.now).limits in
+    let now = (g.W.Words.sight c.args.pass.now).seen in
+    let after = (g.W.Words.sight c.spread.new.pass).seen in
+    let own = c.args.self.now in
+    let x = c.held_comm-x.result.now in
+    let e = c.spread.ensures in
+    let set = wings x.comm x.next_agreement own.number (rw (c.spreading.ensures.comm, c.spreading.ensures.round, c.spreading.ensures.rank) at e.before here c.if-not-spread.true) in (
+      λ may.
+          let empty = offers_empty own (comm_of c.args.asked.now) c.args.offer x (rw (← c.comm_of.ensures) c.held_comm-x.ensures) event offers g.P.Meld.meld limits now may in
+          let clash = sym empty ∙ set.1 in
+          absurd (cc clash),
+      λ not. did_quiet g.W.Words.alone now after e.did here,
+    )
+
+pub returns-clause-wins : goal.returns-clause-wins
+returns-clause-wins g c = λ here wings some event offers.
+    let same = did_quiet g.W.Words.alone (g.W.Words.sight c.args.pass.now).seen (g.W.Words.sight c.spread.new.pass).seen c.spread.ensures.did here in
+    (λ may. (same, refl), λ not. same)

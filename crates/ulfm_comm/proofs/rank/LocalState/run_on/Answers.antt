@@ -38,9 +38,9 @@ knows g c known =
     (c.loop-next.invariant.knows known)))
 
 -- no word beside was tried that may not be
-beside : (g : _) (c : After-go g) → TriesTurn g.W.Words.alone (under_way c.args.asked.now c.args.phase []) (local c.args.self.now (view_at (over g.P.Packed.pack (g.W.Words.name c.args.words.now)) (g.W.Words.sight c.args.pass.now))) c.go.result
+beside : (g : _) (c : After-go g) → TriesTurn g.W.Words.alone (under_way c.args.asked.now c.args.phase c.args.group.items) (local c.args.self.now (view_at (over g.P.Packed.pack (g.W.Words.name c.args.words.now)) (g.W.Words.sight c.args.pass.now))) c.go.result
     (local c.go.new.self (view_at (over g.P.Packed.pack (g.W.Words.name c.args.words.now)) (g.W.Words.sight c.go.new.pass)))
-beside g c = turns_then _ _ _ _ _ _ _ _ _ c.loop-next.invariant.kept c.loop-next.invariant.beside c.go.ensures.turn.beside
+beside g c = turns_then _ _ _ _ _ _ _ _ _ _ c.loop-next.invariant.kept c.loop-next.invariant.beside c.go.ensures.turn.beside
 
 -- what was seen
 sees : (g : _) (c : After-go g) → KnowsIn c.args.self.now c.args.asked.now (g.W.Words.sight c.args.pass.now).cached c.args.phase
@@ -104,7 +104,7 @@ loop-next-preserved g c =
       of = turn.walks.of;
       begins = prefix_trans start.seen now.seen after.seen inv.begins (did_prefix g.W.Words.alone _ now.seen after.seen turn.walks.did);
       cached = prefix_trans start.cached now.cached after.cached inv.cached turn.walks.cached;
-      beside = subst (λ next. TriesTurn g.W.Words.alone (under_way asked c.args.phase []) (local own (view_at name start)) next (local new (view_at name after))) c.in-Goes.is (beside g at);
+      beside = subst (λ next. TriesTurn g.W.Words.alone (under_way asked c.args.phase c.args.group.items) (local own (view_at name start)) next (local new (view_at name after))) c.in-Goes.is (beside g at);
       onward = within _ _ _ inv.onward turn.walks.onward;
       past = subst (λ next. IsPast next) c.in-Goes.is (leads_past c.loop-next.phase c.go.result inv.past turn.leads);
       stands = λ old before u. subst (λ next. NextIs g.P.Meld.meld g.W.Words.alone asked (local old (view_at name before)) next c.go.new.group.items (local new (view_at name after))) c.in-Goes.is
@@ -145,7 +145,7 @@ returns-in-Ends g c =
       of = walks.of;
       begins = prefix_trans start.seen now.seen after.seen inv.begins (did_prefix g.W.Words.alone _ now.seen after.seen walks.did);
       cached = prefix_trans start.cached now.cached after.cached inv.cached walks.cached;
-      beside = subst (λ next. TriesTurn g.W.Words.alone (under_way asked c.args.phase []) (local own (view_at name start)) next (local new (view_at name after))) c.in-Ends.is (beside g at);
+      beside = subst (λ next. TriesTurn g.W.Words.alone (under_way asked c.args.phase c.args.group.items) (local own (view_at name start)) next (local new (view_at name after))) c.in-Ends.is (beside g at);
       onward = within _ _ _ inv.onward walks.onward;
       spends = omega (arith, spends, inv.spent);
       also = λ all.

@@ -80,6 +80,7 @@ invariant_of-self g c =
     (sym c.self.view_is) c.requires.holds.fresh in
     record {
       below = c.self.invariant.below;
+      others_are = c.self.invariant.others_are;
       room = room_pushed _ _ _ _ c.args.comm (λ y. record y { request = None }) (new_held (c.in-Some-place_in.index + 1) c.args.context c.args.group.now.items)
           c.self.inside.held.items c.take_in.new.held.items c.self.invariant.room (λ y. refl)
           c.requires.holds.id fresh (items_are g (goal.at.invariant_of-self g c).After-take_in) c.take_in.ensures.room;

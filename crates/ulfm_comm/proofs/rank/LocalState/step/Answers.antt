@@ -6,7 +6,7 @@ use Rattle.ulfm_comm.specs.{Phase.{Answered, NextIs, Stands, UnderWay, Waits}, S
 use Rattle.ulfm_comm.proofs.Stands.{stands_lasts}
 use Rattle.ulfm_comm.proofs.rank.LocalState.step.Goals as goal
 use Rattle.ulfm_comm.proofs.rank.LocalState.step.Goals.{After-go, After-go-arg-4-1}
-use Rattle.ulfm_comm.specs.Local.{local}
+use Rattle.ulfm_comm.specs.{Local.{local}, Proposals.{WinsNext}, Wings.{WingsIn, WingsNext}}
 
 -- the call as its step takes it
 same : (g : _) (c : After-go-arg-4-1 g) → c.args.doing.now ≡ record {
@@ -119,3 +119,40 @@ returns-in-Ends-clause-spends g c =
     subst (λ next. Spends (steps_left limits c.args.self.now c.args.doing.now.asked c.args.doing.now.phase) limits c.go.new.self c.args.doing.now.asked next
     (g.W.Words.sight c.args.pass.now) (g.W.Words.sight c.go.new.pass)) c.in-Ends.is
     (spent g (goal.at.returns-in-Ends-clause-spends g c).After-go)
+
+-- what it leaves of wings
+wings : (g : _) (c : After-go g) → IsTrue g.W.Words.alone
+    → WingsIn c.args.self.now c.args.doing.now.asked c.args.doing.now.phase (view_of g.P.Packed.pack (g.W.Words.name c.args.words.now) (g.W.Words.sight c.args.pass.now))
+    → WingsNext c.go.new.self c.doing.inside.asked c.go.result (view_of g.P.Packed.pack (g.W.Words.name c.args.words.now) (g.W.Words.sight c.go.new.pass))
+wings g c here stood =
+    let at = (goal.at.After-go g c).After-go-arg-4-1 in
+    c.go.ensures.turn.beside.wings here
+    (subst (λ (was : UnderWay g.row.P.Denot). WingsIn c.args.self.now was.asked was.phase (view_of g.P.Packed.pack (g.W.Words.name c.args.words.now) (g.W.Words.sight c.args.pass.now))) (same g at) stood)
+
+pub returns-in-Goes-clause-wings : goal.returns-in-Goes-clause-wings
+returns-in-Goes-clause-wings g c = λ here stood.
+    subst (λ next. WingsNext c.go.new.self c.doing.inside.asked next (view_of g.P.Packed.pack (g.W.Words.name c.args.words.now) (g.W.Words.sight c.go.new.pass))) c.in-Goes.is
+    (wings g (goal.at.returns-in-Goes-clause-wings g c).After-go here stood)
+
+pub returns-in-Ends-clause-wings : goal.returns-in-Ends-clause-wings
+returns-in-Ends-clause-wings g c = λ here stood.
+    subst (λ next. WingsNext c.go.new.self c.doing.inside.asked next (view_of g.P.Packed.pack (g.W.Words.name c.args.words.now) (g.W.Words.sight c.go.new.pass))) c.in-Ends.is
+    (wings g (goal.at.returns-in-Ends-clause-wings g c).After-go here stood)
+
+-- which event it added
+wins : (g : _) (c : After-go g)
+    → WinsNext g.P.Meld.meld g.W.Words.alone c.args.doing.now.asked c.args.doing.now.phase (local c.args.self.now (view_of g.P.Packed.pack (g.W.Words.name c.args.words.now) (g.W.Words.sight c.args.pass.now))) c.go.result (view_of g.P.Packed.pack (g.W.Words.name c.args.words.now) (g.W.Words.sight c.go.new.pass))
+wins g c =
+    let at = (goal.at.After-go g c).After-go-arg-4-1 in
+    subst (λ (was : UnderWay g.row.P.Denot). WinsNext g.P.Meld.meld g.W.Words.alone was.asked was.phase (local c.args.self.now (view_of g.P.Packed.pack (g.W.Words.name c.args.words.now) (g.W.Words.sight c.args.pass.now))) c.go.result (view_of g.P.Packed.pack (g.W.Words.name c.args.words.now) (g.W.Words.sight c.go.new.pass)))
+    (sym (same g at)) (c.go.ensures.wins refl)
+
+pub returns-in-Goes-clause-wins : goal.returns-in-Goes-clause-wins
+returns-in-Goes-clause-wins g c =
+    subst (λ next. WinsNext g.P.Meld.meld g.W.Words.alone c.args.doing.now.asked c.args.doing.now.phase (local c.args.self.now (view_of g.P.Packed.pack (g.W.Words.name c.args.words.now) (g.W.Words.sight c.args.pass.now))) next (view_of g.P.Packed.pack (g.W.Words.name c.args.words.now) (g.W.Words.sight c.go.new.pass))) c.in-Goes.is
+    (wins g (goal.at.returns-in-Goes-clause-wins g c).After-go)
+
+pub returns-in-Ends-clause-wins : goal.returns-in-Ends-clause-wins
+returns-in-Ends-clause-wins g c =
+    subst (λ next. WinsNext g.P.Meld.meld g.W.Words.alone c.args.doing.now.asked c.args.doing.now.phase (local c.args.self.now (view_of g.P.Packed.pack (g.W.Words.name c.args.words.now) (g.W.Words.sight c.args.pass.now))) next (view_of g.P.Packed.pack (g.W.Words.name c.args.words.now) (g.W.Words.sight c.go.new.pass))) c.in-Ends.is
+    (wins g (goal.at.returns-in-Ends-clause-wins g c).After-go)

@@ -6,7 +6,7 @@ use Rattle.ulfm_comm.specs.{Counts.{MakesSteps, Ranked}, Polls.{PendsIn}}
 use Rattle.ulfm_comm.proofs.Counts.{made_exact, made_small}
 use Rattle.ulfm_comm.proofs.rank.Rank.call.Goals as goal
 use Rattle.ulfm_comm.specs.Local.{local}
-use Rattle.ulfm_words.specs.Steps.{IsView, Over, view_at}
+use Rattle.ulfm_words.specs.Steps.{IsView, view_at}
 
 pub overflow_cast-self : goal.overflow_cast-self
 overflow_cast-self g c =

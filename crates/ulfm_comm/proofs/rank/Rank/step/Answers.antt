@@ -1,11 +1,12 @@
-use Rattle.std.proofs.Common.{◌≡◌, Bool, ap, refl, sym, ◌∙◌, subst, false}
+use Rattle.std.proofs.Common.{◌≡◌, Bool, IsTrue, ap, refl, sym, ◌∙◌, subst, false}
 use Rattle.ulfm_words.specs.Steps.{Name}
 use Rattle.ulfm_model.specs.Records.{Record}
 use Rattle.ulfm_words.specs.Steps.{IsView, Over, Sight, view_at, over}
 use Rattle.ulfm_comm.specs.{Counts.{Counted, Ranked}, Phase.{Answered, Stands, UnderWay}, Step.{Stepped}}
-use Rattle.ulfm_comm.specs.declared.phases.phase.Next.{Next}
+use Rattle.ulfm_comm.specs.declared.phases.phase.{Next.{Next}, Next.TheVariants.{Ends, Goes}}
 use Rattle.ulfm_comm.proofs.rank.Rank.step.Goals as goal
-use Rattle.ulfm_comm.specs.Local.{local}
+use Rattle.ulfm_comm.specs.{Local.{local}, Proposals.{WinsNext}, Wings.{WingsIn, WingsNext}}
+use Rattle.ulfm_model.specs.declared.call.Call.{Call}
 
 -- the call, its rank and its world, behind equal names
 module _ {P : Type 0} (meld : P → P → P) (name world : Over P) (words_is : name ≡ world) (was is : UnderWay P) (way : was ≡ is) (own same : Record)
@@ -22,6 +23,22 @@ module _ {P : Type 0} (meld : P → P → P) (name world : Over P) (words_is : n
   has_stepped quiet now next new after stepped = subst (λ n. Stepped meld quiet is (local same (view_at n now)) next (local new (view_at n after))) words_is
       (subst (λ w. Stepped meld quiet w (local same (view_at name now)) next (local new (view_at name after))) way
       (subst (λ o. Stepped meld quiet was (local o (view_at name now)) next (local new (view_at name after))) record_is stepped))
+
+-- what is left of wings, and which event was added
+module _ {P : Type 0} (name world : Over P) (words_is : name ≡ world) (was is : UnderWay P) (way : was ≡ is) (own same : Record) (record_is : own ≡ same) (quiet : Bool) (now : Sight P)
+    (next : Next P) where
+  has_kept : (new : Record) (asked : Call P) (after : Sight P)
+      → (IsTrue quiet → WingsIn own was.asked was.phase (view_at name now) → WingsNext new asked next (view_at name after))
+      → IsTrue quiet → WingsIn same is.asked is.phase (view_at world now) → WingsNext new asked next (view_at world after)
+  has_kept new asked after keeps = subst (λ n. IsTrue quiet → WingsIn same is.asked is.phase (view_at n now) → WingsNext new asked next (view_at n after)) words_is
+      (subst (λ (w : UnderWay P). IsTrue quiet → WingsIn same w.asked w.phase (view_at name now) → WingsNext new asked next (view_at name after)) way
+      (subst (λ o. IsTrue quiet → WingsIn o was.asked was.phase (view_at name now) → WingsNext new asked next (view_at name after)) record_is keeps))
+
+  has_won : (meld : P → P → P) (after : Sight P) → WinsNext meld quiet was.asked was.phase (local own (view_at name now)) next (view_at name after)
+      → WinsNext meld quiet is.asked is.phase (local same (view_at world now)) next (view_at world after)
+  has_won meld after wins = subst (λ n. WinsNext meld quiet is.asked is.phase (local same (view_at n now)) next (view_at n after)) words_is
+      (subst (λ (w : UnderWay P). WinsNext meld quiet w.asked w.phase (local same (view_at name now)) next (view_at name after)) way
+      (subst (λ o. WinsNext meld quiet was.asked was.phase (local o (view_at name now)) next (view_at name after)) record_is wins))
 
 pub step-requires-clause-of : goal.step-requires-clause-of
 step-requires-clause-of g c =
@@ -101,3 +118,31 @@ returns-in_default-clause-last g c = ap (λ (r : Ranked). r.last) c.self.view_is
 
 pub returns-clause-last : goal.returns-clause-last
 returns-clause-last g c = refl
+
+pub returns-in_default-clause-wings : goal.returns-in_default-clause-wings
+returns-in_default-clause-wings g c = λ here stood.
+    let way = ap (λ (d : Counted g.row.P.Denot). d.way) c.doing.view_is ∙ c.count.ensures.way in
+    let own = ap (λ (r : Ranked). r.own) c.self.view_is in
+    has_kept (over g.P.Packed.pack (g.W.Words.name c.world.inside.words)) (over g.P.Packed.pack c.args.world.now) (ap (over g.P.Packed.pack) c.world.view_is) c.doing.inside.way c.args.doing.now.way way c.self.inside.own c.args.self.now.own own
+    g.W.Words.alone (g.W.Words.sight c.args.pass.now) (Goes c.step.new.doing.phase) c.step.new.self c.step.new.doing.asked (g.W.Words.sight c.step.new.pass) c.in_default.ensures.wings here stood
+
+pub returns-clause-wings : goal.returns-clause-wings
+returns-clause-wings g c = λ here stood.
+    let way = ap (λ (d : Counted g.row.P.Denot). d.way) c.doing.view_is ∙ c.count.ensures.way in
+    let own = ap (λ (r : Ranked). r.own) c.self.view_is in
+    has_kept (over g.P.Packed.pack (g.W.Words.name c.world.inside.words)) (over g.P.Packed.pack c.args.world.now) (ap (over g.P.Packed.pack) c.world.view_is) c.doing.inside.way c.args.doing.now.way way c.self.inside.own c.args.self.now.own own
+    g.W.Words.alone (g.W.Words.sight c.args.pass.now) (Ends c.in-Some.reply) c.step.new.self c.step.new.doing.asked (g.W.Words.sight c.step.new.pass) c.in-Some.ensures.wings here stood
+
+pub returns-in_default-clause-wins : goal.returns-in_default-clause-wins
+returns-in_default-clause-wins g c =
+    let way = ap (λ (d : Counted g.row.P.Denot). d.way) c.doing.view_is ∙ c.count.ensures.way in
+    let own = ap (λ (r : Ranked). r.own) c.self.view_is in
+    has_won (over g.P.Packed.pack (g.W.Words.name c.world.inside.words)) (over g.P.Packed.pack c.args.world.now) (ap (over g.P.Packed.pack) c.world.view_is) c.doing.inside.way c.args.doing.now.way way c.self.inside.own c.args.self.now.own own
+    g.W.Words.alone (g.W.Words.sight c.args.pass.now) _ g.P.Meld.meld (g.W.Words.sight c.step.new.pass) c.in_default.ensures.wins
+
+pub returns-clause-wins : goal.returns-clause-wins
+returns-clause-wins g c =
+    let way = ap (λ (d : Counted g.row.P.Denot). d.way) c.doing.view_is ∙ c.count.ensures.way in
+    let own = ap (λ (r : Ranked). r.own) c.self.view_is in
+    has_won (over g.P.Packed.pack (g.W.Words.name c.world.inside.words)) (over g.P.Packed.pack c.args.world.now) (ap (over g.P.Packed.pack) c.world.view_is) c.doing.inside.way c.args.doing.now.way way c.self.inside.own c.args.self.now.own own
+    g.W.Words.alone (g.W.Words.sight c.args.pass.now) _ g.P.Meld.meld (g.W.Words.sight c.step.new.pass) c.in-Some.ensures.wins

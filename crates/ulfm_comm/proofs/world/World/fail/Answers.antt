@@ -1,6 +1,6 @@
 use Rattle.std.proofs.Common.{◌≡◌, ◌<◌, refl, ap, sym, subst, arith}
 use Rattle.ulfm_words.specs.Steps.{Name, over}
-use Rattle.ulfm_words.specs.Steps.{Over, view_at, over}
+use Rattle.ulfm_words.specs.Steps.{view_at, over}
 use Rattle.ulfm_steps.specs.{Appends.{MayAppend}}
 use Rattle.ulfm_steps.proofs.Coming.{may_fail}
 use Rattle.ulfm_comm.specs.Fails.{Fails}
