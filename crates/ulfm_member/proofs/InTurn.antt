@@ -12,7 +12,7 @@ use Rattle.ulfm_steps.proofs.KnownBlocks.{all_later}
 use Rattle.ulfm_comm.specs.{Bound.{also_bound, also_call_bound}, Requests.{BlocksStand}, StepsLeft.{group_of}}
 use Rattle.ulfm_comm.specs.declared.calls.polled.Polled.{Polled}
 use Rattle.ulfm_comm.proofs.{Holding.{exists_is, group_is}, Known.{round_known}}
-use Rattle.ulfm_member.specs.{InTurn.{IsShort}, Members.{IsMember, MemberLearns, MemberPolls, Membership, view_in}}
+use Rattle.ulfm_member.specs.{InTurn.{IsShort}, Members.{IsMember, MemberLearns, MemberPolls, Membership, view_in, setting_of}}
 
 -- the second column's bound on the poll of an agree
 bound_is : (P : Type 0) (limits : Limits) (own : Record) (rank c k f : ℕ) (x : Held) → held_at own c ≡ Some x → x.request ≡ Some (Agree k) → also_bound {P = P} limits own (call.Poll rank c) f ≤ f + 5
@@ -24,8 +24,8 @@ bound_is P limits own rank c k f x held open_is = go own.refused (is_some (refus
     go false false request is = rw is (omega arith)
 
 module _ {P : Type 0} (meld : P → P → P) (pack : P → ℕ) (alone tells : Bool) (c : ℕ) (first by : Membership P) (result : Result (Polled P) Refusal) (second mid new : Membership P) (answer : Result (Polled P) Refusal) (told : Heard P)
-    (fit : IsMember meld pack first) (polls : MemberPolls meld pack alone c first result by) (telling : Tells tells (view_in pack by.view) told) (learns : MemberLearns meld pack alone told second mid) (still : IsMember meld pack mid)
-    (second_polls : MemberPolls meld pack alone c mid answer new) (names : first.view.words ≡ second.view.words) where
+    (fit : IsMember meld pack first) (polls : MemberPolls (setting_of meld pack alone) c first result by) (telling : Tells tells (view_in pack by.view) told) (learns : MemberLearns (setting_of meld pack alone) told second mid) (still : IsMember meld pack mid)
+    (second_polls : MemberPolls (setting_of meld pack alone) c mid answer new) (names : first.view.words ≡ second.view.words) where
   -- what the first had seen the second has seen
   begins : IsTrue tells → IsPrefix first.view.pass.seen mid.view.pass.seen
   begins all =

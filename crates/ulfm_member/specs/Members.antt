@@ -44,50 +44,60 @@ pub record IsNewMember {P : Type 0} (meld : P → P → P) (pack : P → ℕ) (n
   pub new : IsNew meld (view_in pack m.view)
   pub last : m.last ≡ 0
 
+-- what a member's calls are over: how contributions are melded and packed, and whether nobody else steps
+pub record Setting (P : Type 0) : Type 0 where
+  pub meld : P → P → P
+  pub pack : P → ℕ
+  pub alone : Bool
+
+abbrev pub setting_of : {P : Type 0} → (P → P → P) → (P → ℕ) → Bool → Setting P
+setting_of meld pack alone = record { meld = meld; pack = pack; alone = alone }
+
 -- a call of a member: a whole call of its rank, over the same words, in no more atomic steps than the call's bound
-pub record MemberCalls {P : Type 0} (meld : P → P → P) (pack : P → ℕ) (alone : Bool) (asked : Call P) (old : Membership P) (reply : Reply P)
+pub record MemberCalls {P : Type 0} (setting : Setting P) (asked : Call P) (old : Membership P) (reply : Reply P)
     (new : Membership P) : Type 0 where
   pub words : new.view.words ≡ old.view.words
-  pub calls : Calls meld alone asked (local_of pack old) reply (after_call pack old new)
-  pub steps : TakesSteps asked (local_of pack old) new.last (after_call pack old new)
+  pub calls : Calls setting.meld setting.alone asked (local_of setting.pack old) reply (after_call setting.pack old new)
+  pub steps : TakesSteps asked (local_of setting.pack old) new.last (after_call setting.pack old new)
 
 -- a member's query of the failed group, which puts `count` ranks into a vector or is refused, within its bound of steps
-pub record MemberGets {P : Type 0} (meld : P → P → P) (pack : P → ℕ) (alone : Bool) (asked : Call P) (old : Membership P) (count : ℕ)
+pub record MemberGets {P : Type 0} (setting : Setting P) (asked : Call P) (old : Membership P) (count : ℕ)
     (result : Result (Unit {0}) Refusal) (new : Membership P) : Type 0 where
   pub words : new.view.words ≡ old.view.words
-  pub gets : Gets meld alone asked (local_of pack old) count result (after_call pack old new)
-  pub steps : TakesSteps asked (local_of pack old) new.last (after_call pack old new)
+  pub gets : Gets setting.meld setting.alone asked (local_of setting.pack old) count result (after_call setting.pack old new)
+  pub steps : TakesSteps asked (local_of setting.pack old) new.last (after_call setting.pack old new)
 
 -- A member tells who is missing in the round of its open request on communicator c, as its rank tells it, or is refused without a step. Its record,
 -- and the steps of its rank's last call, are as they were.
-pub record MemberMisses {P : Type 0} (meld : P → P → P) (pack : P → ℕ) (alone : Bool) (c : ℕ) (old : Membership P) (result : Result (Unit {0}) Refusal)
+pub record MemberMisses {P : Type 0} (setting : Setting P) (c : ℕ) (old : Membership P) (result : Result (Unit {0}) Refusal)
     (missing : List ℕ) (new : Membership P) : Type 0 where
   pub words : new.view.words ≡ old.view.words
   pub own : new.own ≡ old.own
   pub last : new.last ≡ old.last
   pub ends : EndsHeld (held_at old.own c) result
-  pub tells : IfOk result (λ _. TellsMissing meld alone old.own c (view_in pack old.view) (view_of pack old.view.words new.view.pass) missing)
+  pub tells : IfOk result (λ _. TellsMissing setting.meld setting.alone old.own c (view_in setting.pack old.view)
+      (view_of setting.pack old.view.words new.view.pass) missing)
   pub kept : OnErr result (new.view.pass ≡ old.view.pass)
 
 -- a member's poll on communicator c, within its bound of steps
-pub record MemberPolls {P : Type 0} (meld : P → P → P) (pack : P → ℕ) (alone : Bool) (c : ℕ) (old : Membership P) (result : Result (Polled P) Refusal)
+pub record MemberPolls {P : Type 0} (setting : Setting P) (c : ℕ) (old : Membership P) (result : Result (Polled P) Refusal)
     (new : Membership P) : Type 0 where
   pub words : new.view.words ≡ old.view.words
-  pub polls : Polls meld alone (Poll old.own.number c) (local_of pack old) result (after_call pack old new)
-  pub pending : IfOk result (EndsIn meld alone c (local_of pack old) (after_call pack old new))
-  pub steps : TakesSteps {P = P} (Poll old.own.number c) (local_of pack old) new.last (after_call pack old new)
+  pub polls : Polls setting.meld setting.alone (Poll old.own.number c) (local_of setting.pack old) result (after_call setting.pack old new)
+  pub pending : IfOk result (EndsIn setting.meld setting.alone c (local_of setting.pack old) (after_call setting.pack old new))
+  pub steps : TakesSteps {P = P} (Poll old.own.number c) (local_of setting.pack old) new.last (after_call setting.pack old new)
 
 -- a declaration through a member, which counts as the outside's and not as a call of the member's rank, and which its pass has seen from then on
-pub record MemberFails {P : Type 0} (meld : P → P → P) (pack : P → ℕ) (alone : Bool) (rank : ℕ) (old : Membership P) (reply : Reply P)
+pub record MemberFails {P : Type 0} (setting : Setting P) (rank : ℕ) (old : Membership P) (reply : Reply P)
     (new : Membership P) : Type 0 where
   pub words : new.view.words ≡ old.view.words
   pub own : new.own ≡ old.own
   pub last : new.last ≡ old.last
-  pub fails : Fails meld alone rank (view_in pack old.view) reply (view_of pack old.view.words new.view.pass)
+  pub fails : Fails setting.meld setting.alone rank (view_in setting.pack old.view) reply (view_of setting.pack old.view.words new.view.pass)
 
 -- a member learns a told value: its pass has seen what was told from then on, and its record is as it was
-pub record MemberLearns {P : Type 0} (meld : P → P → P) (pack : P → ℕ) (alone : Bool) (told : Heard P) (old new : Membership P) : Type 0 where
+pub record MemberLearns {P : Type 0} (setting : Setting P) (told : Heard P) (old new : Membership P) : Type 0 where
   pub words : new.view.words ≡ old.view.words
   pub own : new.own ≡ old.own
   pub last : new.last ≡ old.last
-  pub learns : Learns meld alone told (view_in pack old.view) (view_of pack old.view.words new.view.pass)
+  pub learns : Learns setting.meld setting.alone told (view_in setting.pack old.view) (view_of setting.pack old.view.words new.view.pass)

@@ -2,7 +2,7 @@
 ghost use Rattle.std.specs.Prelude.{◌≡◌, IsTrue};
 ghost use Rattle.ulfm_words.specs.Steps.{Tells};
 ghost use Rattle.ulfm_member.specs.InTurn.{IsShort, PollsTold};
-ghost use Rattle.ulfm_member.specs.Members.{MemberPolls, view_in};
+ghost use Rattle.ulfm_member.specs.Members.{MemberPolls, view_in, setting_of};
 
 use crate::member::Member;
 use std::alloc::Allocator;
@@ -40,8 +40,8 @@ pub fn poll_in_turn<W, P: Packed, A: Allocator + Copy>(
 where
     W: OpenWords<P, A>,
     requires { first.old.view.words ≡ second.old.view.words }
-    ensures first { MemberPolls P.meld P.pack W.alone comm first.old result.0 first.new }
-    ensures second { PollsTold P.meld P.pack W.alone (Tells W.tells_all (view_in P.pack first.new.view)) comm second.old result.1 second.new }
+    ensures first { MemberPolls (setting_of P.meld P.pack W.alone) comm first.old result.0 first.new }
+    ensures second { PollsTold (setting_of P.meld P.pack W.alone) (Tells W.tells_all (view_in P.pack first.new.view)) comm second.old result.1 second.new }
     ensures short { IsTrue W.tells_all → IsShort comm first.old result.0 second.old second.new }
 {
     first.known_fit();

@@ -13,7 +13,7 @@ ghost use Rattle.ulfm_comm.specs.{Excludes.{Excludes}, Queries.{acked_in}};
 ghost use Rattle.ulfm_comm.specs.Fails.{declared};
 ghost use Rattle.ulfm_comm.specs.Misses.{size_held};
 ghost use Rattle.ulfm_comm.specs.Revokes.{revoked};
-ghost use Rattle.ulfm_member.specs.Members.{IsMember, MemberCalls, MemberFails, MemberGets, MemberLearns, MemberMisses, MemberPolls, after_call, view_in, viewing};
+ghost use Rattle.ulfm_member.specs.Members.{IsMember, MemberCalls, MemberFails, MemberGets, MemberLearns, MemberMisses, MemberPolls, after_call, view_in, viewing, setting_of};
 
 use std::alloc::Allocator;
 use std::marker::Model;
@@ -195,7 +195,8 @@ where
     /// assert!(rt; member.iagree(0, flag) == Err(Refusal::Busy));
     /// ```
     pub fn iagree(&mut self, comm: u16, value: P) -> Result<(), Refusal>
-        ensures { MemberCalls P.meld P.pack W.alone (AgreeAsked self.old.own.number comm value) self.old (reply_of (λ _. Started) result) self.new }
+        ensures { MemberCalls (setting_of P.meld P.pack W.alone) (AgreeAsked self.old.own.number comm value) self.old
+            (reply_of (λ _. Started) result) self.new }
     {
         self.rank.iagree(&self.world, &mut self.pass, comm, value)
     }
@@ -213,7 +214,8 @@ where
     /// assert!(rt; member.poll(0) == Ok(alone));
     /// ```
     pub fn ishrink(&mut self, comm: u16) -> Result<(), Refusal>
-        ensures calls { MemberCalls P.meld P.pack W.alone (ShrinkAsked self.old.own.number comm) self.old (reply_of (λ _. Started) result) self.new }
+        ensures calls { MemberCalls (setting_of P.meld P.pack W.alone) (ShrinkAsked self.old.own.number comm) self.old
+            (reply_of (λ _. Started) result) self.new }
         ensures excludes { IfOk result (λ _. Excludes P.meld self.old.view.words.limits self.old.view.pass.seen self.new.view.pass.seen self.old.own comm) }
     {
         self.rank.ishrink(&self.world, &mut self.pass, comm)
@@ -229,7 +231,7 @@ where
     /// assert!(rt; member.poll(0) == Err(Refusal::ProcFailed));
     /// ```
     pub fn ibarrier(&mut self, comm: u16) -> Result<(), Refusal>
-        ensures { MemberCalls P.meld P.pack W.alone (BarrierAsked self.old.own.number comm) self.old (reply_of (λ _. Started) result) self.new }
+        ensures { MemberCalls (setting_of P.meld P.pack W.alone) (BarrierAsked self.old.own.number comm) self.old (reply_of (λ _. Started) result) self.new }
     {
         self.rank.ibarrier(&self.world, &mut self.pass, comm)
     }
@@ -250,7 +252,7 @@ where
     /// assert!(rt; member.poll(0) == Ok(agreed));
     /// ```
     pub fn poll(&mut self, comm: u16) -> Result<Polled<P>, Refusal>
-        ensures { MemberPolls P.meld P.pack W.alone comm self.old result self.new }
+        ensures { MemberPolls (setting_of P.meld P.pack W.alone) comm self.old result self.new }
     {
         self.rank.poll(&self.world, &mut self.pass, comm)
     }
@@ -268,7 +270,7 @@ where
         comm: u16,
         found: &mut Vec<u16, B>,
     ) -> Result<(), Refusal>
-        ensures gets { MemberGets P.meld P.pack W.alone (GetAsked self.old.own.number comm) self.old (length found.new.items) result self.new }
+        ensures gets { MemberGets (setting_of P.meld P.pack W.alone) (GetAsked self.old.own.number comm) self.old (length found.new.items) result self.new }
         ensures group { IfOk result (λ _. found.new.items ≡ failed self.old.view.words.limits.ranks self.new.view.pass.seen comm) }
         ensures kept { OnErr result (found.new.items ≡ found.old.items) }
         ensures memory { result ≡ Err NoMemory → vec_capacity found.old < length (failed self.old.view.words.limits.ranks self.new.view.pass.seen comm) }
@@ -290,7 +292,7 @@ where
         comm: u16,
         found: &mut Vec<u16, B>,
     ) -> Result<(), Refusal>
-        ensures misses { MemberMisses P.meld P.pack W.alone comm self.old result found.new.items self.new }
+        ensures misses { MemberMisses (setting_of P.meld P.pack W.alone) comm self.old result found.new.items self.new }
         ensures kept { OnErr result (found.new.items ≡ found.old.items) }
         ensures memory { result ≡ Err NoMemory → vec_capacity found.old < size_held (held_at self.old.own comm) }
     {
@@ -305,7 +307,7 @@ where
     /// assert!(rt; member.ack_failed(0, 9) == Ok(1));
     /// ```
     pub fn ack_failed(&mut self, comm: u16, count: u16) -> Result<u16, Refusal>
-        ensures { MemberCalls P.meld P.pack W.alone (AckAsked self.old.own.number comm count) self.old (reply_of Acked result) self.new }
+        ensures { MemberCalls (setting_of P.meld P.pack W.alone) (AckAsked self.old.own.number comm count) self.old (reply_of Acked result) self.new }
     {
         self.rank
             .ack_failed(&self.world, &mut self.pass, comm, count)
@@ -318,7 +320,7 @@ where
     /// assert!(rt; member.failure_ack(0) == Ok(1));
     /// ```
     pub fn failure_ack(&mut self, comm: u16) -> Result<u16, Refusal>
-        ensures { MemberCalls P.meld P.pack W.alone (AckAllAsked self.old.own.number comm) self.old (reply_of Acked result) self.new }
+        ensures { MemberCalls (setting_of P.meld P.pack W.alone) (AckAllAsked self.old.own.number comm) self.old (reply_of Acked result) self.new }
     {
         self.rank.failure_ack(&self.world, &mut self.pass, comm)
     }
@@ -339,7 +341,8 @@ where
         comm: u16,
         found: &mut Vec<u16, B>,
     ) -> Result<(), Refusal>
-        ensures gets { MemberGets P.meld P.pack W.alone (GetAckedAsked self.old.own.number comm) self.old (length found.new.items) result self.new }
+        ensures gets { MemberGets (setting_of P.meld P.pack W.alone) (GetAckedAsked self.old.own.number comm) self.old
+            (length found.new.items) result self.new }
         ensures group { IfOk result (λ _. found.new.items ≡ acked_in (after_call P.pack self.old self.new) comm) }
         ensures kept { OnErr result (found.new.items ≡ found.old.items) }
         ensures memory { result ≡ Err NoMemory → vec_capacity found.old < length (acked_in (after_call P.pack self.old self.new) comm) }
@@ -355,7 +358,7 @@ where
     /// assert!(rt; member.revoke(0) == Ok(false));
     /// ```
     pub fn revoke(&mut self, comm: u16) -> Result<bool, Refusal>
-        ensures { MemberCalls P.meld P.pack W.alone (RevokeAsked self.old.own.number comm) self.old (reply_of revoked result) self.new }
+        ensures { MemberCalls (setting_of P.meld P.pack W.alone) (RevokeAsked self.old.own.number comm) self.old (reply_of revoked result) self.new }
     {
         self.rank.revoke(&self.world, &mut self.pass, comm)
     }
@@ -368,7 +371,7 @@ where
     /// assert!(rt; member.is_revoked(0) == Ok(true));
     /// ```
     pub fn is_revoked(&mut self, comm: u16) -> Result<bool, Refusal>
-        ensures { MemberCalls P.meld P.pack W.alone (StandingAsked self.old.own.number comm) self.old (reply_of Standing result) self.new }
+        ensures { MemberCalls (setting_of P.meld P.pack W.alone) (StandingAsked self.old.own.number comm) self.old (reply_of Standing result) self.new }
     {
         self.rank.is_revoked(&self.world, &mut self.pass, comm)
     }
@@ -384,7 +387,7 @@ where
     /// assert!(rt; member.free(0) == Err(Refusal::WorldKept));
     /// ```
     pub fn free(&mut self, comm: u16) -> Result<(), Refusal>
-        ensures { MemberCalls P.meld P.pack W.alone (FreeAsked self.old.own.number comm) self.old (reply_of (λ _. Freed) result) self.new }
+        ensures { MemberCalls (setting_of P.meld P.pack W.alone) (FreeAsked self.old.own.number comm) self.old (reply_of (λ _. Freed) result) self.new }
     {
         self.rank.free(&self.world, &mut self.pass, comm)
     }
@@ -398,7 +401,7 @@ where
     /// assert!(rt; member.fail(2) == Err(Refusal::NoSuchRank));
     /// ```
     pub fn fail(&mut self, rank: u16) -> Result<bool, Refusal>
-        ensures { MemberFails P.meld P.pack W.alone rank self.old (reply_of declared result) self.new }
+        ensures { MemberFails (setting_of P.meld P.pack W.alone) rank self.old (reply_of declared result) self.new }
     {
         self.world.fail(&mut self.pass, rank)
     }
@@ -428,7 +431,7 @@ where
     /// ```
     pub fn learn(&mut self, told: &W::Told)
         requires { (W.heard told.now).name ≡ self.old.view.words }
-        ensures { MemberLearns P.meld P.pack W.alone (W.heard told.now) self.old self.new }
+        ensures { MemberLearns (setting_of P.meld P.pack W.alone) (W.heard told.now) self.old self.new }
     {
         self.world.learn(&mut self.pass, told)
     }

@@ -99,15 +99,15 @@ module _ (plan : Plan) (name : Over FlagAnd) (same : name.limits ≡ limits_of p
       (subst (λ b. first_refusal ((is_some x.request, Busy) ∷ (b, ShrinkOpen) ∷ (false, RoundsUsedUp) ∷ []) ≡ None) (sym none_open)
       (ap (λ q. first_refusal ((is_some q, Busy) ∷ (false, ShrinkOpen) ∷ (false, RoundsUsedUp) ∷ [])) ready.request)))
 
-  reason_is : (h : History FlagAnd) (j : ℕ) (spread : Bool) (f : Refusal) → j ≡ k → IsReason flag_meld limits h 0 j r spread f → IsReason flag_meld (limits_of plan) h 0 k r spread f
-  reason_is h j spread f is reason = subst (λ l. IsReason flag_meld l h 0 k r spread f) same (subst (λ n. IsReason flag_meld limits h 0 n r spread f) is reason)
+  reason_is : (h : History FlagAnd) (j : ℕ) (spread : Bool) (f : Refusal) → j ≡ k → IsReason flag_meld limits h (0, j) r spread f → IsReason flag_meld (limits_of plan) h (0, k) r spread f
+  reason_is h j spread f is reason = subst (λ l. IsReason flag_meld l h (0, k) r spread f) same (subst (λ n. IsReason flag_meld limits h (0, n) r spread f) is reason)
 
   -- what it was answered before stays
   before_last : (after : Sight FlagAnd) → IsView flag_meld (view_at name after) → IsPrefix at.seen after.seen → AreAgreed flag_meld (limits_of plan) after.seen 0 (flag_of r) r said
   before_last after new_of begins = agreed_last flag_meld (limits_of plan) at.seen after.seen begins (subst (λ l. IsLegal flag_meld l after.seen) same new_of.legal) 0 (flag_of r) r said (omega arith) ready.agreed
 
   -- a refusal with its reason ends what the rank was answered
-  ended : (spread : Bool) (refusal : Refusal) (new : Record) (after : Sight FlagAnd) → IsView flag_meld (view_at name after) → IsPrefix at.seen after.seen → IsReason flag_meld (limits_of plan) after.seen 0 k r spread refusal → IsAnswered plan after.seen r new (said ++ Refused refusal ∷ [])
+  ended : (spread : Bool) (refusal : Refusal) (new : Record) (after : Sight FlagAnd) → IsView flag_meld (view_at name after) → IsPrefix at.seen after.seen → IsReason flag_meld (limits_of plan) after.seen (0, k) r spread refusal → IsAnswered plan after.seen r new (said ++ Refused refusal ∷ [])
   ended spread refusal new after new_of begins reason =
       let count = ready.count in
       let agreed = before_last after new_of begins in
@@ -119,7 +119,7 @@ module _ (plan : Plan) (name : Over FlagAnd) (same : name.limits ≡ limits_of p
           all = refl;
           few = omega (arith, count, in_time);
           each = agreed;
-          ends = inl (record { refusal = refusal; reply_is = refl; spread = spread; reason = subst (λ n. IsReason flag_meld (limits_of plan) after.seen 0 n r spread refusal) (sym count) reason });
+          ends = inl (record { refusal = refusal; reply_is = refl; spread = spread; reason = subst (λ n. IsReason flag_meld (limits_of plan) after.seen (0, n) r spread refusal) (sym count) reason });
         };
         holds = λ some. absurd (cc (none, some));
       }
@@ -170,7 +170,7 @@ module _ (plan : Plan) (name : Over FlagAnd) (same : name.limits ≡ limits_of p
         let calls = subst (λ b. EndsBy flag_meld false (Poll last.own.number 0) (local last.own (view_at name last.at)) refusal b (local new (view_at name after))) kept last.poll in
         let reason = polls_refused flag_meld limits false last.at.seen after.seen last.own new 0 k y refusal last.fits (there (Err refusal) last) which (called_run flag_meld false name (Poll last.own.number 0) last.own last.at (Refused refusal) new after calls) in
         ended false refusal new after calls.linearizes.of (all_from (Err refusal) last (Refused refusal) calls)
-        (reason_is after.seen k false refusal refl (subst (λ n. IsReason flag_meld limits after.seen 0 k n false refusal) (number_is (Err refusal) last) reason))
+        (reason_is after.seen k false refusal refl (subst (λ n. IsReason flag_meld limits after.seen (0, k) n false refusal) (number_is (Err refusal) last) reason))
 
   -- one reply more to an agree
   agreed_push : (h : History FlagAnd) (reply : Reply FlagAnd) → AreAgreed flag_meld (limits_of plan) h 0 (flag_of r) r said → IsDecision flag_meld (limits_of plan) h 0 k reply → Gave h 0 k r (flag_of r k) → AreAgreed flag_meld (limits_of plan) h 0 (flag_of r) r (said ++ reply ∷ [])

@@ -5,7 +5,7 @@ use Rattle.ulfm_laws.specs.{declared.flag_and.FlagAnd.{FlagAnd}, Flags.{flag_mel
 use Rattle.ulfm_model.specs.declared.{call.Call.{Call}, call.Call.TheVariants.{Agree, Shrink}, refusal.Refusal.{Refusal}, refusal.Refusal.TheVariants.{OutOfMemory}, reply.Reply.{Reply}, reply.Reply.TheVariants.{Started}}
 use Rattle.ulfm_words.specs.Steps.{Name, Sight}
 use Rattle.ulfm_comm.specs.declared.calls.polled.{Polled.{Polled}, Polled.TheVariants.{Pending as StillPending}}
-use Rattle.ulfm_member.specs.Members.{MemberCalls, MemberPolls, Membership}
+use Rattle.ulfm_member.specs.Members.{MemberCalls, MemberPolls, Membership, setting_of}
 use Rattle.ulfm_wait.specs.{Turns.{MemberPends}, Waits.{MemberAwaits, MemberPollsOn}}
 use Rattle.ulfm_race.specs.Races.{IsKeptReply, flag_of, flag_pack, is_stopped}
 use Rattle.ulfm_race.specs.Worked.{BreaksIn, TurnsBreakOff, Declares, HasPended, HasTurned, HasTurnedBy, TakesPart, TakesTurns, TurnIs, steps_of, turn_of}
@@ -24,22 +24,22 @@ start_steps name r (Ok x) before after same = omega (arith, ap (λ (s : Sight Fl
 start_steps name r (Err fault) before after declares = let few = declares.1.steps in omega (arith, few)
 
 -- so many pending polls, and one more behind them
-pends_last : (times : ℕ) (old mid new : Membership FlagAnd) → MemberPends flag_meld flag_pack false 0 times old mid → MemberPolls flag_meld flag_pack false 0 mid (Ok StillPending) new → MemberPends flag_meld flag_pack false 0 (suc times) old new
-pends_last zero old mid new same last = (new, subst (λ m. MemberPolls flag_meld flag_pack false 0 m (Ok StillPending) new) same last, refl)
+pends_last : (times : ℕ) (old mid new : Membership FlagAnd) → MemberPends (setting_of flag_meld flag_pack false) 0 times old mid → MemberPolls (setting_of flag_meld flag_pack false) 0 mid (Ok StillPending) new → MemberPends (setting_of flag_meld flag_pack false) 0 (suc times) old new
+pends_last zero old mid new same last = (new, subst (λ m. MemberPolls (setting_of flag_meld flag_pack false) 0 m (Ok StillPending) new) same last, refl)
 pends_last (suc times) old mid new (first, pends, rest) last = (first, pends, pends_last times first mid new rest last)
 
-pub pended_more : (old mid new : Membership FlagAnd) → HasPended old mid → MemberPolls flag_meld flag_pack false 0 mid (Ok StillPending) new → HasPended old new
+pub pended_more : (old mid new : Membership FlagAnd) → HasPended old mid → MemberPolls (setting_of flag_meld flag_pack false) 0 mid (Ok StillPending) new → HasPended old new
 pended_more old mid new pended last = (suc pended.0, pends_last pended.0 old mid new pended.1 last)
 
 -- a turn that started, and was polled until a poll was answered
-pub turn_answered : (asked : Call FlagAnd) (old mid new : Membership FlagAnd) (answer : Result (Polled FlagAnd) Refusal) (result : Result (Reply FlagAnd) RaceFault) → MemberCalls flag_meld flag_pack false asked old Started mid
-    → MemberPollsOn flag_meld flag_pack false 0 mid answer new → IfOk result (IsKeptReply answer) → IfErr result (λ fault. (fault ≡ Memory) × (answer ≡ Err OutOfMemory)) → TurnIs asked old result new
+pub turn_answered : (asked : Call FlagAnd) (old mid new : Membership FlagAnd) (answer : Result (Polled FlagAnd) Refusal) (result : Result (Reply FlagAnd) RaceFault) → MemberCalls (setting_of flag_meld flag_pack false) asked old Started mid
+    → MemberPollsOn (setting_of flag_meld flag_pack false) 0 mid answer new → IfOk result (IsKeptReply answer) → IfErr result (λ fault. (fault ≡ Memory) × (answer ≡ Err OutOfMemory)) → TurnIs asked old result new
 turn_answered asked old mid new answer (Ok reply) starts polls kept stops = inr (answer, kept, record { mid = mid; starts = starts; polls = polls })
 turn_answered asked old mid new answer (Err fault) starts polls kept stops =
-    subst (λ f. BreaksIn asked old f new) (sym stops.0) (subst (λ a. MemberAwaits flag_meld flag_pack false 0 asked old a new) stops.1 (record { mid = mid; starts = starts; polls = polls }))
+    subst (λ f. BreaksIn asked old f new) (sym stops.0) (subst (λ a. MemberAwaits (setting_of flag_meld flag_pack false) 0 asked old a new) stops.1 (record { mid = mid; starts = starts; polls = polls }))
 
 -- one that started, and was held
-pub turn_held : (asked : Call FlagAnd) (old mid new : Membership FlagAnd) (fault : RaceFault) → MemberCalls flag_meld flag_pack false asked old Started mid → HasPended mid new → fault ≡ HeldBack → BreaksIn asked old fault new
+pub turn_held : (asked : Call FlagAnd) (old mid new : Membership FlagAnd) (fault : RaceFault) → MemberCalls (setting_of flag_meld flag_pack false) asked old Started mid → HasPended mid new → fault ≡ HeldBack → BreaksIn asked old fault new
 turn_held asked old mid new fault starts pended held = subst (λ f. BreaksIn asked old f new) (sym held) (inr (mid, starts, pended))
 
 -- the turn of a round is its agree

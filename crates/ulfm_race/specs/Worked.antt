@@ -6,7 +6,7 @@ use Rattle.ulfm_model.specs.declared.{call.Call.{Call}, call.Call.TheVariants.{A
 use Rattle.ulfm_words.specs.Steps.{view_of, Name, Sight}
 use Rattle.ulfm_comm.specs.Fails.{Fails}
 use Rattle.ulfm_comm.specs.declared.calls.polled.Polled.{Polled}
-use Rattle.ulfm_member.specs.Members.{MemberCalls, Membership}
+use Rattle.ulfm_member.specs.Members.{MemberCalls, Membership, setting_of}
 use Rattle.ulfm_wait.specs.{Turns.{MemberPends}, Waits.{MemberAwaits}}
 use Rattle.ulfm_race.specs.Races.{IsKeptReply, flag_of, flag_pack, is_refused}
 use Rattle.ulfm_race.specs.declared.{plan.Plan.{Plan}, plan.RaceFault.{RaceFault}, worker.Report.{Report}}
@@ -23,20 +23,20 @@ steps_of most (Err fault ∷ starts) = most + steps_of most starts
 
 -- so many polls, and each was pending
 abbrev pub HasPended : Membership FlagAnd → Membership FlagAnd → Type 0
-HasPended old new = (times : ℕ) × MemberPends flag_meld flag_pack false 0 times old new
+HasPended old new = (times : ℕ) × MemberPends (setting_of flag_meld flag_pack false) 0 times old new
 
 -- A start and what came of it, and nothing else, in no more steps than these calls may make: it was refused; or it started, and polls went on until
 -- one was answered, but not for want of memory.
 abbrev pub TakesPart : Call FlagAnd → Membership FlagAnd → Reply FlagAnd → Membership FlagAnd → Type 0
 TakesPart asked old reply new =
-    ((refusal : Refusal) × (reply ≡ Reply.Refused refusal) × MemberCalls flag_meld flag_pack false asked old (Reply.Refused refusal) new)
-    ⊎ ((answer : Result (Polled FlagAnd) Refusal) × IsKeptReply answer reply × MemberAwaits flag_meld flag_pack false 0 asked old answer new)
+    ((refusal : Refusal) × (reply ≡ Reply.Refused refusal) × MemberCalls (setting_of flag_meld flag_pack false) asked old (Reply.Refused refusal) new)
+    ⊎ ((answer : Result (Polled FlagAnd) Refusal) × IsKeptReply answer reply × MemberAwaits (setting_of flag_meld flag_pack false) 0 asked old answer new)
 
 -- A turn that met a fault: its last poll wanted memory; or the gate said no, before the start, or behind it and so many pending polls.
 abbrev pub BreaksIn : Call FlagAnd → Membership FlagAnd → RaceFault → Membership FlagAnd → Type 0
-BreaksIn asked old RaceFault.Memory new = MemberAwaits flag_meld flag_pack false 0 asked old (Err Refusal.OutOfMemory) new
+BreaksIn asked old RaceFault.Memory new = MemberAwaits (setting_of flag_meld flag_pack false) 0 asked old (Err Refusal.OutOfMemory) new
 BreaksIn asked old RaceFault.Held new =
-    (new ≡ old) ⊎ ((mid : Membership FlagAnd) × MemberCalls flag_meld flag_pack false asked old Reply.Started mid × HasPended mid new)
+    (new ≡ old) ⊎ ((mid : Membership FlagAnd) × MemberCalls (setting_of flag_meld flag_pack false) asked old Reply.Started mid × HasPended mid new)
 
 -- a turn that was answered so, or met a fault
 abbrev pub TurnIs : Call FlagAnd → Membership FlagAnd → Result (Reply FlagAnd) RaceFault → Membership FlagAnd → Type 0

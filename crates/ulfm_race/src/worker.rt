@@ -1,5 +1,6 @@
 // The part of one rank.
 ghost use Rattle.std.specs.Prelude.{◌≡◌, ◌<◌, Bool, List, [], ◌∷◌, ◌++◌, false, true, map, not, ⊤, IfErr, IfOk, IfSome, IsTrue, MatchBool, None, Ok, Err};
+ghost use Rattle.ulfm_member.specs.Members.{setting_of};
 ghost use Rattle.std.specs.List.{AllByRecursion, list_any};
 ghost use mathlib.Core.List.{IsPrefix};
 ghost use Rattle.boxcar.specs.Table.{Shows};
@@ -210,7 +211,7 @@ fn polled<G: Gate, R: Wait>(
         (local rank.new.own (view_of flag_pack world.now pass.new))) }
     ensures asks { IfOk result (λ _. G.may_say gate.now rank.old.own.number Turn.Poll true) }
     ensures stops { IfErr result (λ fault. (fault ≡ RaceFault.Held) × G.may_say gate.now rank.old.own.number Turn.Poll false) }
-    ensures counted { IfOk result (λ answer. MemberPollsOn flag_meld flag_pack false 0 (member_of world.now rank.old pass.old) answer
+    ensures counted { IfOk result (λ answer. MemberPollsOn (setting_of flag_meld flag_pack false) 0 (member_of world.now rank.old pass.old) answer
         (member_of world.now rank.new pass.new)) }
     ensures pends { IfErr result (λ _. HasPended (member_of world.now rank.old pass.old) (member_of world.now rank.new pass.new)) }
 {

@@ -20,7 +20,7 @@ same_refusal P a b is = cc is
 
 module _ {P : Type 0} (meld : P → P → P) (limits : Limits) (alone : Bool) (before after : History P) (own new : Record) (c : ℕ) (x : Held) (fits : Fits meld limits before own) (held : held_at own c ≡ Some x) (refusal : Refusal) where
   abbrev Means : ℕ → Bool → Refusal → Type 0
-  Means k spread f = IsReason meld limits after c k own.number spread f
+  Means k spread f = IsReason meld limits after (c, k) own.number spread f
 
   -- a refusal that is known means the same
   known : (k : ℕ) (spread : Bool) (f : Refusal) → refused_by P refusal ≡ Refused f → Means k spread f → Means k spread refusal
@@ -95,11 +95,11 @@ module _ {P : Type 0} (meld : P → P → P) (limits : Limits) (alone : Bool) (b
 module _ {P : Type 0} (meld : P → P → P) where
   pub starts_refused : StartsRefuse meld
   starts_refused limits alone before after own new c x asked refusal fits held kind none (inl refused) =
-      subst (IsReason meld limits after c x.next_agreement own.number false) (same_refusal P refusal SelfFailed refused.2)
+      subst (IsReason meld limits after (c, x.next_agreement) own.number false) (same_refusal P refusal SelfFailed refused.2)
       (self_failed meld limits alone before after own new asked fits (inl (refused.0, refused.1, refl, refused.3)))
   starts_refused limits alone before after own new c x asked refusal fits held (inl (value, is)) none (inr run) =
       subst
-      (λ a. refusal_of own a ≡ None → (run : IsRun meld limits alone (moment own before) a (Refused refusal) (moment new after)) → IsReason meld limits after c x.next_agreement own.number run.span.spread refusal)
+      (λ a. refusal_of own a ≡ None → (run : IsRun meld limits alone (moment own before) a (Refused refusal) (moment new after)) → IsReason meld limits after (c, x.next_agreement) own.number run.span.spread refusal)
       (sym is)
       (λ none run.
       by_replies meld limits alone before after own new c x fits held refusal (call.Agree own.number c value) run x.next_agreement run.span.spread refl none
@@ -107,7 +107,7 @@ module _ {P : Type 0} (meld : P → P → P) where
       none run
   starts_refused limits alone before after own new c x asked refusal fits held (inr is) none (inr run) =
       subst
-      (λ a. refusal_of own a ≡ None → (run : IsRun meld limits alone (moment own before) a (Refused refusal) (moment new after)) → IsReason meld limits after c x.next_agreement own.number run.span.spread refusal)
+      (λ a. refusal_of own a ≡ None → (run : IsRun meld limits alone (moment own before) a (Refused refusal) (moment new after)) → IsReason meld limits after (c, x.next_agreement) own.number run.span.spread refusal)
       (sym is)
       (λ none run.
       by_replies meld limits alone before after own new c x fits held refusal (call.Shrink own.number c) run x.next_agreement run.span.spread refl none
@@ -116,7 +116,7 @@ module _ {P : Type 0} (meld : P → P → P) where
 
   pub polls_refused : PollsRefuse meld
   polls_refused limits alone before after own new c k x refusal fits held kind (inl refused) =
-      subst (IsReason meld limits after c k own.number false) (same_refusal P refusal SelfFailed refused.2)
+      subst (IsReason meld limits after (c, k) own.number false) (same_refusal P refusal SelfFailed refused.2)
       (self_failed meld limits alone before after own new (call.Poll own.number c) fits (inl (refused.0, refused.1, refl, refused.3)))
   polls_refused limits alone before after own new c k x refusal fits held (inl is) (inr run) =
       poll_refused meld limits alone before after own new c x fits held refusal (Agree k) k is run (agree_poll meld limits alone before after own new c x fits held refusal (call.Poll own.number c) run k)

@@ -38,7 +38,7 @@ module _ {P : Type 0} (meld : P → P → P) (limits : Limits) (h longer : Histo
         reply_is = subst (λ ms. reply ≡ Shrunk is.comm is.context (length ms)) (sym same) is.reply_is;
       }
 
-  reason_lasts : 0 < limits.comms → (c k r : ℕ) (spread : Bool) (refusal : Refusal) → Exists h c → IsReason meld limits h c k r spread refusal → IsReason meld limits longer c k r spread refusal
+  reason_lasts : 0 < limits.comms → (c k r : ℕ) (spread : Bool) (refusal : Refusal) → Exists h c → IsReason meld limits h (c, k) r spread refusal → IsReason meld limits longer (c, k) r spread refusal
   reason_lasts room c k r spread SelfFailed here is = has_prefix (failures h) (failures longer) r (failures_begin h longer begins) is
   reason_lasts room c k r spread Twice here (inl is) = inl (is.0, slot_stays h longer c k r (Given is.0) begins is.1)
   reason_lasts room c k r spread Twice here (inr wing) = inr wing

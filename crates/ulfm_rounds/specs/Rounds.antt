@@ -30,33 +30,35 @@ pub record IsMadeOf {P : Type 0} (meld : P → P → P) (limits : Limits) (h : H
   pub member : IsTrue (has (members limits.ranks h comm) r)
   pub reply_is : reply ≡ Reply.Shrunk comm context (length (members limits.ranks h comm))
 
--- what a refusal of an agree or a shrink in round k means: rank r is declared; its place has another contribution, or its place's wing was set, of
--- which no history tells; some agreed and others shrank; no context id was free at all; there is no room for a communicator. No other refusal ends either
-abbrev pub IsReason : {P : Type 0} → (P → P → P) → Limits → History P → ℕ → ℕ → ℕ → Bool → Refusal → Type 0
-IsReason meld limits h c k r spread Refusal.SelfFailed = IsTrue (has (failures h) r)
-IsReason {P} meld limits h c k r spread Refusal.Twice =
-    ((given : Contribution P) × (slot h c k r ≡ Some (Slot.Given given))) ⊎ IsTrue spread
-IsReason meld limits h c k r spread Refusal.Mismatch = IsTrue (is_decided limits.ranks h c k) × ((decision meld limits.ranks h c k).body ≡ Body.Clash)
-IsReason meld limits h c k r spread Refusal.NoContext =
-    IsTrue (is_decided limits.ranks h c k) × ((mask : CtxMask) × ((decision meld limits.ranks h c k).body ≡ Body.Ctx mask) × (mask.bits ≡ 0))
-IsReason meld limits h c k r spread Refusal.NoRoom = length (spawns h) + 1 ≡ limits.comms
-IsReason meld limits h c k r spread Refusal.NoSuchComm = ⊥
-IsReason meld limits h c k r spread Refusal.Busy = ⊥
-IsReason meld limits h c k r spread Refusal.ShrinkOpen = ⊥
-IsReason meld limits h c k r spread Refusal.RoundsUsedUp = ⊥
-IsReason meld limits h c k r spread Refusal.Idle = ⊥
-IsReason meld limits h c k r spread Refusal.IsRevoked = ⊥
-IsReason meld limits h c k r spread Refusal.ProcFailed = ⊥
-IsReason meld limits h c k r spread Refusal.WorldKept = ⊥
-IsReason meld limits h c k r spread Refusal.NoSuchRank = ⊥
-IsReason meld limits h c k r spread Refusal.OutOfMemory = ⊥
+-- What a refusal of an agree or a shrink means, in this round of this communicator: rank r is declared; its place has another contribution, or its
+-- place's wing was set, of which no history tells; some agreed and others shrank; no context id was free at all; there is no room for a
+-- communicator. No other refusal ends either.
+abbrev pub IsReason : {P : Type 0} → (P → P → P) → Limits → History P → ℕ × ℕ → ℕ → Bool → Refusal → Type 0
+IsReason meld limits h at r spread Refusal.SelfFailed = IsTrue (has (failures h) r)
+IsReason {P} meld limits h at r spread Refusal.Twice =
+    ((given : Contribution P) × (slot h at.0 at.1 r ≡ Some (Slot.Given given))) ⊎ IsTrue spread
+IsReason meld limits h at r spread Refusal.Mismatch =
+    IsTrue (is_decided limits.ranks h at.0 at.1) × ((decision meld limits.ranks h at.0 at.1).body ≡ Body.Clash)
+IsReason meld limits h at r spread Refusal.NoContext =
+    IsTrue (is_decided limits.ranks h at.0 at.1) × ((mask : CtxMask) × ((decision meld limits.ranks h at.0 at.1).body ≡ Body.Ctx mask) × (mask.bits ≡ 0))
+IsReason meld limits h at r spread Refusal.NoRoom = length (spawns h) + 1 ≡ limits.comms
+IsReason meld limits h at r spread Refusal.NoSuchComm = ⊥
+IsReason meld limits h at r spread Refusal.Busy = ⊥
+IsReason meld limits h at r spread Refusal.ShrinkOpen = ⊥
+IsReason meld limits h at r spread Refusal.RoundsUsedUp = ⊥
+IsReason meld limits h at r spread Refusal.Idle = ⊥
+IsReason meld limits h at r spread Refusal.IsRevoked = ⊥
+IsReason meld limits h at r spread Refusal.ProcFailed = ⊥
+IsReason meld limits h at r spread Refusal.WorldKept = ⊥
+IsReason meld limits h at r spread Refusal.NoSuchRank = ⊥
+IsReason meld limits h at r spread Refusal.OutOfMemory = ⊥
 
 -- the reply is a refusal, and there is its reason; whether a wing was it is told beside the history
 pub record IsRefusal {P : Type 0} (meld : P → P → P) (limits : Limits) (h : History P) (c k r : ℕ) (reply : Reply P) : Type 0 where
   pub refusal : Refusal
   pub reply_is : reply ≡ Reply.Refused refusal
   pub spread : Bool
-  pub reason : IsReason meld limits h c k r spread refusal
+  pub reason : IsReason meld limits h (c, k) r spread refusal
 
 -- the replies to agrees, one for each round from the first: each is its round's decision, and rank r contributed its flag
 abbrev pub AreAgreed : {P : Type 0} → (P → P → P) → Limits → History P → ℕ → (ℕ → P) → ℕ → List (Reply P) → Type 0

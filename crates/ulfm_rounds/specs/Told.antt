@@ -73,7 +73,7 @@ StartsRefuse {P} meld =
     → Fits meld limits before own → held_at own c ≡ Some x
     → ((value : P) × (asked ≡ Call.Agree own.number c value)) ⊎ (asked ≡ Call.Shrink own.number c) → refusal_of own asked ≡ None
     → (called : IsCall meld limits alone (moment own before) asked (Reply.Refused refusal) (moment new after))
-    → IsReason meld limits after c x.next_agreement own.number (spread_in called) refusal
+    → IsReason meld limits after (c, x.next_agreement) own.number (spread_in called) refusal
 
 -- a poll of either is refused with its reason
 abbrev pub PollsRefuse : {P : Type 0} → (P → P → P) → Type 0
@@ -81,7 +81,7 @@ PollsRefuse {P} meld =
     (limits : Limits) (alone : Bool) (before after : History P) (own new : Record) (c k : ℕ) (x : Held) (refusal : Refusal)
     → Fits meld limits before own → held_at own c ≡ Some x → (x.request ≡ Some (Request.Agree k)) ⊎ (x.request ≡ Some (Request.Shrink k))
     → IsCall meld limits alone (moment own before) (Call.Poll own.number c) (Reply.Refused refusal) (moment new after)
-    → IsReason meld limits after c k own.number false refusal
+    → IsReason meld limits after (c, k) own.number false refusal
 
 -- replies stay what they are in every longer legal history
 abbrev pub RepliesStay : {P : Type 0} → (P → P → P) → Type 0

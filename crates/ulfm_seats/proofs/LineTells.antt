@@ -99,7 +99,7 @@ module _ (name : Name) (pass : Sight FlagAnd) (seats : List FlagSeat) (now : Tra
     number = (stands.each r seat there).number
 
     -- a call that begins
-    pub begin_tells : (asked : Call FlagAnd) (padded : Bool) (left : FlagSeat) (text more : List ℕ) → (traits_of asked).by ≡ Caller.Rank seat.own.number → BeginsCall name asked padded pass seat text left more
+    pub begin_tells : (asked : Call FlagAnd) (padded : Bool) (left : FlagSeat) (text more : List ℕ) → (traits_of asked).by ≡ Caller.Rank seat.own.number → BeginsCall (view_at (flag_words name) pass) asked padded seat text left more
         → TellsStep (StandsFor name pass (set seats r left)) now (Called asked padded) Run text more
     begin_tells asked padded left text more mine b =
         tells_step (StandsFor name pass (set seats r left)) now (Called asked padded) piece text more (b.tells.legal now sits) (reply_piece seat.own.number [] b.answer, refl, b.tells.at_once)

@@ -35,7 +35,8 @@ fn begin_at<A: Allocator + Copy + Drop>(
     requires mine { (traits_of asked).by ≡ OfRank seat.old.own.number }
     requires closed { seat.old.call ≡ None }
     requires of { IsView flag_meld (view_at (flag_words world.now) pass.now) }
-    ensures { OnOk result (BeginsCall world.now asked padded pass.now seat.old teller.old.text.items seat.new teller.new.text.items) }
+    ensures { OnOk result (BeginsCall (view_at (flag_words world.now) pass.now) asked padded seat.old teller.old.text.items seat.new
+        teller.new.text.items) }
 {
     let rank = seat.number();
     let answer = seat.begin(world, pass, asked);

@@ -12,7 +12,7 @@ use Rattle.ulfm_comm.specs.{Calls.{Calls}, Polls.{IsNotPending, PollIs, polled}}
 use Rattle.ulfm_comm.specs.declared.calls.polled.{Polled.{Polled}, Polled.TheVariants.{Agreed, Done, Pending as StillPending, Shrunk}}
 use Rattle.ulfm_comm.proofs.CallRuns.{called_run}
 use Rattle.ulfm_comm.specs.Local.{local}
-use Rattle.ulfm_member.specs.Members.{IsMember, MemberCalls, MemberPolls, Membership}
+use Rattle.ulfm_member.specs.Members.{IsMember, MemberCalls, MemberPolls, Membership, setting_of}
 use Rattle.ulfm_rounds.specs.{Rounds.{IsMadeOf}, Told.{IsFinalReply}}
 use Rattle.ulfm_rounds.proofs.{Answered.{answered_on}, Staying.{gave_lasts}, Telling.{agree_opened, agree_tells, find_change, pending_holds, shrink_opened, shrink_tells}}
 use Rattle.ulfm_wait.specs.Waits.{IsPolledOn, MemberAwaits, MemberPollsOn, MemberPollsUntil, MemberRuns, MemberWaits, PollsUntil, TellsAgree, TellsShrink}
@@ -155,14 +155,14 @@ module _ {P : Type 0} (meld : P → P → P) (pack : P → ℕ) where
 
 module _ {P : Type 0} (meld : P → P → P) (pack : P → ℕ) (alone : Bool) (c : ℕ) where
   -- polls of a member are polls of its rank with its pass
-  polls_seen : (n : ℕ) (name : Name) (old : Membership P) (result : Result (Polled P) Refusal) (new : Membership P) → old.view.words ≡ name → MemberPollsUntil meld pack alone c n old result new
+  polls_seen : (n : ℕ) (name : Name) (old : Membership P) (result : Result (Polled P) Refusal) (new : Membership P) → old.view.words ≡ name → MemberPollsUntil (setting_of meld pack alone) c n old result new
       → PollsUntil meld alone c n (local old.own (view_of pack name old.view.pass)) result (local new.own (view_of pack name new.view.pass))
   polls_seen zero name old result new same polls = (polls.0, subst (λ w. PollIs meld alone (Poll old.own.number c) (local old.own (view_of pack w old.view.pass)) result (local new.own (view_of pack w new.view.pass))) same polls.1.polls.run)
   polls_seen (suc n) name old result new same (mid, pends, rest) =
       (mid.own, mid.view.pass, subst (λ w. Calls meld alone (Poll old.own.number c) (local old.own (view_of pack w old.view.pass)) Pending (local mid.own (view_of pack w mid.view.pass))) same pends.polls.run, polls_seen n name mid result new (pends.words ∙ same) rest)
 
   -- and so is a request that was awaited
-  awaited_seen : (asked : Call P) (old : Membership P) (result : Result (Polled P) Refusal) (new : Membership P) → MemberAwaits meld pack alone c asked old result new
+  awaited_seen : (asked : Call P) (old : Membership P) (result : Result (Polled P) Refusal) (new : Membership P) → MemberAwaits (setting_of meld pack alone) c asked old result new
       → IsAwaited meld alone (over pack old.view.words) c asked old.own old.view.pass result new.own new.view.pass
   awaited_seen asked old result new awaits = record {
     own = awaits.mid.own;
@@ -172,29 +172,29 @@ module _ {P : Type 0} (meld : P → P → P) (pack : P → ℕ) (alone : Bool) (
   }
 
   -- what polls leave is a member of the same words
-  pub poll_member : (old : Membership P) (result : Result (Polled P) Refusal) (new : Membership P) → MemberPolls meld pack alone c old result new → IsMember meld pack new
+  pub poll_member : (old : Membership P) (result : Result (Polled P) Refusal) (new : Membership P) → MemberPolls (setting_of meld pack alone) c old result new → IsMember meld pack new
   poll_member old result new polls = same_words meld pack old.view.words new polls.words polls.polls.of polls.polls.fits
 
-  polled_until : (n : ℕ) (old : Membership P) (result : Result (Polled P) Refusal) (new : Membership P) → MemberPollsUntil meld pack alone c n old result new → (new.view.words ≡ old.view.words) × IsMember meld pack new
+  polled_until : (n : ℕ) (old : Membership P) (result : Result (Polled P) Refusal) (new : Membership P) → MemberPollsUntil (setting_of meld pack alone) c n old result new → (new.view.words ≡ old.view.words) × IsMember meld pack new
   polled_until zero old result new polls = (polls.1.words, poll_member old result new polls.1)
   polled_until (suc n) old result new (mid, pends, rest) = let later = polled_until n mid result new rest in (later.0 ∙ pends.words, later.1)
 
   -- a pending poll of a member comes first
-  pub member_pends : (old mid new : Membership P) (result : Result (Polled P) Refusal) → MemberPolls meld pack alone c old (Ok StillPending) mid → MemberPollsOn meld pack alone c mid result new
-      → MemberPollsOn meld pack alone c old result new
+  pub member_pends : (old mid new : Membership P) (result : Result (Polled P) Refusal) → MemberPolls (setting_of meld pack alone) c old (Ok StillPending) mid → MemberPollsOn (setting_of meld pack alone) c mid result new
+      → MemberPollsOn (setting_of meld pack alone) c old result new
   member_pends old mid new result pends (n, rest) = (suc n, (mid, pends, rest))
 
   -- and one that isn't pending last
-  pub member_answered : (old new : Membership P) (result : Result (Polled P) Refusal) → MemberPolls meld pack alone c old result new → IfOk result IsNotPending → MemberPollsOn meld pack alone c old result new
+  pub member_answered : (old new : Membership P) (result : Result (Polled P) Refusal) → MemberPolls (setting_of meld pack alone) c old result new → IfOk result IsNotPending → MemberPollsOn (setting_of meld pack alone) c old result new
   member_answered old new result polls answered = (0, (answered, polls))
 
-  awaited_runs : (asked : Call P) (old : Membership P) (result : Result (Polled P) Refusal) (new : Membership P) → MemberAwaits meld pack alone c asked old result new → MemberRuns meld pack alone c asked old result new
+  awaited_runs : (asked : Call P) (old : Membership P) (result : Result (Polled P) Refusal) (new : Membership P) → MemberAwaits (setting_of meld pack alone) c asked old result new → MemberRuns (setting_of meld pack alone) c asked old result new
   awaited_runs asked old (Ok reply) new awaits = awaits
   awaited_runs asked old (Err refusal) new awaits = inr awaits
 
   -- a member that started and was polled on has waited
-  pub member_waits : (asked : Call P) (old mid new : Membership P) (result : Result (Polled P) Refusal) → MemberCalls meld pack alone asked old Started mid → MemberPollsOn meld pack alone c mid result new
-      → MemberWaits meld pack alone c asked old result new
+  pub member_waits : (asked : Call P) (old mid new : Membership P) (result : Result (Polled P) Refusal) → MemberCalls (setting_of meld pack alone) asked old Started mid → MemberPollsOn (setting_of meld pack alone) c mid result new
+      → MemberWaits (setting_of meld pack alone) c asked old result new
   member_waits asked old mid new result starts polls =
       let later = polled_until polls.0 mid result new polls.1 in
       record {
@@ -204,19 +204,19 @@ module _ {P : Type 0} (meld : P → P → P) (pack : P → ℕ) (alone : Bool) (
       }
 
   -- so has one whose start was refused
-  pub member_refused : (asked : Call P) (old new : Membership P) (refusal : Refusal) → MemberCalls meld pack alone asked old (Refused refusal) new → MemberWaits meld pack alone c asked old (Err refusal) new
+  pub member_refused : (asked : Call P) (old new : Membership P) (refusal : Refusal) → MemberCalls (setting_of meld pack alone) asked old (Refused refusal) new → MemberWaits (setting_of meld pack alone) c asked old (Err refusal) new
   member_refused asked old new refusal starts =
       record { words = starts.words; is = same_words meld pack old.view.words new starts.words starts.calls.linearizes.of starts.calls.linearizes.fits; run = inl starts }
 
   -- what an agree of a member tells
-  pub member_tells : (value : P) (old new : Membership P) (result : Result (Polled P) Refusal) → MemberWaits meld pack alone c (Agree old.own.number c value) old result new
+  pub member_tells : (value : P) (old new : Membership P) (result : Result (Polled P) Refusal) → MemberWaits (setting_of meld pack alone) c (Agree old.own.number c value) old result new
       → IfOk result (TellsAgree meld old.view.words.limits new.view.pass.seen c value old.own)
   member_tells value old new (Ok reply) waits =
       tells_agree meld alone (over pack old.view.words) c value old.own old.view.pass reply new.own new.view.pass (awaited_seen (Agree old.own.number c value) old (Ok reply) new waits.run)
   member_tells value old new (Err refusal) waits = tt
 
   -- and what a shrink tells
-  pub member_made : (old new : Membership P) (result : Result (Polled P) Refusal) → MemberWaits meld pack alone c (Shrink old.own.number c) old result new
+  pub member_made : (old new : Membership P) (result : Result (Polled P) Refusal) → MemberWaits (setting_of meld pack alone) c (Shrink old.own.number c) old result new
       → IfOk result (TellsShrink meld old.view.words.limits new.view.pass.seen c old.own)
   member_made old new (Ok reply) waits = tells_shrink meld alone (over pack old.view.words) c old.own old.view.pass reply new.own new.view.pass (awaited_seen (Shrink old.own.number c) old (Ok reply) new waits.run)
   member_made old new (Err refusal) waits = tt

@@ -6,7 +6,7 @@ use Rattle.ulfm_words.specs.Steps.{view_at, Sight, View}
 use Rattle.ulfm_comm.specs.{Calls.{Calls}, Polls.{IsNotPending, PollIs, polled}}
 use Rattle.ulfm_comm.specs.declared.calls.polled.Polled.{Polled}
 use Rattle.ulfm_comm.specs.Local.{Local, local}
-use Rattle.ulfm_member.specs.Members.{IsMember, MemberCalls, MemberPolls, Membership}
+use Rattle.ulfm_member.specs.Members.{IsMember, MemberCalls, MemberPolls, Membership, Setting}
 use Rattle.ulfm_rounds.specs.Rounds.{Gave, IsDecision, IsMadeOf}
 
 -- polls of communicator c by a rank, from what it goes by: so many are pending, and then one is answered
@@ -29,35 +29,35 @@ pub record IsAwaited {P : Type 0} (meld : P → P → P) (alone : Bool) (c : ℕ
   pub polls : IsPolledOn meld alone c (local own (view_at new.view.words at)) result new
 
 -- polls of a member on communicator c, each in no more steps than it may make: so many are pending, and then one is answered
-abbrev pub MemberPollsUntil : {P : Type 0} → (P → P → P) → (P → ℕ) → Bool → ℕ → ℕ → Membership P → Result (Polled P) Refusal → Membership P → Type 0
-MemberPollsUntil meld pack alone c zero old result new = IfOk result IsNotPending × MemberPolls meld pack alone c old result new
-MemberPollsUntil {P} meld pack alone c (suc pending) old result new =
-    (mid : Membership P) × MemberPolls meld pack alone c old (Ok Polled.Pending) mid × MemberPollsUntil meld pack alone c pending mid result new
+abbrev pub MemberPollsUntil : {P : Type 0} → Setting P → ℕ → ℕ → Membership P → Result (Polled P) Refusal → Membership P → Type 0
+MemberPollsUntil setting c zero old result new = IfOk result IsNotPending × MemberPolls setting c old result new
+MemberPollsUntil {P} setting c (suc pending) old result new =
+    (mid : Membership P) × MemberPolls setting c old (Ok Polled.Pending) mid × MemberPollsUntil setting c pending mid result new
 
 -- polls of a member go on until one is answered
-abbrev pub MemberPollsOn : {P : Type 0} → (P → P → P) → (P → ℕ) → Bool → ℕ → Membership P → Result (Polled P) Refusal → Membership P → Type 0
-MemberPollsOn meld pack alone c old result new = (pending : ℕ) × MemberPollsUntil meld pack alone c pending old result new
+abbrev pub MemberPollsOn : {P : Type 0} → Setting P → ℕ → Membership P → Result (Polled P) Refusal → Membership P → Type 0
+MemberPollsOn setting c old result new = (pending : ℕ) × MemberPollsUntil setting c pending old result new
 
 -- the member started a request, and then polled until one poll was answered
-pub record MemberAwaits {P : Type 0} (meld : P → P → P) (pack : P → ℕ) (alone : Bool) (c : ℕ) (asked : Call P) (old : Membership P)
+pub record MemberAwaits {P : Type 0} (setting : Setting P) (c : ℕ) (asked : Call P) (old : Membership P)
     (result : Result (Polled P) Refusal) (new : Membership P) : Type 0 where
   pub mid : Membership P
-  pub starts : MemberCalls meld pack alone asked old Reply.Started mid
-  pub polls : MemberPollsOn meld pack alone c mid result new
+  pub starts : MemberCalls setting asked old Reply.Started mid
+  pub polls : MemberPollsOn setting c mid result new
 
 -- so it did, or its start was refused
-abbrev pub MemberRuns : {P : Type 0} → (P → P → P) → (P → ℕ) → Bool → ℕ → Call P → Membership P → Result (Polled P) Refusal → Membership P → Type 0
-MemberRuns meld pack alone c asked old (Ok reply) new = MemberAwaits meld pack alone c asked old (Ok reply) new
-MemberRuns meld pack alone c asked old (Err refusal) new =
-    MemberCalls meld pack alone asked old (Reply.Refused refusal) new ⊎ MemberAwaits meld pack alone c asked old (Err refusal) new
+abbrev pub MemberRuns : {P : Type 0} → Setting P → ℕ → Call P → Membership P → Result (Polled P) Refusal → Membership P → Type 0
+MemberRuns setting c asked old (Ok reply) new = MemberAwaits setting c asked old (Ok reply) new
+MemberRuns setting c asked old (Err refusal) new =
+    MemberCalls setting asked old (Reply.Refused refusal) new ⊎ MemberAwaits setting c asked old (Err refusal) new
 
 -- A call of a member that waits: whatever it answers, it is a member of the same words still, and the start and each poll made no
 -- more steps than they may make.
-pub record MemberWaits {P : Type 0} (meld : P → P → P) (pack : P → ℕ) (alone : Bool) (c : ℕ) (asked : Call P) (old : Membership P)
+pub record MemberWaits {P : Type 0} (setting : Setting P) (c : ℕ) (asked : Call P) (old : Membership P)
     (result : Result (Polled P) Refusal) (new : Membership P) : Type 0 where
   pub words : new.view.words ≡ old.view.words
-  pub is : IsMember meld pack new
-  pub run : MemberRuns meld pack alone c asked old result new
+  pub is : IsMember setting.meld setting.pack new
+  pub run : MemberRuns setting c asked old result new
 
 -- what an agree tells that was answered: what the rank's next round decided, to which the rank gave its flag
 pub record TellsAgree {P : Type 0} (meld : P → P → P) (limits : Limits) (h : History P) (c : ℕ) (value : P) (old : Record) (reply : Polled P) : Type 0 where

@@ -1,5 +1,6 @@
 // Calls that start a request and poll until it is answered.
 ghost use Rattle.std.specs.Prelude.{IfOk};
+ghost use Rattle.ulfm_member.specs.Members.{setting_of};
 ghost use Rattle.ulfm_model.specs.declared.call.Call.TheVariants.{Agree, Shrink, Barrier};
 ghost use Rattle.ulfm_wait.specs.Waits.{MemberPollsOn, MemberWaits, TellsAgree, TellsShrink};
 
@@ -37,7 +38,7 @@ pub fn agree<W, P: Packed, A: Allocator + Copy, R: Wait>(
 ) -> Result<Polled<P>, Refusal>
 where
     W: Words<P, A>,
-    ensures waits { MemberWaits P.meld P.pack W.alone comm (Agree member.old.own.number comm value) member.old result member.new }
+    ensures waits { MemberWaits (setting_of P.meld P.pack W.alone) comm (Agree member.old.own.number comm value) member.old result member.new }
     ensures tells { IfOk result (TellsAgree P.meld member.old.view.words.limits member.new.view.pass.seen comm value member.old.own) }
 {
     match member.iagree(comm, value) {
@@ -70,7 +71,7 @@ pub fn shrink<W, P: Packed, A: Allocator + Copy, R: Wait>(
 ) -> Result<Polled<P>, Refusal>
 where
     W: Words<P, A>,
-    ensures waits { MemberWaits P.meld P.pack W.alone comm (Shrink member.old.own.number comm) member.old result member.new }
+    ensures waits { MemberWaits (setting_of P.meld P.pack W.alone) comm (Shrink member.old.own.number comm) member.old result member.new }
     ensures tells { IfOk result (TellsShrink P.meld member.old.view.words.limits member.new.view.pass.seen comm member.old.own) }
 {
     match member.ishrink(comm) {
@@ -97,7 +98,7 @@ pub fn barrier<W, P: Packed, A: Allocator + Copy, R: Wait>(
 ) -> Result<Polled<P>, Refusal>
 where
     W: Words<P, A>,
-    ensures { MemberWaits P.meld P.pack W.alone comm (Barrier member.old.own.number comm) member.old result member.new }
+    ensures { MemberWaits (setting_of P.meld P.pack W.alone) comm (Barrier member.old.own.number comm) member.old result member.new }
 {
     match member.ibarrier(comm) {
         Ok(()) => poll_on(rt, member, comm),
@@ -113,7 +114,7 @@ fn poll_on<W, P: Packed, A: Allocator + Copy, R: Wait>(
 ) -> Result<Polled<P>, Refusal>
 where
     W: Words<P, A>,
-    ensures { MemberPollsOn P.meld P.pack W.alone comm member.old result member.new }
+    ensures { MemberPollsOn (setting_of P.meld P.pack W.alone) comm member.old result member.new }
 {
     for _ in rt.forever() {
         match member.poll(comm) {

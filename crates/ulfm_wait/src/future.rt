@@ -1,5 +1,6 @@
 // An agree as a future.
 ghost use Rattle.std.specs.Prelude.{◌≡◌, true, false, IfOk, None, Some, Ok};
+ghost use Rattle.ulfm_member.specs.Members.{setting_of};
 ghost use Rattle.futures.specs.Task.{Covers, Keeps};
 ghost use Rattle.futures.specs.Poll.{IfReady, OnPending};
 ghost use Rattle.ulfm_model.specs.declared.call.Call.TheVariants.{Agree};
@@ -83,7 +84,7 @@ impl<'a, W: Words<P, A>, P: Packed, A: Allocator + Copy> AgreeFuture<'a, W, P, A
         } }
         ensures may { ⟦<AgreeFuture<'a, W, P, A> as Future>⟧.can_poll result }
         ensures gives { (out : _) → ⟦<AgreeFuture<'a, W, P, A> as Future>⟧.gives result out
-            → MemberWaits P.meld P.pack W.alone comm (Agree rank.own.number comm value) (member_of world.now rank (W.sight pass)) out.2
+            → MemberWaits (setting_of P.meld P.pack W.alone) comm (Agree rank.own.number comm value) (member_of world.now rank (W.sight pass)) out.2
             (member_of world.now out.1 (W.sight out.0)) }
         ensures tells { (out : _) → ⟦<AgreeFuture<'a, W, P, A> as Future>⟧.gives result out
             → IfOk out.2 (AgreeIsTold P.meld comm value rank.own (view_of P.pack world.now (W.sight out.0))) }
@@ -101,14 +102,14 @@ impl<'a, W: Words<P, A>, P: Packed, A: Allocator + Copy> AgreeFuture<'a, W, P, A
 impl<'a, W: Words<P, A>, P: Packed, A: Allocator + Copy> Future for AgreeFuture<'a, W, P, A> {
     type Output = (W::Pass, Rank<P, A>, Result<Polled<P>, Refusal>);
 
-    ghost gives = { λ f out. FutureGives P.meld P.pack W.alone f out.2 out.1 (W.sight out.0) };
+    ghost gives = { λ f out. FutureGives (setting_of P.meld P.pack W.alone) f out.2 out.1 (W.sight out.0) };
 
     fn poll(
         &mut self,
         cx: &mut Context<'_>,
     ) -> Poll<(W::Pass, Rank<P, A>, Result<Polled<P>, Refusal>)>
-        ensures pends { OnPending result (Pends P.meld P.pack W.alone self.old self.new) }
-        ensures ends { IfReady result (λ out. FutureEnds P.meld P.pack W.alone self.old out.2 out.1 (W.sight out.0) self.new) }
+        ensures pends { OnPending result (Pends (setting_of P.meld P.pack W.alone) self.old self.new) }
+        ensures ends { IfReady result (λ out. FutureEnds (setting_of P.meld P.pack W.alone) self.old out.2 out.1 (W.sight out.0) self.new) }
         ensures woken { OnPending result (cx.new.is_woken ≡ true) }
         ensures asleep { IfReady result (λ _. cx.new ≡ cx.old) }
         ensures value { IfReady result (⟦<AgreeFuture<'a, W, P, A> as Future>⟧.gives self.old) }
@@ -163,7 +164,7 @@ fn step<W: Words<P, A>, P: Packed, A: Allocator + Copy>(
 ) -> Result<Polled<P>, Refusal>
     requires of { IsView P.meld (view_of P.pack world.now (W.sight pass.old)) }
     requires fits { FitsView P.meld (local rank.old.own (view_of P.pack world.now (W.sight pass.old))) }
-    ensures { TakesAgreeTurn P.meld P.pack W.alone (record { comm = comm; value = value; started = started })
+    ensures { TakesAgreeTurn (setting_of P.meld P.pack W.alone) (record { comm = comm; value = value; started = started })
         (member_of world.now rank.old (W.sight pass.old)) result (member_of world.now rank.new (W.sight pass.new)) }
 {
     if started {

@@ -2,7 +2,7 @@
 ghost use Rattle.std.specs.Prelude.{◌≡◌, true, false, Some};
 ghost use Rattle.ulfm_laws.specs.Flags.{flag_meld};
 ghost use Rattle.ulfm_laws.specs.declared.flag_and.FlagAnd.{FlagAnd as Flag};
-ghost use Rattle.ulfm_member.specs.Members.{Membership};
+ghost use Rattle.ulfm_member.specs.Members.{Membership, setting_of};
 ghost use Rattle.ulfm_wait.specs.Turns.{HasPolled};
 
 use futures::Future;
@@ -19,7 +19,7 @@ pub fn is_pending_twice(
     cx: &mut Context<'_>,
 ) -> bool
     ensures { result ≡ true → future.old.agree.started ≡ false → (m : Membership _) → future.old.held ≡ Some m
-        → HasPolled flag_meld (λ (flag : Flag). flag.bits) false 2 future.old.agree m future.new }
+        → HasPolled (setting_of flag_meld (λ (flag : Flag). flag.bits) false) 2 future.old.agree m future.new }
 {
     let Poll::Pending = future.poll(cx) else {
         return false;

@@ -1,7 +1,7 @@
 use Rattle.std.proofs.Common.{false, refl, inl, arith}
 use Rattle.ulfm_laws.specs.Flags.{flag_meld}
 use Rattle.ulfm_model.specs.declared.{call.Call.TheVariants.{Shrink}, reply.Reply.TheVariants.{Refused, Started}}
-use Rattle.ulfm_member.specs.Members.{MemberCalls}
+use Rattle.ulfm_member.specs.Members.{MemberCalls, setting_of}
 use Rattle.ulfm_wait.specs.Turns.{member_of}
 use Rattle.ulfm_race.specs.Races.{IsKeptReply, flag_pack, flag_words}
 use Rattle.ulfm_race.proofs.{Turns.{if_ok, shrink_answered, shrink_refused}, Working.{turn_answered, turn_held}}
@@ -23,7 +23,7 @@ returns-in-Ok-polled-clause-turn g c =
     let r = c.args.rank.now.own.number in
     let old = member_of name c.args.rank.now c.args.pass.now in
     let mid = member_of name c.ishrink-started.new.self c.ishrink-started.new.pass in
-    let starts : MemberCalls flag_meld flag_pack false (Shrink r 0) old Started mid = record { words = refl; calls = c.in-Ok.ensures.calls; steps = c.in-Ok.ensures.steps } in
+    let starts : MemberCalls (setting_of flag_meld flag_pack false) (Shrink r 0) old Started mid = record { words = refl; calls = c.in-Ok.ensures.calls; steps = c.in-Ok.ensures.steps } in
     turn_answered (Shrink r 0) old mid (member_of name c.polled.new.rank c.polled.new.pass) c.in-Ok-polled.answer c.reply_from.result starts c.in-Ok-polled.ensures.counted
     c.reply_from.ensures.kept c.reply_from.ensures.stops
 
@@ -33,7 +33,7 @@ returns-in-Err-polled-clause-turn g c =
     let r = c.args.rank.now.own.number in
     let old = member_of name c.args.rank.now c.args.pass.now in
     let mid = member_of name c.ishrink-started.new.self c.ishrink-started.new.pass in
-    let starts : MemberCalls flag_meld flag_pack false (Shrink r 0) old Started mid = record { words = refl; calls = c.in-Ok.ensures.calls; steps = c.in-Ok.ensures.steps } in
+    let starts : MemberCalls (setting_of flag_meld flag_pack false) (Shrink r 0) old Started mid = record { words = refl; calls = c.in-Ok.ensures.calls; steps = c.in-Ok.ensures.steps } in
     turn_held (Shrink r 0) old mid (member_of name c.polled.new.rank c.polled.new.pass) c.in-Err-polled.fault starts c.in-Err-polled.ensures.pends c.in-Err-polled.ensures.stops.0
 
 pub returns-in-Err-clause-turn : goal.returns-in-Err-clause-turn
@@ -42,5 +42,5 @@ returns-in-Err-clause-turn g c =
     let r = c.args.rank.now.own.number in
     let old = member_of name c.args.rank.now c.args.pass.now in
     let mid = member_of name c.ishrink-started.new.self c.ishrink-started.new.pass in
-    let refused : MemberCalls flag_meld flag_pack false (Shrink r 0) old (Refused c.in-Err.refusal) mid = record { words = refl; calls = c.in-Err.ensures.calls; steps = c.in-Err.ensures.steps } in
+    let refused : MemberCalls (setting_of flag_meld flag_pack false) (Shrink r 0) old (Refused c.in-Err.refusal) mid = record { words = refl; calls = c.in-Err.ensures.calls; steps = c.in-Err.ensures.steps } in
     inl (c.in-Err.refusal, refl, refused)
