@@ -5,16 +5,10 @@
 //! but never between those who get a reply; and only rank 3 may be refused.
 #![tactic(auto)]
 
-use std::alloc::{AllocError, Global};
+use std::alloc::AllocError;
 use std::sync::Wait;
 use std::thread::{self, Threads, join};
-use ulfm_book::BookWords;
-use ulfm_comm::Polled;
-use ulfm_laws::FlagAnd;
-use ulfm_member::Member;
-use ulfm_model::{Limits, Refusal};
-
-type Shared = BookWords<FlagAnd>;
+use vukrasp::{FlagAnd, Limits, Member, Polled, Refusal};
 
 type Reply = Result<Polled<FlagAnd>, Refusal>;
 
@@ -36,16 +30,13 @@ fn flag(rank: u16) -> FlagAnd {
 }
 
 /// Each member agrees, in a thread of its own: the replies, in order.
-fn agree_all<R: Threads + Wait + Sync>(
-    rt: &R,
-    all: Vec<Member<Shared, FlagAnd, Global>>,
-) -> Result<Vec<Reply>, AllocError> {
+fn agree_all<R: Threads + Wait + Sync>(rt: &R, all: Vec<Member>) -> Result<Vec<Reply>, AllocError> {
     thread::map_vec(
         rt,
         all,
         &|mut member| {
             let value = flag(member.number());
-            ulfm_wait::agree(rt, &mut member, 0, value)
+            vukrasp::agree(rt, &mut member, 0, value)
         },
     )
 }
@@ -60,9 +51,7 @@ fn is_one_reply(replies: &[Reply]) -> bool {
 }
 
 fn main(rt: HostRuntime) -> anyhow::Result<()> {
-    let alloc = rt.alloc();
-    let words: Shared = BookWords::open(alloc, LIMITS)?;
-    let (mut outside, members) = ulfm_member::open(alloc, words)?;
+    let (mut outside, members) = vukrasp::open(rt.alloc(), LIMITS)?;
     let (replies, declared) = join(&rt, || agree_all(&rt, members), move || outside.fail(3));
     let replies = replies?;
     match replies.first() {

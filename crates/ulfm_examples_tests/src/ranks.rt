@@ -4,6 +4,7 @@ use crate::open::two;
 use std::test::Fail;
 use ulfm_comm::Polled;
 use ulfm_laws::FlagAnd;
+use ulfm_model::event::{Caller, Entry, Event};
 use ulfm_model::{Call, Refusal, Reply, Request, StepName};
 
 #[test]
@@ -281,6 +282,26 @@ fn rank_step(rt: HostRuntime) -> Result<(), Fail> {
     // The call looks for failures, with a load that finds none, before it loads whether the communicator is revoked.
     assert!(rt; rank.step(&world, &mut pass, &mut doing).is_none());
     assert!(rt; doing.next() == Some(StepName::Revocation));
+
+    Ok(())
+}
+
+#[test]
+fn rank_proposal(rt: HostRuntime) -> Result<(), Fail> {
+    let (_, member) = two(&rt, rt.alloc())?;
+    let (world, mut rank, mut pass) = member.into_parts();
+
+    let asked = Call::Revoke {
+        rank: rank.number(),
+        comm: 0,
+    };
+    let mut doing = rank.begin(asked);
+    assert!(rt; rank.proposal(&world, &pass, &doing).is_none());
+    // The call looks for failures first.
+    rank.step(&world, &mut pass, &mut doing);
+    let event = Event::Revoke { comm: 0 };
+    let by = Caller::Rank(rank.number());
+    assert!(rt; rank.proposal(&world, &pass, &doing) == Some(Entry { by, event }));
 
     Ok(())
 }

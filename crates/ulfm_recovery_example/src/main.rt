@@ -11,14 +11,7 @@ use std::alloc::{AllocError, Global};
 use std::io;
 use std::sync::Wait;
 use std::thread::{self, Threads, join};
-use ulfm_book::BookWords;
-use ulfm_comm::Polled;
-use ulfm_laws::FlagAnd;
-use ulfm_model::{Limits, Refusal};
-
-type Shared = BookWords<FlagAnd>;
-
-type Member = ulfm_member::Member<Shared, FlagAnd, Global>;
+use vukrasp::{FlagAnd, Limits, Member, Polled, Refusal};
 
 type Reply = Result<Polled<FlagAnd>, Refusal>;
 
@@ -62,7 +55,7 @@ fn flag(rank: u16) -> FlagAnd {
 /// Agrees on the rank's flag.
 fn agree<R: Wait>(rt: &R, member: &mut Member, comm: u16) -> Reply {
     let value = flag(member.number());
-    ulfm_wait::agree(rt, member, comm, value)
+    vukrasp::agree(rt, member, comm, value)
 }
 
 /// A survivor's way from the agree that meets the failure to the new communicator.
@@ -76,7 +69,7 @@ fn recover<R: Wait>(rt: &R, alloc: Global, member: &mut Member) -> Result<Recove
     let settled = agree(rt, member, WORLD)?;
     member.revoke(WORLD)?;
     let is_revoked = member.is_revoked(WORLD)?;
-    let shrunk = ulfm_wait::shrink(rt, member, WORLD)?;
+    let shrunk = vukrasp::shrink(rt, member, WORLD)?;
     Ok(Recovery {
         met,
         failed,
@@ -89,7 +82,7 @@ fn recover<R: Wait>(rt: &R, alloc: Global, member: &mut Member) -> Result<Recove
 
 /// A survivor goes on with the new communicator, and gives it back.
 fn go_on<R: Wait>(rt: &R, member: &mut Member, comm: u16) -> Reply {
-    ulfm_wait::barrier(rt, member, comm)?;
+    vukrasp::barrier(rt, member, comm)?;
     let agreed = agree(rt, member, comm)?;
     member.free(comm)?;
     Ok(agreed)
@@ -226,8 +219,7 @@ fn members_of<T: Drop>(
 
 fn main(rt: HostRuntime) -> anyhow::Result<()> {
     let alloc = rt.alloc();
-    let words: Shared = BookWords::open(alloc, LIMITS)?;
-    let (mut outside, members) = ulfm_member::open(alloc, words)?;
+    let (mut outside, members) = vukrasp::open(alloc, LIMITS)?;
 
     let worked = work_all(&rt, members)?;
     print_work(&rt, &worked)?;

@@ -10,14 +10,7 @@ use std::alloc::{AllocError, Global};
 use std::io;
 use std::sync::Wait;
 use std::thread::{self, Threads};
-use ulfm_book::BookWords;
-use ulfm_comm::Polled;
-use ulfm_laws::FlagAnd;
-use ulfm_model::{Limits, Refusal};
-
-type Shared = BookWords<FlagAnd>;
-
-type Member = ulfm_member::Member<Shared, FlagAnd, Global>;
+use vukrasp::{FlagAnd, Limits, Member, Polled, Refusal};
 
 /// Five ranks, three communicators to be made, and rounds for an agree and a shrink on each.
 const LIMITS: Limits = Limits {
@@ -63,14 +56,14 @@ fn acknowledge(member: &mut Member, comm: u16) -> Result<u16, Refusal> {
 
 /// The communicator that a shrink makes.
 fn shrink<R: Wait>(rt: &R, member: &mut Member, comm: u16) -> Result<u16, Refusal> {
-    match ulfm_wait::shrink(rt, member, comm)? {
+    match vukrasp::shrink(rt, member, comm)? {
         Polled::Shrunk { comm, .. } => Ok(comm),
         _ => Err(Refusal::NoSuchComm),
     }
 }
 
-/// Agrees on one communicator after the other, until an agree is clean. All survivors go the same way, since whether they go on hangs on
-/// what they agreed on, which is the same for all of them.
+/// Agrees on one communicator after the other, until an agree is clean. All survivors go the same way: whether they go on is decided by the
+/// agree, whose reply is the same for all of them.
 fn recover<R: Wait>(rt: &R, alloc: Global, member: &mut Member) -> Result<Way, Refusal> {
     let rank = member.number();
     let Ok(mut agreed) = Vec::with_capacity(alloc, usize::from(LIMITS.comms)) else {
@@ -83,7 +76,7 @@ fn recover<R: Wait>(rt: &R, alloc: Global, member: &mut Member) -> Result<Way, R
             member.fail(rank)?;
             return Ok(Way { agreed, comm: None });
         }
-        let reply = ulfm_wait::agree(rt, member, comm, flag(rank))?;
+        let reply = vukrasp::agree(rt, member, comm, flag(rank))?;
         if agreed.push(reply).is_err() {
             return Err(Refusal::OutOfMemory);
         }
@@ -145,8 +138,7 @@ fn print_way<R: Print>(rt: &R, member: &Member, way: &Way) -> io::Result<()> {
 
 fn main(rt: HostRuntime) -> anyhow::Result<()> {
     let alloc = rt.alloc();
-    let words: Shared = BookWords::open(alloc, LIMITS)?;
-    let (_outside, members) = ulfm_member::open(alloc, words)?;
+    let (_outside, members) = vukrasp::open(alloc, LIMITS)?;
     let ways = recover_all(&rt, alloc, members)?;
     for (member, way) in &ways {
         println!(rt; "rank {}", member.number())?;

@@ -1,0 +1,4 @@
+pub mod Greatests
+pub mod Leasts
+pub mod Orders
+pub mod Ors
