@@ -19,12 +19,15 @@ const char *ulfm_strerror(int code)
     case ULFM_ERR_WORLD_KEPT: return "the communicator of all ranks is not given back";
     case ULFM_ERR_RANK: return "the world has no such rank";
     case ULFM_ERR_NO_MEM: return "memory was refused";
-    case ULFM_ERR_TWICE: return "two callers used one rank";
+    case ULFM_ERR_TWICE: return "another has contributed as this rank";
     case ULFM_ERR_OUT_OF_RANGE: return "a limit is out of its range";
     case ULFM_ERR_TOO_LARGE: return "the world is too large";
     case ULFM_ERR_HANDLE: return "the handle holds nothing";
-    case ULFM_ERR_NOT_A_RANK: return "the handle is not a rank's";
+    case ULFM_ERR_NOT_A_RANK: return "the handle is not of this kind of rank";
     case ULFM_ERR_COUNT: return "there is not one handle for each rank";
+    case ULFM_ERR_CALL: return "a call of the replica is under way";
+    case ULFM_ERR_GAP: return "the entry is not the next one of the log";
+    case ULFM_ERR_LOST: return "memory was refused before, and the replica is lost";
     case ULFM_ERR_PENDING: return "the request was not answered after so many polls";
     default: return "no code of this library";
     }

@@ -6,15 +6,15 @@
  *
  * Conventions, as in mpi.h: each call answers an int, 0 where it succeeded; what it tells is written through its last
  * parameters, and only where the answer is 0, unless the call's comment says otherwise. A call that answers a code from 1 to 6 or
- * 12 to 20 has started nothing and ended nothing: a request that was open is still open. Codes 7 to 11 come from a poll and end its
- * request.
+ * 12 to 22 has started nothing and ended nothing: a request that was open is still open. Codes 7 to 11 come from a poll and end its
+ * request. After 23 the replica serves for nothing more.
  *
  * PROVED, for each call that isn't marked "in C" and whose caller keeps the rules below: it is safe, it returns, and it makes no
  * more atomic steps than its comment says. What it answers is an answer of the specification at one point of one growing history
  * of the world (docs/PROVED.md says which contracts those are, docs/C.md how far they reach here).
  *
- * IN C, and not proved: the loops that wait, ulfm_strerror, worlds in shared memory, and this header's agreement with the library,
- * which a test compares.
+ * IN C, and not proved: the loops that wait, ulfm_strerror, ulfm_failure_entry, worlds in shared memory, and this header's agreement
+ * with the library, which a test compares.
  *
  * RULES FOR THE CALLER. Nothing checks these; what breaks one is undefined:
  *   1. A handle begins as ULFM_HANDLE_NULL, is written by this library alone, and is never copied: pass its address.
@@ -94,13 +94,17 @@ enum ulfm_code {
     ULFM_ERR_WORLD_KEPT = 12,     /* communicator 0 isn't given back */
     ULFM_ERR_RANK = 13,           /* MPI_ERR_RANK: the world has no such rank */
     ULFM_ERR_NO_MEM = 14,         /* MPI_ERR_NO_MEM: free some, and make the same call again */
-    ULFM_ERR_TWICE = 15,          /* another has contributed as this rank. No call answers it while the rules above are kept: only a
-                                     rank's one handle contributes for it */
+    ULFM_ERR_TWICE = 15,          /* another has contributed as this rank. No call of a rank of threads answers it while the rules above are
+                                     kept: only a rank's one handle contributes for it. A replica answers it where the log has an entry in
+                                     its name that isn't of this replica, as of its process before a restart */
     ULFM_ERR_OUT_OF_RANGE = 16,   /* a limit of ulfm_open is 0 or too great */
     ULFM_ERR_TOO_LARGE = 17,      /* the limits' size is above ULFM_MAX_SIZE */
     ULFM_ERR_HANDLE = 18,         /* the handle holds nothing: it was never opened, or it is closed */
-    ULFM_ERR_NOT_A_RANK = 19,     /* the handle is the outside's */
+    ULFM_ERR_NOT_A_RANK = 19,     /* the handle is the outside's; a replica's, where a rank of threads is wanted, or the other way round */
     ULFM_ERR_COUNT = 20,          /* there isn't one handle for each rank */
+    ULFM_ERR_CALL = 21,           /* a call of the replica is under way: ulfm_run until it is answered */
+    ULFM_ERR_GAP = 22,            /* the entry's number isn't that of the next: nothing was fed */
+    ULFM_ERR_LOST = 23,           /* memory was refused before: this replica serves for nothing more. Close it */
     /* of this header's calls in C */
     ULFM_ERR_PENDING = 64         /* MPI_ERR_PENDING: not answered after so many polls; the request is still open */
 };
@@ -127,6 +131,25 @@ typedef struct ulfm_reply {
 } ulfm_reply;
 #define ULFM_REPLY_INIT {0, 0, 0, 0, 0, 0, false}
 
+/* An entry of a world's log, as it is stored: see "ranks on several machines". docs/FORMATS.md has its layout. */
+typedef struct ulfm_entry {
+    unsigned char bytes[24];
+} ulfm_entry;
+
+/* What ulfm_run came to. */
+enum ulfm_ran {
+    ULFM_IDLE = 0,    /* no call is under way */
+    ULFM_WANTS = 1,   /* the call wants an entry in the log */
+    ULFM_ANSWERED = 2 /* the call is answered */
+};
+
+/* What ulfm_feed made of an entry. */
+enum ulfm_fed_as {
+    ULFM_LEFT_OUT = 0, /* it isn't legal after those before it, or it is no entry: it is left out, here as everywhere */
+    ULFM_TAKEN = 1,    /* it is another's */
+    ULFM_OWN = 2       /* it is what this replica's call wanted */
+};
+
 /* The layout on which the library and this header agree. */
 ULFM_STATIC_ASSERT(CHAR_BIT == 8 && sizeof(int) == 4 && sizeof(bool) == 1, "int has 32 bits, bool has 8");
 ULFM_STATIC_ASSERT(sizeof(void *) == 8 && sizeof(size_t) == 8, "addresses have 64 bits");
@@ -136,6 +159,7 @@ ULFM_STATIC_ASSERT(offsetof(ulfm_reply, flag) == 0 && offsetof(ulfm_reply, kind)
 ULFM_STATIC_ASSERT(offsetof(ulfm_reply, failed) == 12 && offsetof(ulfm_reply, comm) == 14, "failed, comm");
 ULFM_STATIC_ASSERT(offsetof(ulfm_reply, context) == 16 && offsetof(ulfm_reply, size) == 18, "context, size");
 ULFM_STATIC_ASSERT(offsetof(ulfm_reply, raised) == 20, "raised");
+ULFM_STATIC_ASSERT(sizeof(ulfm_entry) == 24, "an entry has 24 bytes");
 
 /* ------------------------------------------------------------------------------------------------ opening and closing
  * PROVED: at code 0 the handles hold a new world's outside and its ranks, in order; at any other they are as they were, and the code is the
@@ -252,6 +276,68 @@ int ulfm_context(ulfm_handle *rank, uint16_t comm, uint16_t *context) ULFM_NONNU
 
 /* How many atomic steps the rank's last call made, 0 before any. ulfm_fail isn't counted. MPI: nothing. */
 int ulfm_last_steps(ulfm_handle *rank, uint32_t *steps) ULFM_NONNULL;
+
+/* ------------------------------------------------------------------------------------------------ ranks on several machines
+ * A replica is a rank that keeps all of a world to itself. Only events go from one machine to another: as entries of the world's log, which
+ * a store has and everybody reads in order. The library opens no file and no connection. ulfm_run tells which entry to append; the caller
+ * appends it, reads the log, and feeds each entry by its number. c/drivers has that for three stores, and docs/STORE.md tells it.
+ *
+ * PREMISE, which nothing checks: whatever two machines are fed as entry number i of a world's log is the same entry.
+ *
+ * PROVED: each call is safe and returns, whatever it is fed. Under the premise all replicas of a world see beginnings of one history, in
+ * which each call is the specification's call, and its answer right at one point. Whether an append came is told by the log alone. The
+ * caller owes rules 1 to 6. All replicas of a world are opened with the same limits.
+ *
+ * A replica's handle is good for the calls of this part, for ulfm_rank, ulfm_failures, ulfm_members, ulfm_context and ulfm_close; all others
+ * answer ULFM_ERR_NOT_A_RANK, and so do those of this part for a rank of threads and for the outside. Each may answer ULFM_ERR_HANDLE,
+ * ULFM_ERR_NOT_A_RANK or ULFM_ERR_LOST, in this order, and then what its own comment names. Where memory is refused within ulfm_run or
+ * ulfm_feed the replica is lost: the call answers ULFM_ERR_LOST, as all later ones do but ulfm_close. */
+
+/* Opens rank `number` of a world with these limits, which are ulfm_open's. Nothing of the log is fed. A handle that held something before
+ * gives it back. ULFM_ERR_OUT_OF_RANGE, ULFM_ERR_TOO_LARGE, ULFM_ERR_RANK where `number` isn't below `ranks`, ULFM_ERR_NO_MEM; then the
+ * handle is as it was. MPI: MPI_Init. */
+int ulfm_open_replica(ulfm_handle *rank, uint16_t number, uint16_t ranks, uint16_t comms, uint16_t rounds) ULFM_NONNULL;
+
+/* Each begins a call of the rank, which ulfm_run goes on with and answers: by the codes of the call of a rank of threads that it is named
+ * for. ULFM_ERR_CALL where a call is under way. They make no step. MPI: as beside ulfm_iagree to ulfm_free. */
+int ulfm_begin_agree(ulfm_handle *rank, uint16_t comm, ulfm_flag flag) ULFM_NONNULL;
+int ulfm_begin_shrink(ulfm_handle *rank, uint16_t comm) ULFM_NONNULL;
+int ulfm_begin_barrier(ulfm_handle *rank, uint16_t comm) ULFM_NONNULL;
+int ulfm_begin_poll(ulfm_handle *rank, uint16_t comm) ULFM_NONNULL;
+int ulfm_begin_revoke(ulfm_handle *rank, uint16_t comm) ULFM_NONNULL;
+int ulfm_begin_is_revoked(ulfm_handle *rank, uint16_t comm) ULFM_NONNULL;
+int ulfm_begin_get_failed(ulfm_handle *rank, uint16_t comm) ULFM_NONNULL;
+int ulfm_begin_ack_failed(ulfm_handle *rank, uint16_t comm, uint16_t count) ULFM_NONNULL;
+int ulfm_begin_failure_ack(ulfm_handle *rank, uint16_t comm) ULFM_NONNULL;
+int ulfm_begin_failure_get_acked(ulfm_handle *rank, uint16_t comm) ULFM_NONNULL;
+int ulfm_begin_free(ulfm_handle *rank, uint16_t comm) ULFM_NONNULL;
+
+/* Goes on with the call that is under way, as far as no entry is wanted. `ran` becomes one of three:
+ *   ULFM_IDLE       no call is under way;
+ *   ULFM_WANTS      append `entry` to the log, and feed on. Asked again before it was fed, it wants the same entry again, or none, where
+ *                   another was fed that took its place. To append an entry twice does no harm;
+ *   ULFM_ANSWERED   the call is answered. `code` is what the call of a rank of threads answers, and where that is 0 `reply` is what the call
+ *                   tells: a poll's reply, as ulfm_poll writes it. For the others `kind` is 0, and `failed` has the number that is told: of
+ *                   revoke 1 where this call revoked it, of is_revoked 1 where it is revoked, of ack_failed and failure_ack how many are
+ *                   acknowledged, of get_failed and failure_get_acked how many there are, whom ulfm_replica_group tells.
+ * What `ran` doesn't name is as it was. It never waits. */
+int ulfm_run(ulfm_handle *rank, ulfm_entry *entry, ulfm_reply *reply, int *code, uint32_t *ran) ULFM_NONNULL;
+
+/* Feeds entry number `index` of the world's log, counted from 0: the next one, or ULFM_ERR_GAP, and nothing is fed. `fed` becomes
+ * ULFM_LEFT_OUT, ULFM_TAKEN or ULFM_OWN. Any 24 bytes may be fed. */
+int ulfm_feed(ulfm_handle *rank, uint64_t index, const ulfm_entry *entry, uint32_t *fed) ULFM_NONNULL;
+
+/* How many entries were fed, those that were left out among them: the number of the next one. */
+int ulfm_fed(ulfm_handle *rank, uint64_t *count) ULFM_NONNULL;
+
+/* The failed group of a communicator as the replica's calls have seen it, in the order of the declarations. It makes no step. Behind
+ * get_failed it is what that call counted; behind failure_get_acked the first so many of it are. Writes the first `room` of it, and `count`
+ * is how many there are. ULFM_ERR_COMM, ULFM_ERR_NO_MEM. */
+int ulfm_replica_group(ulfm_handle *rank, uint16_t comm, uint16_t *ranks, size_t room, size_t *count) ULFM_NONNULL;
+
+/* In C: the entry by which the outside declares a rank failed, to be appended to the log. The caller is believed, as by ulfm_fail.
+ * ULFM_ERR_RANK where no world has such a rank. MPI: the runtime's own. */
+int ulfm_failure_entry(uint16_t rank, ulfm_entry *entry) ULFM_NONNULL;
 
 /* ------------------------------------------------------------------------------------------------ in C: texts */
 

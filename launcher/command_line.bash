@@ -1,10 +1,10 @@
 # What a command line asks for, read as crates/ulfm_command and its library clap read it: with the same faults, and the same words for them.
-# read_words WORD..     sets `asked` to run, echo, steps, migrate, check, explain, observed, witness, draw, explore, race, shown or bad; then `text` names the page that
+# read_words WORD..     sets `asked` to run, echo, steps, migrate, check, explain, observed, witness, draw, explore, replay, race, shown or bad; then `text` names the page that
 #                       is shown, or is the reason why it is bad.
 # gate/launcher_test.py compares this with the program, on random lines too.
 
 # the names of the commands, in the order in which they are listed
-commands=(run migrate check draw explore race help)
+commands=(run migrate check draw explore replay race help)
 
 # what each command is called with, where no option is known to be meant
 usage_of() {
@@ -15,6 +15,7 @@ usage_of() {
         check) echo 'ulfm check [OPTIONS]' ;;
         draw) echo 'ulfm draw [OPTIONS]' ;;
         explore) echo 'ulfm explore [OPTIONS]' ;;
+        replay) echo 'ulfm replay' ;;
         race) echo 'ulfm race [OPTIONS] --ranks <N> --rounds <K>' ;;
         help) echo 'ulfm help [COMMAND]...' ;;
     esac
@@ -143,7 +144,7 @@ refuse_word() {
 }
 
 is_command() {
-    case $1 in run | migrate | check | draw | explore | race | help) ;; *) return 1 ;; esac
+    case $1 in run | migrate | check | draw | explore | replay | race | help) ;; *) return 1 ;; esac
 }
 
 # what is wrong with a value that must be a number from $2 to $3, or nothing
@@ -232,7 +233,7 @@ take_long() {
             pending=$name value=$given has_value=$value_given
             [ -z "$has_value" ] || take_pending
             ;;
-        ulfm:help | ulfm:version | run:steps | run:echo | run:help | migrate:help | check:explain | check:observed | check:witness | check:help | draw:text | draw:ascii | draw:help | explore:help | race:help) take_flag "$name" "$given" "$value_given" ;;
+        ulfm:help | ulfm:version | run:steps | run:echo | run:help | migrate:help | check:explain | check:observed | check:witness | check:help | draw:text | draw:ascii | draw:help | explore:help | replay:help | race:help) take_flag "$name" "$given" "$value_given" ;;
         *)
             take_pending
             refuse_option "$name" "$@"
@@ -293,6 +294,7 @@ enter() {
         check) read_check ;;
         draw) asked=draw ;;
         explore) asked=explore ;;
+        replay) asked=replay ;;
         race) read_race ;;
     esac
 }
@@ -361,5 +363,5 @@ read_words() {
     asked=bad text=
     is_text "$@" || return 0
     walk "$@" || return 0
-    refuse_with_usage "$(usage_of ulfm)" "'ulfm' requires a subcommand but one was not provided"$'\n  [subcommands: run, migrate, check, draw, explore, race, help]'
+    refuse_with_usage "$(usage_of ulfm)" "'ulfm' requires a subcommand but one was not provided"$'\n  [subcommands: run, migrate, check, draw, explore, replay, race, help]'
 }

@@ -29,6 +29,10 @@ IN_C = {
     "&mut [u16]": ["uint16_t *", "size_t"],
     "&mut u16": ["uint16_t *"],
     "&mut u32": ["uint32_t *"],
+    "&mut u64": ["uint64_t *"],
+    "&mut i32": ["int *"],
+    "&mut EntryBytes": ["ulfm_entry *"],
+    "&EntryBytes": ["ulfm_entry *"],
     "&mut usize": ["size_t *"],
     "&mut bool": ["bool *"],
 }
@@ -42,7 +46,7 @@ CODES = {
     "WRONG_COUNT": "COUNT",
 }
 # what the header declares beside the exports: these are in C
-BESIDE = {"ulfm_strerror", "ulfm_shared_size", "ulfm_open_shared", "ulfm_forget_shared"}
+BESIDE = {"ulfm_strerror", "ulfm_failure_entry", "ulfm_shared_size", "ulfm_open_shared", "ulfm_forget_shared"}
 # codes of the header alone
 OWN_CODES = {"PENDING"}
 results = []
@@ -119,7 +123,7 @@ def main():
     own = re.findall(r"pub const (\w+): i32 = (\d+);", sources)
     upper = lambda name: CODES.get(name, re.sub(r"(?<=[a-z])(?=[A-Z])", "_", name).upper())
     same("codes", {name: number for name, number in codes.items() if name not in OWN_CODES}, {upper(name): int(number) for name, number in refusals + own})
-    kinds = {name: int(number) for name, number in re.findall(r"\bULFM_(PENDING|AGREED|SHRUNK|DONE) = (\d+)", code)}
+    kinds = {name: int(number) for name, number in re.findall(r"\bULFM_(PENDING|AGREED|SHRUNK|DONE|IDLE|WANTS|ANSWERED|LEFT_OUT|TAKEN|OWN) = (\d+)", code)}
     same("kinds", kinds, {name: int(number) for name, number in re.findall(r"pub const (\w+): u32 = (\d+);", sources)})
 
     limits = {name: int(number) for name, number in re.findall(r"#define ULFM_(MAX_\w+) (\d+)", raw)}
@@ -132,7 +136,9 @@ def main():
 
     # what pages and examples call is there: the exports, and the header's own functions in C
     there = set(prototypes) | set(re.findall(r"static inline \w+ (ulfm_\w+)\(", code))
-    for page in ("docs/C.md", "c/ulfm.3", "c/examples/first.c", "c/examples/recovery.c", "c/examples/loop.c", "c/examples/processes.c", "c/examples/ulfm.rs"):
+    examples = [f"c/examples/{it}" for it in ("first.c", "recovery.c", "loop.c", "processes.c", "store.c", "ulfm.rs")]
+    drivers = [f"c/drivers/{it}" for it in sorted(os.listdir(os.path.join(C, "drivers")))]
+    for page in ("docs/C.md", "docs/STORE.md", "c/ulfm.3", *examples, *drivers):
         same(f"calls of {page}", sorted(set(re.findall(r"\b(ulfm_\w+)\(", read(TOP, page))) - there), [])
 
     same("exports.txt", read(C, "exports.txt").split(), sorted(prototypes))

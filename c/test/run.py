@@ -76,7 +76,7 @@ def header_compiles(folder):
 
 
 def programs_run():
-    for name in ("codes", "memory", "shared", "cxx", "first"):
+    for name in ("codes", "memory", "shared", "replica", "cxx", "first"):
         runs(name, [f"out/{name}"])
     for name in ("recovery", "recovery_address", "recovery_thread"):
         for _ in range(OFTEN):
@@ -90,8 +90,13 @@ def programs_run():
         for _ in range(OFTEN):
             runs("recovery in Rust", ["out/recovery_rust"], wanted_of("recovery_rust"))
     if there("valgrind"):
-        for name in ("recovery", "loop", "codes", "memory", "shared"):
+        for name in ("recovery", "loop", "codes", "memory", "shared", "replica"):
             runs(f"valgrind of {name}", ["valgrind", "-q", "--leak-check=full", "--show-leak-kinds=all", "--errors-for-leak-kinds=all", "--error-exitcode=9", f"out/{name}"])
+
+
+def stores_are_shared():
+    """Over a log in a file; servers of stores aren't asked for here."""
+    counts("store", ["test/store.py", "short"])
 
 
 def processes_are_killed():
@@ -130,8 +135,10 @@ def main():
     # the crate whose exports the header is compared with, where it isn't this repository's
     counts("header", ["test/header.py", *filter(None, [os.environ.get("CRATE")])])
     counts("scripts", ["test/scripts.py"])
+    counts("scripts through replicas", ["test/scripts.py", "--replicas"])
     programs_run()
     processes_are_killed()
+    stores_are_shared()
     with tempfile.TemporaryDirectory(prefix="ulfm-c-") as folder:
         header_compiles(folder)
         installs(folder)

@@ -2,9 +2,11 @@
 """Runs call scripts through the library in C (out/script), and compares what they print, their faults and statuses.
 
 Each script of examples/ with what stands beside it, and random ones with what `ulfm run` prints, where that program is built. (Whole
-scripts are compared: one reply that differs makes those behind it differ too.)
+scripts are compared: one reply that differs makes those behind it differ too.) --replicas runs them through replicas (out/script_replicas).
 
-    test/scripts.py [--random N] [--seed S] [--program PATH] [FOLDER..]     N is 200; more folders of scripts; the last line is 'N passed, M failed'
+    test/scripts.py [--replicas] [--random N] [--seed S] [--program PATH] [FOLDER..]
+
+N is 200; there may be more folders of scripts. The last line is 'N passed, M failed'.
 """
 import argparse
 import os
@@ -15,7 +17,6 @@ import tempfile
 
 C = os.path.dirname(os.path.dirname(os.path.abspath(__file__)))
 TOP = os.path.dirname(C)
-RUNNER = os.path.join(C, "out/script")
 
 
 def ran(words, script):
@@ -52,17 +53,19 @@ def random_script(it):
 
 def main():
     parser = argparse.ArgumentParser()
+    parser.add_argument("--replicas", action="store_true")
     parser.add_argument("--random", type=int, default=200)
     parser.add_argument("--seed", type=int, default=1)
     parser.add_argument("--program", default=os.path.join(TOP, "crates/ulfm/out/ulfm"))
     parser.add_argument("folders", nargs="*")
     given = parser.parse_args()
+    runner = os.path.join(C, "out/script_replicas" if given.replicas else "out/script")
     passed = failed = 0
     for folder in (os.path.join(TOP, "examples"), *given.folders):
         for name in sorted(it for it in os.listdir(folder) if it.endswith(".ulfm")):
             base = os.path.join(folder, name.removesuffix(".ulfm"))
             wanted = read(f"{base}.out"), read(f"{base}.err"), int(read(f"{base}.status", b"0"))
-            found = ran([RUNNER], read(f"{base}.ulfm"))
+            found = ran([runner], read(f"{base}.ulfm"))
             passed, failed = passed + (found == wanted), failed + (found != wanted)
             if found != wanted:
                 print(f"{folder}/{name}: {found}\nand not {wanted}")
@@ -72,7 +75,7 @@ def main():
         chosen = random.Random(given.seed)
         for number in range(given.random):
             script = random_script(chosen)
-            found, wanted = ran([RUNNER], script), ran([given.program, "run"], script)
+            found, wanted = ran([runner], script), ran([given.program, "run"], script)
             passed, failed = passed + (found == wanted), failed + (found != wanted)
             if found != wanted:
                 kept = os.path.join(tempfile.gettempdir(), f"ulfm_random_{given.seed}_{number}.ulfm")

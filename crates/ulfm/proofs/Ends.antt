@@ -7,7 +7,7 @@ use Rattle.ulfm_model.specs.declared.reply.Reply.{Reply}
 use Rattle.ulfm_model.specs.History.{History}
 use Rattle.ulfm_command.specs.CommandLines.{Arguments, Asks}
 use Rattle.ulfm_command.specs.declared.asked.{CheckForm.TheVariants.{Trace, Explained, Log}, ExploreOptions.{ExploreOptions}, RunForm.TheVariants.{Calls, Echoed, Steps}}
-use Rattle.ulfm_command.specs.declared.asked.{Task.{Task}, Task.TheVariants.{Run, Migrate, Check, Draw, Explore, Race}}
+use Rattle.ulfm_command.specs.declared.asked.{Task.{Task}, Task.TheVariants.{Run, Migrate, Check, Draw, Explore, Replay, Race}}
 use Rattle.ulfm_draw.specs.declared.{drawing.Form.{Form}, sheet.Looks.{Looks}}
 use Rattle.ulfm_draw.specs.Drawings.{DrawsText}
 use Rattle.ulfm_echo.specs.Echoes.{echo_scripts}
@@ -169,6 +169,7 @@ task_ran_out A looks (Check Explained) known out errors told status is = explain
 task_ran_out A looks (Check (Log witness)) known out errors told status is = observe_ran_out A witness known out status is
 task_ran_out A looks (Draw options) known out errors told status is = draw_ran_out _ known out status is
 task_ran_out A looks (Explore options) known out errors told status is = explore_ran_out A options out status is
+task_ran_out A looks Replay known out errors told status is = inr (inr is, keeps_start out)
 task_ran_out A looks (Race options) known out errors told status is = race_ran_out (plan_of options) out status is
 
 -- a race that the words ask for has its options in their ranges
@@ -179,3 +180,4 @@ asked_in_range words Migrate asks = tt
 asked_in_range words (Check form) asks = tt
 asked_in_range words (Draw options) asks = tt
 asked_in_range words (Explore options) asks = tt
+asked_in_range words Replay asks = tt

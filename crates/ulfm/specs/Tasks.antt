@@ -2,7 +2,7 @@
 use Rattle.std.specs.Prelude.{◌≡◌, ⊤, ℕ, Bool, true, false}
 use Rattle.ulfm_command.specs.CommandLines.{is_in_range}
 use Rattle.ulfm_command.specs.declared.asked.{CheckForm.{CheckForm}, CheckForm.TheVariants.{Trace, Explained, Log}}
-use Rattle.ulfm_command.specs.declared.asked.{RunForm.{RunForm}, Task.{Task}, Task.TheVariants.{Run, Migrate, Check, Draw, Explore, Race}}
+use Rattle.ulfm_command.specs.declared.asked.{RunForm.{RunForm}, Task.{Task}, Task.TheVariants.{Run, Migrate, Check, Draw, Explore, Replay, Race}}
 use Rattle.ulfm_command.specs.declared.asked.RunForm.TheVariants as run
 use Rattle.ulfm_draw.specs.declared.sheet.Looks.{Looks}
 use Rattle.ulfm_filters.specs.declared.filter.Filter.{Filter}
@@ -13,6 +13,7 @@ use Rattle.ulfm.specs.Explained.{ExplainedWith}
 use Rattle.ulfm.specs.Explored.{ExploredWith}
 use Rattle.ulfm.specs.Observed.{ObservedWith}
 use Rattle.ulfm.specs.Races.{RacedWith, plan_of}
+use Rattle.ulfm.specs.Replayed.{ReplayedWith}
 
 -- the filter that runs a script of this form
 abbrev pub filter_of : RunForm → Filter
@@ -33,6 +34,7 @@ DoneWith A looks Migrate old new status = MigratedWith old.input new.input old.o
 DoneWith A looks (Check form) old new status = JudgedWith A form old new status
 DoneWith A looks (Draw options) old new status = DrewWith (form_of options looks) old.input old.output new.output status
 DoneWith A looks (Explore options) old new status = ExploredWith A options old.output new.output status
+DoneWith A looks Replay old new status = ReplayedWith old.input old.output new.output status
 DoneWith A looks (Race options) old new status = RacedWith (plan_of options) old.output new.output status
 
 -- a race's options are in their ranges

@@ -11,12 +11,14 @@ ghost use Rattle.ulfm.specs.Explained.{ExplainedWith};
 ghost use Rattle.ulfm.specs.Explored.{ExploredWith, at_status};
 ghost use Rattle.ulfm.specs.Observed.{ObservedWith};
 ghost use Rattle.ulfm.specs.Races.{RacedWith, plan_of};
+ghost use Rattle.ulfm.specs.Replayed.{ReplayedWith};
 ghost use Rattle.ulfm.specs.Tasks.{DoneWith, IsInRange, JudgedWith, filter_of, most_status, reads};
 
 use std::alloc::{Allocator, Global};
 use std::io::{Read, Write};
 use std::sync::Wait;
 use std::thread::Threads;
+use ulfm_audit::{AuditFault, audit};
 use ulfm_command::{
     Asked, CheckForm, DrawOptions, ExploreOptions, RaceOptions, Reason, RunForm, Task, read_words,
 };
@@ -109,6 +111,7 @@ fn perform<T: Threads + Wait + Sync, A: Allocator + Copy + Drop, R: Read, W: Wri
         Task::Check(form) => run_check(alloc, form, input, output, errors),
         Task::Draw(options) => run_draw(alloc, form_of(options, looks), input, output, errors),
         Task::Explore(options) => run_explore(alloc, options, input, output, errors),
+        Task::Replay => run_replay(alloc, input, output, errors),
         Task::Race(options) => run_race(rt, alloc, global, options, output, errors),
     }
 }
@@ -284,6 +287,34 @@ fn tell_unexplored<E: Write>(fault: ExploreFault, errors: &mut E) -> u8
         ExploreFault::NoSuchOutcome => 1,
         ExploreFault::Memory => 3,
         ExploreFault::Unconfirmed => 5,
+    }
+}
+
+/// Tells the history that the stored log of the input makes.
+#[tactic(auto, using(crate::proofs::Replays::replayed))]
+fn run_replay<A: Allocator + Copy + Drop, R: Read, W: Write, E: Write>(
+    alloc: A,
+    input: &mut R,
+    output: &mut W,
+    errors: &mut E,
+) -> u8
+    ensures status { result ≤ 3 }
+    ensures replayed { ReplayedWith (R.remaining input.old) (W.contents output.old) (W.contents output.new) result }
+{
+    match audit(alloc, input) {
+        Ok(shown) => print_text(&shown, output, errors),
+        Err(fault) => tell_unaudited(fault, errors),
+    }
+}
+
+/// Tells why a log wasn't audited, and gives the status.
+fn tell_unaudited<E: Write>(fault: AuditFault, errors: &mut E) -> u8
+    ensures { (result ≡ 1) ⊎ (result ≡ 3) }
+{
+    let _ = writeln!(errors, "ulfm: {fault}");
+    match fault {
+        AuditFault::Log => 1,
+        AuditFault::Memory | AuditFault::Read => 3,
     }
 }
 

@@ -9,12 +9,12 @@ use Rattle.ulfm_comm.specs.Calls.{reply_of}
 use Rattle.ulfm_comm.specs.Excludes.{Excludes}
 use Rattle.ulfm_comm.specs.{Fails.{Fails, declared}, Queries.{listed_in, query}}
 use Rattle.ulfm_comm.specs.declared.calls.polled.Polled.{Polled}
-use Rattle.ulfm_member.specs.Members.{Membership, MemberCalls, MemberFails, MemberGets, MemberMisses, MemberPolls, Viewing, after_call, view_in}
+use Rattle.ulfm_member.specs.Members.{Membership, MemberCalls, MemberFails, MemberGets, MemberMisses, MemberPolls, Viewing, after_call, view_in, setting_of}
 use Rattle.ulfm_c.specs.Codes.{code}
 use Rattle.ulfm_c.specs.Written.{Lent, Lists, WritesPolled}
 use Rattle.ulfm_c.specs.declared.polled.PolledReply.{PolledReply}
 use Rattle.ulfm_c.specs.declared.party.Party.{Party}
-use Rattle.ulfm_c.specs.declared.party.Party.TheVariants.{Rank, Outside}
+use Rattle.ulfm_c.specs.declared.party.Party.TheVariants.{Outside, Rank, Replica}
 
 -- a flag is packed into words as its bits
 abbrev pub flag_pack : FlagAnd → ℕ
@@ -26,16 +26,18 @@ HandleCalls calls None new answered = (new ≡ None) × (answered ≡ pos 18)
 HandleCalls calls (Some old) None answered = ⊥
 HandleCalls calls (Some old) (Some new) answered = calls old new answered
 
--- a rank's call by what the party is: where that is the outside, the code is 19, and the outside is as it was
+-- a rank's call by what the party is: where that is the outside or a replica, the code is 19, and it is as it was
 abbrev pub PartyCalls : (Membership FlagAnd → Membership FlagAnd → ℤ → Type 0) → Party → Party → ℤ → Type 0
 PartyCalls calls (Rank old) (Rank new) answered = calls old new answered
 PartyCalls calls (Rank old) (Outside new) answered = ⊥
+PartyCalls calls (Rank old) (Replica new) answered = ⊥
 PartyCalls calls (Outside old) new answered = (new ≡ Outside old) × (answered ≡ pos 19)
+PartyCalls calls (Replica old) new answered = (new ≡ Replica old) × (answered ≡ pos 19)
 
 -- a call whose reply has no content but that it was made
 pub record RankDoes (asked : ℕ → Call FlagAnd) (told : Reply FlagAnd) (old new : Membership FlagAnd) (answered : ℤ) : Type 0 where
   pub reply : Result (Unit {0}) Refusal
-  pub calls : MemberCalls flag_meld flag_pack false (asked old.own.number) old (reply_of (λ _. told) reply) new
+  pub calls : MemberCalls (setting_of flag_meld flag_pack false) (asked old.own.number) old (reply_of (λ _. told) reply) new
   pub code_is : answered ≡ code reply
 
 -- an agree, on the flag with these bits
@@ -47,21 +49,21 @@ pub record RankAgrees (comm bits : ℕ) (old new : Membership FlagAnd) (answered
 -- A shrink. Where it starts, its outcome excludes the failures that the rank knew.
 pub record RankShrinks (comm : ℕ) (old new : Membership FlagAnd) (answered : ℤ) : Type 0 where
   pub reply : Result (Unit {0}) Refusal
-  pub calls : MemberCalls flag_meld flag_pack false (Shrink old.own.number comm) old (reply_of (λ _. Started) reply) new
+  pub calls : MemberCalls (setting_of flag_meld flag_pack false) (Shrink old.own.number comm) old (reply_of (λ _. Started) reply) new
   pub code_is : answered ≡ code reply
   pub excludes : IfOk reply (λ _. Excludes flag_meld old.view.words.limits old.view.pass.seen new.view.pass.seen old.own comm)
 
 -- a call whose answer is a number or a truth value, which is written out where the code is 0
 pub record RankTells {X : Type 0} (asked : ℕ → Call FlagAnd) (told : X → Reply FlagAnd) (out : X) (old new : Membership FlagAnd) (answered : ℤ) : Type 0 where
   pub reply : Result X Refusal
-  pub calls : MemberCalls flag_meld flag_pack false (asked old.own.number) old (reply_of told reply) new
+  pub calls : MemberCalls (setting_of flag_meld flag_pack false) (asked old.own.number) old (reply_of told reply) new
   pub code_is : answered ≡ code reply
   pub written : IfOk reply (λ x. out ≡ x)
 
 -- a poll, whose answer is written out where the code is 0
 pub record RankPolls (comm : ℕ) (out : PolledReply) (old new : Membership FlagAnd) (answered : ℤ) : Type 0 where
   pub reply : Result (Polled FlagAnd) Refusal
-  pub polls : MemberPolls flag_meld flag_pack false comm old reply new
+  pub polls : MemberPolls (setting_of flag_meld flag_pack false) comm old reply new
   pub code_is : answered ≡ code reply
   pub written : IfOk reply (λ polled. WritesPolled polled out)
 
@@ -69,7 +71,7 @@ pub record RankPolls (comm : ℕ) (out : PolledReply) (old new : Membership Flag
 pub record RankGets (acked : Bool) (comm : ℕ) (out : Lent) (old new : Membership FlagAnd) (answered : ℤ) : Type 0 where
   pub reply : Result (Unit {0}) Refusal
   pub found : List ℕ
-  pub gets : MemberGets flag_meld flag_pack false (query acked old.own.number comm) old (length found) reply new
+  pub gets : MemberGets (setting_of flag_meld flag_pack false) (query acked old.own.number comm) old (length found) reply new
   pub group : IfOk reply (λ _. found ≡ listed_in acked (after_call flag_pack old new) comm)
   pub code_is : answered ≡ code reply
   pub written : IfOk reply (λ _. Lists found out)
@@ -78,14 +80,14 @@ pub record RankGets (acked : Bool) (comm : ℕ) (out : Lent) (old new : Membersh
 pub record RankMisses (comm : ℕ) (out : Lent) (old new : Membership FlagAnd) (answered : ℤ) : Type 0 where
   pub reply : Result (Unit {0}) Refusal
   pub missing : List ℕ
-  pub misses : MemberMisses flag_meld flag_pack false comm old reply missing new
+  pub misses : MemberMisses (setting_of flag_meld flag_pack false) comm old reply missing new
   pub code_is : answered ≡ code reply
   pub written : IfOk reply (λ _. Lists missing out)
 
 -- a declaration through a rank's handle
 pub record RankFails (rank : ℕ) (first : Bool) (old new : Membership FlagAnd) (answered : ℤ) : Type 0 where
   pub reply : Result Bool Refusal
-  pub fails : MemberFails flag_meld flag_pack false rank old (reply_of declared reply) new
+  pub fails : MemberFails (setting_of flag_meld flag_pack false) rank old (reply_of declared reply) new
   pub code_is : answered ≡ code reply
   pub written : IfOk reply (λ b. first ≡ b)
 
@@ -101,3 +103,6 @@ PartyFails rank first (Rank old) (Rank new) answered = RankFails rank first old 
 PartyFails rank first (Outside old) (Outside new) answered = OutsideFails rank first old new answered
 PartyFails rank first (Rank old) (Outside new) answered = ⊥
 PartyFails rank first (Outside old) (Rank new) answered = ⊥
+PartyFails rank first (Rank old) (Replica new) answered = ⊥
+PartyFails rank first (Outside old) (Replica new) answered = ⊥
+PartyFails rank first (Replica old) new answered = (new ≡ Replica old) × (answered ≡ pos 19)

@@ -4,4 +4,5 @@ pub mod Lends
 pub mod Opens
 pub mod Owned
 pub mod Reads
+pub mod Replicas
 pub mod Written

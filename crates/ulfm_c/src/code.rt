@@ -16,11 +16,20 @@ pub const TOO_LARGE: i32 = 17;
 /// The handle holds nothing: it was never opened, or it was closed.
 pub const NO_HANDLE: i32 = 18;
 
-/// The handle is the outside's, where a rank's is wanted.
+/// The handle isn't that of such a rank: it is the outside's, or a replica's, or a rank's of threads where a replica's is wanted.
 pub const NOT_A_RANK: i32 = 19;
 
 /// There aren't as many handles as ranks.
 pub const WRONG_COUNT: i32 = 20;
+
+/// A call of the replica is under way, or its reply wasn't told yet.
+pub const CALL: i32 = 21;
+
+/// It isn't the next entry of the log.
+pub const GAP: i32 = 22;
+
+/// Memory was refused, and the replica is lost.
+pub const LOST: i32 = 23;
 
 // The refusal's number.
 pub(crate) fn refusal_code(refusal: Refusal) -> i32

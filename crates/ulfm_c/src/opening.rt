@@ -1,17 +1,19 @@
 // How a world is opened, and its handles are filled in.
-ghost use Rattle.std.specs.Prelude.{◌≡◌, ◌≢◌, Some, IfErr, IfOk, length, map, pos};
+ghost use Rattle.std.specs.Prelude.{◌≡◌, ◌≢◌, ◌⊎◌, Some, IfErr, IfOk, length, map, pos};
 ghost use Rattle.ulfm_book.specs.Rules.{IsFault};
+ghost use Rattle.ulfm_c.specs.Opens.{fault_code as code_of_fault};
 ghost use Rattle.ulfm_c.specs.Opens.{OpenFails, Opens, parties_in, parties_of};
+ghost use Rattle.ulfm_c.specs.Replicas.{OpensReplica};
 ghost use Rattle.ulfm_c.specs.declared.party.Party.TheVariants as holds;
 
-use crate::code::{WRONG_COUNT, fault_code};
+use crate::code::{WRONG_COUNT, fault_code, refusal_code};
 use crate::handle::Handle;
-use crate::party::{Member, Outside, Party};
+use crate::party::{Member, Outside, Party, Replica};
 use std::alloc::{AllocError, Global};
 use ulfm_book::BookWords;
 use ulfm_laws::FlagAnd;
-use ulfm_model::Limits;
 use ulfm_model::limits::OpenFault;
+use ulfm_model::{Limits, Refusal};
 
 // Opens a world of these limits, and fills in the handles. What they held before is given back.
 pub(crate) fn open_in(
@@ -78,4 +80,29 @@ fn boxed(
         parties.push(Box::new(alloc, Party::Rank(member))?)?;
     }
     Ok((outside, parties))
+}
+
+// A replica of this rank, in a box.
+pub(crate) fn open_replica(
+    alloc: Global,
+    limits: Limits,
+    number: u16,
+) -> Result<Box<Party>, OpenFault>
+    ensures { IfOk result (λ b. OpensReplica limits number (Some b.value)) }
+{
+    let replica = Replica::open(alloc, limits, number)?;
+    match Box::new(alloc, Party::Replica(replica)) {
+        Ok(party) => Ok(party),
+        Err(_) => Err(OpenFault::OutOfMemory),
+    }
+}
+
+// Why no replica of this rank was opened.
+pub(crate) fn no_replica_code(limits: Limits, number: u16, fault: OpenFault) -> i32
+    ensures { (result ≡ pos 13) ⊎ (result ≡ code_of_fault fault) }
+{
+    if number >= limits.ranks && limits.check().is_ok() {
+        return refusal_code(Refusal::NoSuchRank);
+    }
+    fault_code(fault)
 }

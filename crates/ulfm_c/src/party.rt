@@ -1,17 +1,18 @@
 //! The parties of a world, its ranks and its outside, and their calls with the codes that C sees.
 ghost use Rattle.std.specs.Prelude.{◌≡◌, ◌≢◌, false, pos, true};
 ghost use Rattle.ulfm_c.specs.Calls.{PartyCalls, PartyFails, RankAgrees, RankDoes, RankGets, RankMisses, RankPolls, RankShrinks, RankTells};
-ghost use Rattle.ulfm_c.specs.Reads.{PartyReads, RankHolds, RankLists, RankShows};
+ghost use Rattle.ulfm_c.specs.Reads.{MemberReads, PartyReads, RankHolds, RankLists, RankShows};
 ghost use Rattle.ulfm_c.specs.Written.{Lists, lent};
 ghost use Rattle.ulfm_comm.specs.Revokes.{revoked};
 ghost use Rattle.ulfm_model.specs.declared.call.Call.TheVariants.{Ack, Barrier, FailureAck, Free, IsRevoked, Revoke};
 ghost use Rattle.ulfm_model.specs.declared.reply.Reply.TheVariants.{Acked, Freed, Standing, Started};
 
-use crate::code::{NOT_A_RANK, code_of, refusal_code};
+use crate::code::{LOST, NOT_A_RANK, code_of, refusal_code};
 use crate::polled::{Flag, PolledReply};
 use crate::written::write_list;
 use std::alloc::Global;
 use ulfm_book::BookWords;
+use ulfm_comm::Rank;
 use ulfm_laws::FlagAnd;
 use ulfm_model::Refusal;
 
@@ -21,11 +22,18 @@ pub type Member = ulfm_member::Member<BookWords<FlagAnd>, FlagAnd, Global>;
 /// The outside of a world, and its pass.
 pub type Outside = ulfm_member::Outside<BookWords<FlagAnd>, FlagAnd, Global>;
 
+/// A rank that replays the log of its world.
+pub type Replica = ulfm_replica::Replica<FlagAnd, Global>;
+
 /// A party of a world: what a handle holds.
 #[derive(Drop)]
 pub enum Party {
+    /// A rank of threads, or of processes that share memory.
     Rank(Member),
+    /// Their outside.
     Outside(Outside),
+    /// A rank that replays a log.
+    Replica(Replica),
 }
 
 impl Party {
@@ -34,7 +42,7 @@ impl Party {
     {
         match self {
             Party::Rank(member) => code_of(member.iagree(comm, FlagAnd { bits: flag })),
-            Party::Outside(_) => NOT_A_RANK,
+            Party::Outside(_) | Party::Replica(_) => NOT_A_RANK,
         }
     }
 
@@ -43,7 +51,7 @@ impl Party {
     {
         match self {
             Party::Rank(member) => code_of(member.ishrink(comm)),
-            Party::Outside(_) => NOT_A_RANK,
+            Party::Outside(_) | Party::Replica(_) => NOT_A_RANK,
         }
     }
 
@@ -52,7 +60,7 @@ impl Party {
     {
         match self {
             Party::Rank(member) => code_of(member.ibarrier(comm)),
-            Party::Outside(_) => NOT_A_RANK,
+            Party::Outside(_) | Party::Replica(_) => NOT_A_RANK,
         }
     }
 
@@ -61,7 +69,7 @@ impl Party {
     {
         match self {
             Party::Rank(member) => code_of(member.free(comm)),
-            Party::Outside(_) => NOT_A_RANK,
+            Party::Outside(_) | Party::Replica(_) => NOT_A_RANK,
         }
     }
 
@@ -77,7 +85,7 @@ impl Party {
                 }
                 Err(refusal) => refusal_code(refusal),
             },
-            Party::Outside(_) => NOT_A_RANK,
+            Party::Outside(_) | Party::Replica(_) => NOT_A_RANK,
         }
     }
 
@@ -93,7 +101,7 @@ impl Party {
                 }
                 Err(refusal) => refusal_code(refusal),
             },
-            Party::Outside(_) => NOT_A_RANK,
+            Party::Outside(_) | Party::Replica(_) => NOT_A_RANK,
         }
     }
 
@@ -109,7 +117,7 @@ impl Party {
                 }
                 Err(refusal) => refusal_code(refusal),
             },
-            Party::Outside(_) => NOT_A_RANK,
+            Party::Outside(_) | Party::Replica(_) => NOT_A_RANK,
         }
     }
 
@@ -125,7 +133,7 @@ impl Party {
                 }
                 Err(refusal) => refusal_code(refusal),
             },
-            Party::Outside(_) => NOT_A_RANK,
+            Party::Outside(_) | Party::Replica(_) => NOT_A_RANK,
         }
     }
 
@@ -150,7 +158,7 @@ impl Party {
                     Err(refusal) => refusal_code(refusal),
                 }
             }
-            Party::Outside(_) => NOT_A_RANK,
+            Party::Outside(_) | Party::Replica(_) => NOT_A_RANK,
         }
     }
 
@@ -166,7 +174,7 @@ impl Party {
                 }
                 Err(refusal) => refusal_code(refusal),
             },
-            Party::Outside(_) => NOT_A_RANK,
+            Party::Outside(_) | Party::Replica(_) => NOT_A_RANK,
         }
     }
 
@@ -191,7 +199,7 @@ impl Party {
                     Err(refusal) => refusal_code(refusal),
                 }
             }
-            Party::Outside(_) => NOT_A_RANK,
+            Party::Outside(_) | Party::Replica(_) => NOT_A_RANK,
         }
     }
 
@@ -216,7 +224,7 @@ impl Party {
                     Err(refusal) => refusal_code(refusal),
                 }
             }
-            Party::Outside(_) => NOT_A_RANK,
+            Party::Outside(_) | Party::Replica(_) => NOT_A_RANK,
         }
     }
 
@@ -227,6 +235,7 @@ impl Party {
         let answer = match self {
             Party::Rank(member) => member.fail(rank),
             Party::Outside(outside) => outside.fail(rank),
+            Party::Replica(_) => return NOT_A_RANK,
         };
         match answer {
             Ok(is_first) => {
@@ -238,9 +247,37 @@ impl Party {
     }
 }
 
+// The members of a communicator that a replica's rank holds.
+fn members_of(rank: &Rank<FlagAnd, Global>, comm: u16, ranks: &mut [u16], count: &mut usize) -> i32
+    ensures reads { RankHolds (λ x. Lists x.group (lent ranks.old ranks.new count.new)) comm rank.now.own result }
+    ensures kept { result ≢ pos 0 → (ranks.new ≡ ranks.old) × (count.new ≡ count.old) }
+{
+    match rank.members(comm) {
+        Some(group) => {
+            write_list(group, ranks, count);
+            0
+        }
+        None => refusal_code(Refusal::NoSuchComm),
+    }
+}
+
+// The context id of a communicator that a replica's rank holds.
+fn context_of(rank: &Rank<FlagAnd, Global>, comm: u16, context: &mut u16) -> i32
+    ensures reads { RankHolds (λ x. context.new ≡ x.context) comm rank.now.own result }
+    ensures kept { result ≢ pos 0 → context.new ≡ context.old }
+{
+    match rank.context(comm) {
+        Some(id) => {
+            *context = u16::from(id);
+            0
+        }
+        None => refusal_code(Refusal::NoSuchComm),
+    }
+}
+
 impl Party {
     pub(crate) fn number(&self, number: &mut u16) -> i32
-        ensures reads { PartyReads (RankShows (λ m. m.own.number) number.new) self.now result }
+        ensures reads { PartyReads (λ own. RankShows number.new own.number) self.now result }
         ensures kept { result ≢ pos 0 → number.new ≡ number.old }
     {
         match self {
@@ -248,12 +285,19 @@ impl Party {
                 *number = member.number();
                 0
             }
+            Party::Replica(replica) => match replica.rank() {
+                Some(rank) => {
+                    *number = rank.number();
+                    0
+                }
+                None => LOST,
+            },
             Party::Outside(_) => NOT_A_RANK,
         }
     }
 
     pub(crate) fn last_steps(&self, steps: &mut u32) -> i32
-        ensures reads { PartyReads (RankShows (λ m. m.last) steps.new) self.now result }
+        ensures reads { MemberReads (λ m. RankShows steps.new m.last) self.now result }
         ensures kept { result ≢ pos 0 → steps.new ≡ steps.old }
     {
         match self {
@@ -261,7 +305,7 @@ impl Party {
                 *steps = member.last_steps();
                 0
             }
-            Party::Outside(_) => NOT_A_RANK,
+            Party::Outside(_) | Party::Replica(_) => NOT_A_RANK,
         }
     }
 
@@ -274,6 +318,13 @@ impl Party {
                 write_list(member.failures(), ranks, count);
                 0
             }
+            Party::Replica(replica) => match replica.rank() {
+                Some(rank) => {
+                    write_list(rank.failures(), ranks, count);
+                    0
+                }
+                None => LOST,
+            },
             Party::Outside(_) => NOT_A_RANK,
         }
     }
@@ -290,6 +341,10 @@ impl Party {
                 }
                 None => refusal_code(Refusal::NoSuchComm),
             },
+            Party::Replica(replica) => match replica.rank() {
+                Some(rank) => members_of(rank, comm, ranks, count),
+                None => LOST,
+            },
             Party::Outside(_) => NOT_A_RANK,
         }
     }
@@ -305,6 +360,10 @@ impl Party {
                     0
                 }
                 None => refusal_code(Refusal::NoSuchComm),
+            },
+            Party::Replica(replica) => match replica.rank() {
+                Some(rank) => context_of(rank, comm, context),
+                None => LOST,
             },
             Party::Outside(_) => NOT_A_RANK,
         }

@@ -1,7 +1,7 @@
 //! What can be read of a rank. These make no atomic step, are no calls of the rank, and change nothing that a handle holds. Each answers
 //! 18 where the handle holds nothing and 19 where it is the outside's; then nothing is written.
 ghost use Rattle.std.specs.Prelude.{◌≡◌, ◌≢◌, pos};
-ghost use Rattle.ulfm_c.specs.Reads.{HandleReads, PartyReads, RankHolds, RankLists, RankShows};
+ghost use Rattle.ulfm_c.specs.Reads.{HandleReads, MemberReads, PartyReads, RankHolds, RankLists, RankShows};
 ghost use Rattle.ulfm_c.specs.Written.{Lists, lent};
 
 use crate::code::NO_HANDLE;
@@ -10,7 +10,7 @@ use crate::handle::Handle;
 /// The rank's number, 0 to 1023.
 #[unsafe(no_mangle)]
 pub extern "C" fn ulfm_rank(handle: &mut Handle, number: &mut u16) -> i32
-    ensures reads { HandleReads (PartyReads (RankShows (λ m. m.own.number) number.new)) handle.old.party result }
+    ensures reads { HandleReads (PartyReads (λ own. RankShows number.new own.number)) handle.old.party result }
     ensures same { handle.new.party ≡ handle.old.party }
     ensures kept { result ≢ pos 0 → number.new ≡ number.old }
 {
@@ -70,7 +70,7 @@ pub extern "C" fn ulfm_context(handle: &mut Handle, comm: u16, context: &mut u16
 /// How many atomic steps the rank's last call made, 0 before any. `ulfm_fail` isn't a call of the rank, and isn't counted.
 #[unsafe(no_mangle)]
 pub extern "C" fn ulfm_last_steps(handle: &mut Handle, steps: &mut u32) -> i32
-    ensures reads { HandleReads (PartyReads (RankShows (λ m. m.last) steps.new)) handle.old.party result }
+    ensures reads { HandleReads (MemberReads (λ m. RankShows steps.new m.last)) handle.old.party result }
     ensures same { handle.new.party ≡ handle.old.party }
     ensures kept { result ≢ pos 0 → steps.new ≡ steps.old }
 {

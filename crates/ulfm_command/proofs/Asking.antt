@@ -3,7 +3,7 @@ use Rattle.std.proofs.Common.{◌≡◌, refl, codes, true, false, List, [], ◌
 use Rattle.clap.specs.Words.{fault_of, is_simple_and_free, is_simple}
 use Rattle.clap.specs.declared.error.kind.ErrorKind.TheVariants.{MissingRequiredArgument, MissingSubcommand, UnknownArgument, InvalidSubcommand, ValueValidation}
 use Rattle.clap.proofs.OnLiterals.{clap_on_literals}
-use Rattle.ulfm_command.specs.declared.asked.Task.TheVariants.{Run, Migrate, Check, Draw, Explore}
+use Rattle.ulfm_command.specs.declared.asked.Task.TheVariants.{Run, Migrate, Check, Draw, Explore, Replay}
 use Rattle.ulfm_command.specs.declared.asked.{RunForm.TheVariants.{Calls, Echoed, Steps}, CheckForm.TheVariants.{Trace, Explained, Log}}
 use Rattle.ulfm_command.specs.CommandLines.{Asks, AsksHelp, AsksVersion, ulfm}
 
@@ -35,6 +35,11 @@ steps_are_steps name = (refl, (_, refl, refl))
 migrate_is_migrate : (name : List ℕ) → Asks (name ∷ codes "migrate" ∷ []) Migrate
 unfolding clap_on_literals
 migrate_is_migrate name = (refl, (_, refl, tt))
+
+-- `ulfm replay`
+replay_is_replay : (name : List ℕ) → Asks (name ∷ codes "replay" ∷ []) Replay
+unfolding clap_on_literals
+replay_is_replay name = (refl, (_, refl, tt))
 
 -- `ulfm check`
 check_is_check : (name : List ℕ) → Asks (name ∷ codes "check" ∷ []) (Check Trace)

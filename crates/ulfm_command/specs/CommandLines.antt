@@ -12,7 +12,7 @@ use Rattle.clap.specs.declared.builder.value_parser.ValueParser.TheVariants as v
 use Rattle.clap.specs.declared.error.kind.ErrorKind.TheVariants.{DisplayHelp, DisplayVersion}
 use Rattle.ulfm_command.specs.declared.asked.Asked.{Asked}
 use Rattle.ulfm_command.specs.declared.asked.Asked.TheVariants as asked
-use Rattle.ulfm_command.specs.declared.asked.{Task.{Task}, Task.TheVariants.{Run, Migrate, Check, Draw, Explore, Race}}
+use Rattle.ulfm_command.specs.declared.asked.{Task.{Task}, Task.TheVariants.{Run, Migrate, Check, Draw, Explore, Replay, Race}}
 use Rattle.ulfm_command.specs.declared.asked.{RunForm.{RunForm}, RunForm.TheVariants.{Calls, Echoed, Steps}}
 use Rattle.ulfm_command.specs.declared.asked.{CheckForm.{CheckForm}, CheckForm.TheVariants.{Trace, Explained, Log}}
 use Rattle.ulfm_command.specs.declared.asked.{DrawOptions.{DrawOptions}, ExploreOptions.{ExploreOptions}, RaceOptions.{RaceOptions}}
@@ -90,6 +90,10 @@ outcome_rule = number_rule (codes "outcome") (vp.Signed (pos 1) (pos 1000000000)
 abbrev pub explore : App
 explore = with_rule (with_rule (new_app (codes "explore")) most_rule) outcome_rule
 
+-- the command that tells what a stored log makes
+abbrev pub replay : App
+replay = new_app (codes "replay")
+
 -- the command that runs a race
 abbrev pub race : App
 race = with_rule (with_rule (with_rule (new_app (codes "race")) ranks_rule) rounds_rule) fail_rule
@@ -117,9 +121,13 @@ drawers = with_subcommand readers draw.top
 abbrev pub explorers : App
 explorers = with_subcommand drawers explore.top
 
+-- the same with the one that replays logs
+abbrev pub replayers : App
+replayers = with_subcommand explorers replay.top
+
 -- the program as a command, with all its subcommands
 abbrev pub ulfm : App
-ulfm = with_subcommand explorers race.top
+ulfm = with_subcommand replayers race.top
 
 -- the command is this one, and has no global option
 abbrev pub IsCommand : App → Command → Type 0
@@ -222,6 +230,7 @@ verb Migrate = codes "migrate"
 verb (Check form) = codes "check"
 verb (Draw options) = codes "draw"
 verb (Explore options) = codes "explore"
+verb Replay = codes "replay"
 verb (Race options) = codes "race"
 
 -- the options of a task are given so
@@ -231,6 +240,7 @@ IsGiven rows Migrate = ⊤
 IsGiven rows (Check form) = check_form rows ≡ Some form
 IsGiven rows (Draw options) = IsDrawRead rows options
 IsGiven rows (Explore options) = IsExploreOf rows options
+IsGiven rows Replay = ⊤
 IsGiven rows (Race options) = IsRaceOf rows options
 
 -- the command that was named is for this task, with its options

@@ -113,6 +113,8 @@ pub enum Task {
     Draw(DrawOptions),
     /// Explore a program of ranks.
     Explore(ExploreOptions),
+    /// Tell the history that a stored log of a world makes.
+    Replay,
     /// Run a race, whose options are in their ranges.
     Race(RaceOptions),
 }

@@ -1,10 +1,11 @@
 //! The program's commands and their options, as the command line crate takes them.
 ghost use Rattle.std.specs.Prelude.{◌≡◌, IfOk, false};
 ghost use Rattle.clap.specs.Words.{rule_of};
-ghost use Rattle.ulfm_command.specs.CommandLines.{IsCommand, ascii_rule, check, draw, drawers, echo_rule, explain_rule, explore, explorers, fail_rule, migrate, migrators, most_rule, number_rule, observed_rule, outcome_rule, race, ranks_rule, readers, rounds_rule, run, runners, steps_rule, text_rule, ulfm, witness_rule};
+ghost use Rattle.ulfm_command.specs.CommandLines.{IsCommand, ascii_rule, check, draw, drawers, echo_rule, explain_rule, explore, explorers, fail_rule, migrate, migrators, most_rule, number_rule, observed_rule, outcome_rule, race, ranks_rule, readers, replay, replayers, rounds_rule, run, runners, steps_rule, text_rule, ulfm, witness_rule};
 
 use crate::texts::{
-    CHECK_HELP, DRAW_HELP, EXPLORE_HELP, MIGRATE_HELP, RACE_HELP, RUN_HELP, ULFM_HELP, VERSION,
+    CHECK_HELP, DRAW_HELP, EXPLORE_HELP, MIGRATE_HELP, RACE_HELP, REPLAY_HELP, RUN_HELP, ULFM_HELP,
+    VERSION,
 };
 use clap::builder::ValueParser;
 use clap::{Arg, ArgAction, Command, value_parser};
@@ -294,9 +295,29 @@ fn exploring_commands<'a>(global: Global) -> Result<Command<'a>, AllocError>
     drawing_commands(global)?.subcommand(explore_command(global)?)
 }
 
+/// `ulfm replay`.
+fn replay_command<'a>(global: Global) -> Result<Command<'a>, AllocError>
+    ensures { IfOk result (IsCommand replay) }
+{
+    Ok(
+        Command::new(global, "replay")
+            .about(
+                "Prints the history that the stored log on standard input makes, and what each round decided",
+            )
+            .after_help(REPLAY_HELP),
+    )
+}
+
+/// `ulfm` with the one that replays logs, too.
+fn replaying_commands<'a>(global: Global) -> Result<Command<'a>, AllocError>
+    ensures { IfOk result (IsCommand replayers) }
+{
+    exploring_commands(global)?.subcommand(replay_command(global)?)
+}
+
 /// `ulfm`.
 pub(crate) fn ulfm_command<'a>(global: Global) -> Result<Command<'a>, AllocError>
     ensures { IfOk result (IsCommand ulfm) }
 {
-    exploring_commands(global)?.subcommand(race_command(global)?)
+    replaying_commands(global)?.subcommand(race_command(global)?)
 }

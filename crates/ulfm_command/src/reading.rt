@@ -63,6 +63,8 @@ fn read_command(matches: &ArgMatches<'_>) -> Asked
                     Some(explore) => Asked::Task(Task::Explore(explore)),
                     None => Asked::Bad(Reason::NoCommand),
                 }
+            } else if name == "replay" {
+                Asked::Task(Task::Replay)
             } else if name == "race" {
                 match read_race(options) {
                     Some(race) => Asked::Task(Task::Race(race)),

@@ -18,6 +18,7 @@ Exit statuses, and what standard error says:
   0  all was done, or help or the version was shown
   1  ulfm: line N: KIND         line N of the script has this fault
   1                             the trace is illegal, or the log isn't explained
+  1  ulfm: bad log              a stored log's head is none, or its limits are out of range
   2  ulfm: bad command line     found before anything is read
   3  ulfm: out of memory        memory was refused, or a thread
   3  ulfm: read failed          standard input failed
@@ -274,6 +275,36 @@ Exit statuses, and what standard error says:
   3  ulfm: write failed         standard output failed
   4  more than STATES states came up, and not all schedules were tried
   5  ulfm: not confirmed        the step engine didn't show an outcome that was found";
+
+/// What help of `ulfm replay` shows behind its options.
+pub(crate) const REPLAY_HELP: &str =
+    "A stored log is what ranks on several machines replay: a head of 24 bytes with the world's limits,
+and then entries of 24 bytes, as docs/FORMATS.md has them. Each entry that is legal behind those
+before it is printed as the event's line of a trace. Entries that aren't, and bytes that are no
+entry, print nothing. A last piece of fewer than 24 bytes was cut off, and is no entry.
+
+Behind an entry that decides an agreement round stands what the round decided:
+
+  decided C K flag F failed N clean    round K of communicator C: the flags combined by AND, the
+  decided C K flag F failed N raised   size of the failed group, and whether an error was raised
+  decided C K ctx F failed N ..        the same of a shrink: the context ids that all had free
+  decided C K mismatch failed N ..     both were offered
+  decided C K nobody failed N ..       no member contributed
+
+At the end stand 'entries N taken M', with the number of all whole entries and of those that were
+printed, and 'digest D', where D is FNV-1a of 64 bits over the bytes of all whole entries.
+
+Example:
+
+    ulfm replay < examples/logs/recovery.log
+
+Exit statuses, and what standard error says:
+  0  the log was read to its end
+  1  ulfm: bad log              the head is none, or its limits are out of range
+  2  ulfm: bad command line     nothing was read
+  3  ulfm: out of memory        memory was refused
+  3  ulfm: read failed          standard input failed
+  3  ulfm: write failed         standard output failed";
 
 /// What help of `ulfm race` shows behind its options.
 pub(crate) const RACE_HELP: &str =

@@ -1,0 +1,4 @@
+pub mod Feeding
+pub mod Following
+pub mod Replaying
+pub mod Wiring
