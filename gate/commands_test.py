@@ -325,8 +325,8 @@ def main():
         differs("step scripts", where, step_words_of(text), step_words_of_formats(formats))
     for where, text in ({"ulfm --help": top, "ulfm.1": man}).items():
         differs("statuses", where, statuses_of(text), statuses_of_formats(formats))
-    together = statuses_of(helps["run"]) | statuses_of(helps["race"])
-    differs("statuses", "ulfm run --help with ulfm race --help", together, statuses_of_formats(formats))
+    together = statuses_of(helps["run"]) | statuses_of(helps["race"]) | statuses_of(helps["replay"])
+    differs("statuses", "ulfm run --help with ulfm race --help and ulfm replay --help", together, statuses_of_formats(formats))
     limits = limits_of_formats(formats)
     for where, text in {"help": helps["run"] + helps["race"], "ulfm.1": man}.items():
         differs("limits", where, limits_of(text), limits)

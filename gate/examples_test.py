@@ -13,7 +13,7 @@ import re
 import sys
 
 HERE = os.path.dirname(os.path.dirname(os.path.abspath(__file__)))
-CRATES = ("ulfm_comm", "ulfm_job", "ulfm_member", "ulfm_book", "ulfm_wait", "ulfm_race")
+CRATES = ("ulfm_comm", "ulfm_job", "ulfm_member", "ulfm_book", "ulfm_wait", "vukrasp", "ulfm_race")
 # of these crates only the functions of these tests
 SOME = {
     "ulfm_draw": {"drawing_draw"},

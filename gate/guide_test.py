@@ -5,7 +5,7 @@ A block ```sh has commands; the block ```text behind it, if one comes before the
 ```rust the first is the program that docs/first_crate takes, and each other stands in the source of a recovery. The copy has the built program,
 where there is one, and nothing else that was built. The guide's refusals are those of the model, by number and name, docs/FORMATS.md prints
 them as the model does, and docs/MPI.md names each. The guide and docs/LIMITATIONS.md have each greatest limit, and each call on a member, on the
-outside or of `ulfm_wait` that the guide or docs/MPI.md shows is one of the library. The last line is 'N passed, M failed'.
+outside or of `vukrasp` that the guide or docs/MPI.md shows is one of the library. The last line is 'N passed, M failed'.
 """
 
 import os
@@ -24,7 +24,7 @@ PRINTED = re.compile(r"Refusal::(\w+) => \"([a-z-]+)\",")
 # those that no script prints
 UNPRINTED = ("OutOfMemory", "Twice")
 GREATEST = re.compile(r"pub const MAX_\w+: \w+ = ([\d_]+);")
-CALLED = re.compile(r"`[^`]*?\b(member|outside|ulfm_wait)(?:\.|::)(\w+)\([^`]*`")
+CALLED = re.compile(r"`[^`]*?\b(member|outside|vukrasp)(?:\.|::)(\w+)\([^`]*`")
 PUBLIC = re.compile(r"^ *pub fn (\w+)", re.M)
 BLOCK = re.compile(r"^```(sh|text|rust)\n(.*?)^```$", re.M | re.S)
 
@@ -95,11 +95,14 @@ def names_refusals(page, source):
 
 def has_calls(name, page):
     """Whether each call that a page shows is one of the library."""
-    files = {"member": ("member",), "outside": ("outside",), "ulfm_wait": ("blocking", "future")}
+    files = {
+        "member": ("ulfm_member/src/member",),
+        "outside": ("ulfm_member/src/outside",),
+        "vukrasp": ("vukrasp/src/opening", "ulfm_wait/src/blocking"),
+    }
     shown, known = set(CALLED.findall(page)), set()
     for owner, sources in files.items():
-        crate = "ulfm_wait" if owner == "ulfm_wait" else "ulfm_member"
-        known |= {(owner, call) for it in sources for call in PUBLIC.findall(read(f"crates/{crate}/src/{it}.rt"))}
+        known |= {(owner, call) for it in sources for call in PUBLIC.findall(read(f"crates/{it}.rt"))}
     if shown - known:
         print(f"{name} has calls that the library hasn't: {sorted(shown - known)}")
     return bool(shown) and shown <= known

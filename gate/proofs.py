@@ -8,6 +8,7 @@ are run beside it, by the toolchain's checked build, and aren't proved. With --a
 
 The programs and the archive for C that were proved and built stay in the repository's out/.
 """
+import filecmp
 import os
 import shutil
 import subprocess
@@ -15,6 +16,7 @@ import sys
 import tempfile
 import threading
 import time
+from concurrent.futures import ThreadPoolExecutor
 
 sys.dont_write_bytecode = True
 import archive
@@ -46,6 +48,18 @@ class Proofs:
             it.write("".join(f"{self.crates.by_name[name].line}\n" for name in self.proved))
         if os.path.isfile(f"{self.crates.root}/HANDLES"):
             shutil.copy(f"{self.crates.root}/HANDLES", copy)
+
+    def moved(self, copy):
+        """The files that the toolchain lays out otherwise, for which its gate would refuse their crate when its turn comes. It lays out the copy, whose files
+        are then as they were."""
+        with ThreadPoolExecutor(processors()) as pool:
+            list(pool.map(lambda name: run(["rt", "fmt"], f"{copy}/crates/{name}"), self.proved))
+        found = []
+        for name in self.proved:
+            for at, _, files in os.walk(f"{copy}/crates/{name}"):
+                here = at.replace(f"{copy}/crates", f"{self.crates.root}/crates", 1)
+                found += [f"{here}/{it}" for it in files if it.endswith((".rt", ".antt")) and not filecmp.cmp(f"{at}/{it}", f"{here}/{it}", shallow=False)]
+        return sorted(os.path.relpath(it, self.crates.root) for it in found)
 
     def prove(self, copy):
         """Runs the toolchain's gate on the copy, with a line of its own behind each crate that is done. Gives how many passed and failed."""
@@ -99,7 +113,10 @@ class Proofs:
         try:
             with tempfile.TemporaryDirectory(prefix="ulfm-proofs-") as copy:
                 self.lay(copy)
-                passed, failed = self.prove(copy)
+                moved = self.moved(copy)
+                for file in moved:
+                    print(f"proofs: {file} isn't in the layout: run rt fmt in its crate", flush=True)
+                passed, failed = (0, len(moved)) if moved else self.prove(copy)
                 if not failed:
                     self.keep_programs(copy)
                     failed += not archive.keep_of(copy, self.crates)
