@@ -13,7 +13,7 @@ import time
 
 sys.dont_write_bytecode = True
 from crates import Crates
-from lanes import Task, in_lanes, minutes_left
+from lanes import Task, has_room, in_lanes, minutes_left
 from rooms import LEFT_OUT, Room, end_at_a_signal
 
 HERE = os.path.dirname(os.path.dirname(os.path.abspath(__file__)))
@@ -93,7 +93,8 @@ class Build:
         with open(f"{self.crates.folder(name)}/out/build.log", "w", encoding="utf-8") as it:
             it.write(said)
         if status:
-            self.failed.append(name)
+            if has_room():
+                self.failed.append(name)
             return False
         with open(self.mark(name), "w", encoding="utf-8") as it:
             it.write(made)
@@ -145,6 +146,8 @@ def main():
         with open(f"{HERE}/{log}", encoding="utf-8") as it:
             print("".join(it.readlines()[-20:]), end="", file=sys.stderr)
         say(f"{name} could not be proved and built: {log} has all that rt said")
+    if lost and not build.failed:
+        say("the disk is full: what was proved is kept, and the next build goes on with the others")
     if build.failed or lost:
         sys.exit(3)
     with open(f"{crates.folder(PROGRAM)}/out/built", "w", encoding="utf-8") as it:

@@ -26,7 +26,7 @@ sys.dont_write_bytecode = True
 import said
 from build import Build, sum_of
 from crates import Crates, read
-from lanes import Task, in_lanes, minutes_left
+from lanes import Task, has_room, in_lanes, minutes_left
 from rooms import Room, end_all, end_at_a_signal
 from turned import edited, edits_of, strays_of
 
@@ -80,7 +80,7 @@ def write(file, text):
 
 
 class Over(Exception):
-    """The time is over."""
+    """The time is over, or the disk is full."""
 
 
 class Trial:
@@ -131,8 +131,7 @@ class Trial:
         status, output = room.run("check", *self.flags)
         for path in texts:
             room.write(path, read(f"{self.run.crates.folder(self.name)}/{path}"))
-        if self.run.is_over():
-            raise Over()
+        self.run.end_where_over()
         return status, output
 
     def in_groups(self, room):
@@ -176,8 +175,7 @@ class Trial:
         os.makedirs(f"{room.folder}/must-fail")
         room.write(f"must-fail/{edit.name}", edit.text)
         _, output = room.run("must-fail", self.name)
-        if self.run.is_over():
-            raise Over()
+        self.run.end_where_over()
         os.remove(f"{room.folder}/must-fail/{edit.name}")
         os.rmdir(f"{room.folder}/must-fail")
         is_refused, text = said.of_edit(self.name, edit.name, output)
@@ -228,6 +226,11 @@ class Run:
     def end(self):
         self.over = True
         end_all()
+
+    def end_where_over(self):
+        """Where the time is over or the disk is full, what was said of an edit just now says nothing of it."""
+        if self.over or not has_room():
+            raise Over()
 
     def places(self):
         """The place of each crate whose edits are to be tried: what has changed, and then an order that the commit draws. Where time has
@@ -296,7 +299,11 @@ class Run:
               f"{count(lambda it: it.groups)} groups, {count(lambda it: it.alone)} alone")
         if left:
             print(f"edits: not reached: {', '.join(f'{it.name} ({len(it.left())} of {len(it.edits)})' for it in left)}")
-        failed = count(lambda it: len(it.failed)) + len(lost)
+        # (nothing else ends a run before its time)
+        is_full = bool(left) and not self.over and not lost
+        if is_full:
+            print("edits: the disk was full")
+        failed = count(lambda it: len(it.failed)) + len(lost) + (is_full and not self.minutes)
         if not failed and not left and not git(self.crates.root, "status", "--porcelain") and self.commit:
             self.known.passed(self.commit)
         return count(lambda it: len(it.refused)), failed

@@ -116,9 +116,9 @@ def expect(holds, why, printed):
         sys.exit(f"gate_test: {why}\n{printed}")
 
 
-def run(root, *words, path=None):
+def run(root, *words, path=None, **more):
     """Runs a part of the gate at the root. Gives its status and what it printed."""
-    surroundings = {**os.environ, "XDG_CACHE_HOME": f"{root}/kept", "PATH": f"{path or HERE}:{os.environ['PATH']}"}
+    surroundings = {**os.environ, "XDG_CACHE_HOME": f"{root}/kept", "PATH": f"{path or HERE}:{os.environ['PATH']}", **more}
     ran = subprocess.run([sys.executable, *words], cwd=root, stdout=subprocess.PIPE, stderr=subprocess.STDOUT, text=True, env=surroundings)
     return ran.returncode, ran.stdout
 
@@ -150,10 +150,13 @@ def tests_proofs(root):
 
 
 def tests_edits(root):
-    """Each edit is told as it must be; what was refused is known then; nothing is told of what time doesn't reach."""
+    """Each edit is told as it must be; what was refused is known then; nothing is told of what time doesn't reach, or the disk has no room for."""
     names = list(EDITS)
     status, printed = run(root, f"{HERE}/edits.py", "--minutes", "0.001", "together", "blamed")
     expect(status == 0 and "not reached: " in printed and printed.splitlines()[-1] == "0 passed, 0 failed", "edits are told of that time didn't reach", printed)
+    for words, counts in ([], "0 passed, 1 failed"), (["--minutes", "5"], "0 passed, 0 failed"):
+        status, printed = run(root, f"{HERE}/edits.py", *words, "together", ULFM_GATE_ROOM=str(10**18))
+        expect("edits: the disk was full" in printed.splitlines() and printed.splitlines()[-1] == counts, "it isn't told that the disk was full", printed)
     status, printed = run(root, f"{HERE}/edits.py", *names)
     expect(status == 1, "edits that aren't refused pass", printed)
     expect_edits(EDITS, printed)

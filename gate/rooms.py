@@ -26,6 +26,14 @@ class Room:
         self.folder = f"{self.root}/crates/{name}"
 
     def __enter__(self):
+        try:
+            self.lay()
+        except BaseException:
+            self.__exit__()
+            raise
+        return self
+
+    def lay(self):
         below = self.crates.below(self.name)
         with open(f"{self.root}/crates.txt", "w", encoding="utf-8") as it:
             it.write("".join(f"{self.crates.by_name[name].line}\n" for name in [*below, self.name]))
@@ -37,7 +45,6 @@ class Room:
             move(f"{self.crates.folder(self.name)}/out", f"{self.folder}/out")
         else:
             copy_tree(f"{self.crates.folder(self.name)}/out", f"{self.folder}/out", "-a")
-        return self
 
     def __exit__(self, *_):
         if self.takes:
