@@ -24,10 +24,9 @@ void replica_close(struct replica *replica)
 
 /* ---- entries ---- */
 
-static int feed_one(struct replica *replica, const ulfm_entry *entry)
+int replica_feed(struct replica *replica, const ulfm_entry *entry, uint32_t *fed)
 {
-    uint32_t fed;
-    int code = ulfm_feed(&replica->rank, replica->fed, entry, &fed);
+    int code = ulfm_feed(&replica->rank, replica->fed, entry, fed);
     if (code != ULFM_SUCCESS)
         return code;
     for (size_t at = 0; at < sizeof entry->bytes; at++)
@@ -45,6 +44,7 @@ static int feed(struct replica *replica, int64_t milliseconds, size_t *came)
     ulfm_entry entries[ROOM];
     int code = LOG_OK, wait = milliseconds < 0 ? 0 : milliseconds > PART ? PART : (int)milliseconds;
     size_t count = 1;
+    uint32_t fed;
     *came = 0;
     for (int left = PARTS; code == LOG_OK && count > 0 && left > 0; left--) {
         replica->deliveries++;
@@ -52,7 +52,7 @@ static int feed(struct replica *replica, int64_t milliseconds, size_t *came)
         if (code == LOG_AWAY)
             log_sleep(wait < AWAY ? wait : AWAY);
         for (size_t at = 0; code == LOG_OK && at < count; at++, ++*came)
-            code = feed_one(replica, &entries[at]);
+            code = replica_feed(replica, &entries[at], &fed);
     }
     return code;
 }

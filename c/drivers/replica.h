@@ -45,6 +45,9 @@ int replica_wait(struct replica *replica, uint16_t comm, ulfm_reply *reply);
 /* Goes on with the call that is under way until it is answered. */
 int replica_run(struct replica *replica, ulfm_reply *reply);
 
+/* Feeds the log's next entry, as ulfm_feed, and counts it into the digest: for those who read the log themselves. */
+int replica_feed(struct replica *replica, const ulfm_entry *entry, uint32_t *fed);
+
 /* Appends an entry, again and again, until it was fed. */
 int replica_append(struct replica *replica, const ulfm_entry *entry);
 

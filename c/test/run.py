@@ -94,6 +94,13 @@ def programs_run():
             runs(f"valgrind of {name}", ["valgrind", "-q", "--leak-check=full", "--show-leak-kinds=all", "--errors-for-leak-kinds=all", "--error-exitcode=9", f"out/{name}"])
 
 
+def replicas_run_at_random():
+    """And once more with two entries fed in the wrong order, which has to be found."""
+    print(runs("random runs of replicas", ["out/random_replicas", os.environ.get("RANDOM_RUNS", "2000"), "1"]), end="")
+    status, said = ran(["out/random_replicas", "400", "1", "swapped"])
+    passed("swapped entries are found", status == 1 and "with two entries swapped" in said, said)
+
+
 def stores_are_shared():
     """Over a log in a file; servers of stores aren't asked for here."""
     counts("store", ["test/store.py", "short"])
@@ -138,6 +145,7 @@ def main():
     counts("scripts through replicas", ["test/scripts.py", "--replicas"])
     programs_run()
     processes_are_killed()
+    replicas_run_at_random()
     stores_are_shared()
     with tempfile.TemporaryDirectory(prefix="ulfm-c-") as folder:
         header_compiles(folder)
