@@ -4,10 +4,13 @@
 #include <string.h>
 
 /* Milliseconds: after which an entry is appended again that the log doesn't show; between two tries while the store is away; how long each
- * rank leaves it to those before it to append what all would append; the longest wait within a delivery. */
-enum { AGAIN = 1000, AWAY = 50, TURN = 20, PART = 500 };
+ * rank leaves it to those before it to append what all would append; after which a poll comes anyway; the longest wait within a delivery. */
+enum { AGAIN = 1000, AWAY = 50, TURN = 20, ANYWAY = 100, PART = 500 };
 /* How many entries are delivered at once, and how often without a poll in between. */
 enum { ROOM = 256, PARTS = 64 };
+
+/* Kinds of entries. */
+enum { AN_AGREE = 2, A_SHRINK = 3, A_MARK = 4, A_COMMUNICATOR = 7 };
 
 static const uint64_t NO_DIGEST = 14695981039346656037u, PRIME = 1099511628211u;
 
@@ -24,11 +27,21 @@ void replica_close(struct replica *replica)
 
 /* ---- entries ---- */
 
+static void count_event(struct replica *replica, const unsigned char *bytes)
+{
+    bool is_contribution = bytes[0] == AN_AGREE || bytes[0] == A_SHRINK;
+    if (is_contribution || bytes[0] == A_MARK)
+        replica->settled[(bytes[4] | bytes[5] << 8) % ULFM_MAX_COMMS]++;
+    replica->events += !is_contribution;
+}
+
 int replica_feed(struct replica *replica, const ulfm_entry *entry, uint32_t *fed)
 {
     int code = ulfm_feed(&replica->rank, replica->fed, entry, fed);
     if (code != ULFM_SUCCESS)
         return code;
+    if (*fed != ULFM_LEFT_OUT)
+        count_event(replica, entry->bytes);
     for (size_t at = 0; at < sizeof entry->bytes; at++)
         replica->digest = (replica->digest ^ entry->bytes[at]) * PRIME;
     replica->marks[++replica->fed % REPLICA_MARKS] = replica->digest;
@@ -37,16 +50,15 @@ int replica_feed(struct replica *replica, const ulfm_entry *entry, uint32_t *fed
     return ULFM_SUCCESS;
 }
 
-/* Feeds what the log has behind what was fed, and waits so long for it. `came` is how many. What follows at once is fed too, since a poll between
- * any two entries would cost more than they. A store that is away is left alone a little. */
+/* Feeds what the log has behind what was fed, and waits so long for it. `came` is how many. A store that is away is left alone a little. */
 static int feed(struct replica *replica, int64_t milliseconds, size_t *came)
 {
     ulfm_entry entries[ROOM];
     int code = LOG_OK, wait = milliseconds < 0 ? 0 : milliseconds > PART ? PART : (int)milliseconds;
-    size_t count = 1;
+    size_t count = ROOM;
     uint32_t fed;
     *came = 0;
-    for (int left = PARTS; code == LOG_OK && count > 0 && left > 0; left--) {
+    for (int left = PARTS; code == LOG_OK && count == ROOM && left > 0; left--) {
         replica->deliveries++;
         code = replica->log->deliver(replica->log, replica->fed, entries, ROOM, &count, *came == 0 ? wait : 0);
         if (code == LOG_AWAY)
@@ -61,7 +73,6 @@ static int feed(struct replica *replica, int64_t milliseconds, size_t *came)
  * does so at once, and the others only where it is late. Any other order were as right; this one saves appends. */
 static int64_t turn(struct replica *replica, const ulfm_entry *entry)
 {
-    enum { A_MARK = 4, A_COMMUNICATOR = 7 };
     uint16_t failed[ULFM_MAX_RANKS];
     size_t count = 0;
     if (entry->bytes[0] != A_MARK && entry->bytes[0] != A_COMMUNICATOR)
@@ -132,21 +143,37 @@ int replica_run(struct replica *replica, ulfm_reply *reply)
     return run_until(replica, reply, end_of(replica));
 }
 
-/* Goes on with what is under way, a start or a poll, and polls until it is answered: again whenever an entry was fed since the last poll began,
- * since a poll doesn't see the failures that come behind its own look. */
+/* What has to change before a poll that was pending may be answered: a round of the communicator is complete, or something else than a
+ * contribution was taken, as a declaration, which a poll doesn't see that began before it. */
+static uint64_t seen_of(struct replica *replica, uint16_t comm)
+{
+    uint16_t none[1];
+    size_t members = 1;
+    if (ulfm_members(&replica->rank, comm, none, 0, &members) != ULFM_SUCCESS || members == 0)
+        return replica->fed;
+    return replica->settled[comm % ULFM_MAX_COMMS] / members + replica->events;
+}
+
+/* Goes on with what is under way, a start or a poll, and polls until it is answered: again once there is a reason for it, and now and then whenever
+ * anything was fed, since forged contributions that are out of order make rounds be counted wrongly. */
 static int wait_until(struct replica *replica, uint16_t comm, ulfm_reply *reply, int64_t end)
 {
     for (;;) {
-        uint64_t looked = replica->fed;
+        uint64_t looked = replica->fed, seen = seen_of(replica, comm);
+        int64_t anyway = log_now() + ANYWAY;
         int begun = ulfm_begin_poll(&replica->rank, comm);
         int code = begun == ULFM_SUCCESS || begun == ULFM_ERR_CALL ? run_until(replica, reply, end) : begun;
         if (code != ULFM_SUCCESS || reply->kind != ULFM_PENDING)
             return code;
         /* behind a start that is answered the first poll comes at once */
-        for (size_t came = begun == ULFM_ERR_CALL; came == 0 && replica->fed == looked;) {
-            if (log_now() >= end)
+        bool is_due = begun == ULFM_ERR_CALL;
+        while (!is_due && seen_of(replica, comm) == seen) {
+            int64_t now = log_now(), until = replica->fed != looked && anyway < end ? anyway : end;
+            size_t came;
+            if (now >= end)
                 return ULFM_ERR_PENDING;
-            code = feed(replica, end - log_now(), &came);
+            is_due = now >= until;
+            code = feed(replica, until - now, &came);
             if (code != LOG_OK && code != LOG_AWAY)
                 return code;
         }

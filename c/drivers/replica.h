@@ -19,6 +19,7 @@ struct replica {
     uint64_t marks[REPLICA_MARKS]; /* the digest behind each of the last entries, by their number */
     uint64_t appends, deliveries; /* what the store was asked */
     const ulfm_entry *sought;     /* an entry that is waited for, until it was fed */
+    uint64_t settled[ULFM_MAX_COMMS], events; /* of what was taken, a communicator's contributions and marks, and all but contributions */
 };
 
 /* Opens rank `number`. Nothing of the log is fed; the first call feeds all that it has. */
