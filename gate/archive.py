@@ -4,14 +4,13 @@
     gate/archive.py      proves and builds it with the crates below it, as many at once as there are processors
 """
 import os
-import shutil
 import sys
 
 sys.dont_write_bytecode = True
 from build import HERE, Build, say, sum_of
 from crates import Crates
 from lanes import in_lanes, minutes_left
-from rooms import end_at_a_signal, run
+from rooms import end_at_a_signal
 
 NAME = "ulfm_c"
 FILE = f"lib{NAME}.a"
@@ -39,26 +38,10 @@ def note(crates):
         it.write(sum_of(crates, NAME))
 
 
-def keep_of(copy, crates):
-    """Makes the archive in a copy of the crates whose libraries are proved and built, and keeps it. Whether there is such a crate, and it was
-    made, or there is none."""
-    if NAME not in crates.by_name:
-        return True
-    status, said = run(["rt", "lib"], f"{copy}/crates/{NAME}")
-    made = f"{copy}/crates/{NAME}/out/{FILE}"
-    if status or not os.path.isfile(made):
-        print(said, end="", flush=True)
-        return False
-    os.makedirs(os.path.dirname(path(crates)), exist_ok=True)
-    shutil.copy(made, f"{path(crates)}.new")
-    os.replace(f"{path(crates)}.new", path(crates))
-    note(crates)
-    return True
-
-
 def make(crates):
-    """Proves and builds it with the crates below, as many at once as there are processors, and goes on from what was built. Whether it is there."""
-    if is_kept(crates):
+    """Proves and builds it with the crates below, as many at once as there are processors, and goes on from what was built. Whether it is there, or there
+    is no such crate."""
+    if NAME not in crates.by_name or is_kept(crates):
         return True
     build = Build(crates, [NAME])
     tasks, told = build.tasks(), []
