@@ -2,53 +2,20 @@
 #include "replica.h"
 
 #include <string.h>
+#include <time.h>
 
 /* Milliseconds: after which an entry is appended again that the log doesn't show; between two tries while the store is away; how long each
  * rank leaves it to those before it to append what all would append; after which a poll comes anyway; the longest wait within a delivery. */
 enum { AGAIN = 1000, AWAY = 50, TURN = 20, ANYWAY = 100, PART = 500 };
+/* Nanoseconds of rest for each member that is missing, of so many at most. */
+enum { REST = 8000, RESTS = 64 };
 /* How many entries are delivered at once, and how often without a poll in between. */
 enum { ROOM = 256, PARTS = 64 };
 
 /* Kinds of entries. */
-enum { AN_AGREE = 2, A_SHRINK = 3, A_MARK = 4, A_COMMUNICATOR = 7 };
-
-static const uint64_t NO_DIGEST = 14695981039346656037u, PRIME = 1099511628211u;
-
-int replica_open(struct replica *replica, struct log *log, uint16_t number, struct log_world world)
-{
-    *replica = (struct replica){.rank = ULFM_HANDLE_NULL, .log = log, .number = number, .digest = NO_DIGEST, .marks = {NO_DIGEST}};
-    return ulfm_open_replica(&replica->rank, number, world.ranks, world.comms, world.rounds);
-}
-
-void replica_close(struct replica *replica)
-{
-    ulfm_close(&replica->rank);
-}
+enum { A_MARK = 4, A_COMMUNICATOR = 7 };
 
 /* ---- entries ---- */
-
-static void count_event(struct replica *replica, const unsigned char *bytes)
-{
-    bool is_contribution = bytes[0] == AN_AGREE || bytes[0] == A_SHRINK;
-    if (is_contribution || bytes[0] == A_MARK)
-        replica->settled[(bytes[4] | bytes[5] << 8) % ULFM_MAX_COMMS]++;
-    replica->events += !is_contribution;
-}
-
-int replica_feed(struct replica *replica, const ulfm_entry *entry, uint32_t *fed)
-{
-    int code = ulfm_feed(&replica->rank, replica->fed, entry, fed);
-    if (code != ULFM_SUCCESS)
-        return code;
-    if (*fed != ULFM_LEFT_OUT)
-        count_event(replica, entry->bytes);
-    for (size_t at = 0; at < sizeof entry->bytes; at++)
-        replica->digest = (replica->digest ^ entry->bytes[at]) * PRIME;
-    replica->marks[++replica->fed % REPLICA_MARKS] = replica->digest;
-    if (replica->sought != NULL && memcmp(replica->sought, entry, sizeof *entry) == 0)
-        replica->sought = NULL;
-    return ULFM_SUCCESS;
-}
 
 /* Feeds what the log has behind what was fed, and waits so long for it. `came` is how many. A store that is away is left alone a little. */
 static int feed(struct replica *replica, int64_t milliseconds, size_t *came)
@@ -143,23 +110,34 @@ int replica_run(struct replica *replica, ulfm_reply *reply)
     return run_until(replica, reply, end_of(replica));
 }
 
-/* What has to change before a poll that was pending may be answered: a round of the communicator is complete, or something else than a
- * contribution was taken, as a declaration, which a poll doesn't see that began before it. */
-static uint64_t seen_of(struct replica *replica, uint16_t comm)
+/* How many members a communicator has. */
+static size_t size_of(struct replica *replica, uint16_t comm)
 {
     uint16_t none[1];
-    size_t members = 1;
-    if (ulfm_members(&replica->rank, comm, none, 0, &members) != ULFM_SUCCESS || members == 0)
-        return replica->fed;
-    return replica->settled[comm % ULFM_MAX_COMMS] / members + replica->events;
+    size_t size = 0;
+    return ulfm_members(&replica->rank, comm, none, 0, &size) == ULFM_SUCCESS && size > 0 ? size : 1;
+}
+
+/* What has to change before a poll that was pending may be answered: a round of the communicator is complete, or something else than a
+ * contribution was taken, as a declaration, which a poll doesn't see that began before it. */
+static uint64_t seen_of(const struct replica *replica, uint16_t comm, size_t size)
+{
+    return replica->settled[comm % ULFM_MAX_COMMS] / size + replica->events;
+}
+
+/* Lets contributions gather while many are missing: to fetch them one by one costs more than all else. */
+static void rest(const struct replica *replica, uint16_t comm, size_t size)
+{
+    size_t missing = size - replica->settled[comm % ULFM_MAX_COMMS] % size;
+    nanosleep(&(struct timespec){0, REST * (long)(missing < RESTS ? missing : RESTS)}, NULL);
 }
 
 /* Goes on with what is under way, a start or a poll, and polls until it is answered: again once there is a reason for it, and now and then whenever
  * anything was fed, since forged contributions that are out of order make rounds be counted wrongly. */
 static int wait_until(struct replica *replica, uint16_t comm, ulfm_reply *reply, int64_t end)
 {
-    for (;;) {
-        uint64_t looked = replica->fed, seen = seen_of(replica, comm);
+    for (size_t size = size_of(replica, comm);;) {
+        uint64_t looked = replica->fed, seen = seen_of(replica, comm, size);
         int64_t anyway = log_now() + ANYWAY;
         int begun = ulfm_begin_poll(&replica->rank, comm);
         int code = begun == ULFM_SUCCESS || begun == ULFM_ERR_CALL ? run_until(replica, reply, end) : begun;
@@ -167,12 +145,13 @@ static int wait_until(struct replica *replica, uint16_t comm, ulfm_reply *reply,
             return code;
         /* behind a start that is answered the first poll comes at once */
         bool is_due = begun == ULFM_ERR_CALL;
-        while (!is_due && seen_of(replica, comm) == seen) {
+        while (!is_due && seen_of(replica, comm, size) == seen) {
             int64_t now = log_now(), until = replica->fed != looked && anyway < end ? anyway : end;
             size_t came;
             if (now >= end)
                 return ULFM_ERR_PENDING;
             is_due = now >= until;
+            rest(replica, comm, size);
             code = feed(replica, until - now, &came);
             if (code != LOG_OK && code != LOG_AWAY)
                 return code;

@@ -1,5 +1,48 @@
-/* Calls of a replica that wait, over its loop; and the comparing of logs. */
+/* Replicas: opened and fed; calls of theirs that wait, over their loop; and the comparing of logs. */
 #include "replica.h"
+
+#include <string.h>
+
+/* Kinds of entries. */
+enum { AN_AGREE = 2, A_SHRINK = 3, A_MARK = 4 };
+
+static const uint64_t NO_DIGEST = 14695981039346656037u, PRIME = 1099511628211u;
+
+int replica_open(struct replica *replica, struct log *log, uint16_t number, struct log_world world)
+{
+    *replica = (struct replica){.rank = ULFM_HANDLE_NULL, .log = log, .number = number, .digest = NO_DIGEST, .marks = {NO_DIGEST}};
+    return ulfm_open_replica(&replica->rank, number, world.ranks, world.comms, world.rounds);
+}
+
+void replica_close(struct replica *replica)
+{
+    ulfm_close(&replica->rank);
+}
+
+static void count_event(struct replica *replica, const unsigned char *bytes)
+{
+    bool is_contribution = bytes[0] == AN_AGREE || bytes[0] == A_SHRINK;
+    if (is_contribution || bytes[0] == A_MARK)
+        replica->settled[(bytes[4] | bytes[5] << 8) % ULFM_MAX_COMMS]++;
+    replica->events += !is_contribution;
+}
+
+int replica_feed(struct replica *replica, const ulfm_entry *entry, uint32_t *fed)
+{
+    int code = ulfm_feed(&replica->rank, replica->fed, entry, fed);
+    if (code != ULFM_SUCCESS)
+        return code;
+    if (*fed != ULFM_LEFT_OUT)
+        count_event(replica, entry->bytes);
+    for (size_t at = 0; at < sizeof entry->bytes; at++)
+        replica->digest = (replica->digest ^ entry->bytes[at]) * PRIME;
+    replica->marks[++replica->fed % REPLICA_MARKS] = replica->digest;
+    if (replica->sought != NULL && memcmp(replica->sought, entry, sizeof *entry) == 0)
+        replica->sought = NULL;
+    return ULFM_SUCCESS;
+}
+
+/* ---- calls ---- */
 
 /* A request whose start was begun so, to its reply. */
 static int request(struct replica *replica, int begun, uint16_t comm, ulfm_reply *reply)
