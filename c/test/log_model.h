@@ -6,6 +6,7 @@
 
 #include "ulfm.h"
 
+#include <stdio.h>
 #include <string.h>
 
 enum { MODEL_RANKS = 8, MODEL_COMMS = 4, MODEL_ROUNDS = 12 };
@@ -225,6 +226,16 @@ static inline bool model_take(struct model *model, const ulfm_entry *entry)
     }
     model->length++;
     return is_taken;
+}
+
+/* The line of a decision, as `ulfm replay` prints it. */
+static inline void say_decided(FILE *file, unsigned comm, unsigned round, const struct decision *it)
+{
+    static const char *const about[] = {" nobody", " flag ", " ctx ", " mismatch"};
+    fprintf(file, "decided %u %u%s", comm, round, about[it->about]);
+    if (it->about == FLAGS || it->about == CONTEXTS)
+        fprintf(file, it->bits >> 32 != 0 ? "%016llx" : "%08llx", (unsigned long long)it->bits);
+    fprintf(file, " failed %u %s\n", it->failed, it->raised ? "raised" : "clean");
 }
 
 #endif

@@ -7,7 +7,8 @@
  * others were answered. In some runs the log forks at a moment, and a part of the replicas reads on in the other one.
  *
  *     random_replicas RUNS SEED            the first wrong run ends it, and is named by its seed
- *     random_replicas RUNS SEED swapped    one replica of each run is fed two entries in the wrong order: counts the runs that are found wrong */
+ *     random_replicas RUNS SEED swapped    one replica of each run is fed two entries in the wrong order: counts the runs that are found wrong
+ *     random_replicas RUNS SEED FOLDER     keeps each run's log there, by its seed, and beside it what `ulfm replay` has to say of it */
 #include "drivers/replica.h"
 #include "log_model.h"
 
@@ -614,6 +615,40 @@ static void compare_digests(void)
         }
 }
 
+static FILE *opened(const char *folder, uint64_t seed, const char *end)
+{
+    char name[512];
+    snprintf(name, sizeof name, "%s/%llu.%s", folder, (unsigned long long)seed, end);
+    FILE *file = fopen(name, "wb");
+    if (file == NULL)
+        perror(name), exit(2);
+    return file;
+}
+
+/* Keeps the first log of a run, and what the model decides behind which entry. */
+static void keep_log(const char *folder, uint64_t seed)
+{
+    const struct stored *log = &run.stores[0];
+    FILE *kept = opened(folder, seed, "log"), *said = opened(folder, seed, "said");
+    unsigned char head[LOG_HEAD];
+    uint64_t taken = 0;
+    log_head((struct log_world){(uint16_t)run.ranks, (uint16_t)run.comms, (uint16_t)run.rounds}, head);
+    fwrite(head, sizeof head, 1, kept);
+    fwrite(log->entries, sizeof *log->entries, log->length, kept);
+    for (uint64_t at = 0; at < log->length; at++) {
+        struct fields it = fields_of(&log->entries[at]);
+        taken += log->taken[at];
+        if (!log->taken[at] || it.kind < AN_AGREE || it.kind > A_MARK)
+            continue;
+        struct decision decision = decided(&log->model, it.comm, it.round);
+        if (decision.at == at)
+            say_decided(said, it.comm, it.round, &decision);
+    }
+    fprintf(said, "entries %llu taken %llu\n", (unsigned long long)log->length, (unsigned long long)taken);
+    fclose(kept);
+    fclose(said);
+}
+
 static void end_run(void)
 {
     /* some read on, and others don't */
@@ -650,14 +685,16 @@ static void tell(void)
 int main(int words, char **word)
 {
     enum { ENOUGH = 400 };
-    if (words < 3 || words > 4 || (words == 4 && strcmp(word[3], "swapped") != 0))
-        return fprintf(stderr, "usage: random_replicas RUNS SEED [swapped]\n"), 2;
-    is_swapping = words == 4;
+    if (words < 3 || words > 4)
+        return fprintf(stderr, "usage: random_replicas RUNS SEED [swapped | FOLDER]\n"), 2;
+    is_swapping = words == 4 && strcmp(word[3], "swapped") == 0;
     uint64_t runs = strtoull(word[1], NULL, 10), seed = strtoull(word[2], NULL, 10);
     for (uint64_t at = 0; at < runs && (is_swapping || all.wrong == 0); at++) {
         begin_run(seed + at);
         go();
         end_run();
+        if (words == 4 && !is_swapping)
+            keep_log(word[3], seed + at);
         if (run.wrong != NULL && !is_swapping)
             printf("the run of seed %llu is wrong, at turn %llu: %s\n", (unsigned long long)(seed + at), (unsigned long long)run.turn, run.wrong);
     }

@@ -101,6 +101,20 @@ def replicas_run_at_random():
     passed("swapped entries are found", status == 1 and "with two entries swapped" in said, said)
 
 
+def random_logs_are_replayed():
+    """What the model in C decides of random logs is what the proved program prints of them, where that is built."""
+    program = os.path.join(TOP, "crates/ulfm/out/ulfm")
+    if not os.path.exists(program):
+        print(f"random logs are left out: {program} isn't built")
+        return
+    with tempfile.TemporaryDirectory(prefix="ulfm-logs-") as folder:
+        runs("random runs whose logs are kept", ["out/random_replicas", "200", "50001", folder])
+        for kept in sorted(glob.glob(f"{folder}/*.log")):
+            with open(kept, "rb") as log, open(f"{kept.removesuffix('log')}said", encoding="utf-8") as said:
+                found = subprocess.run([program, "replay"], stdin=log, capture_output=True, text=True).stdout.splitlines()
+                passed(f"replay of {os.path.basename(kept)}", [it for it in found if it.startswith(("decided", "entries"))] == said.read().splitlines())
+
+
 def stores_are_shared():
     """Over a log in a file; servers of stores aren't asked for here."""
     counts("store", ["test/store.py", "short"])
@@ -146,6 +160,7 @@ def main():
     programs_run()
     processes_are_killed()
     replicas_run_at_random()
+    random_logs_are_replayed()
     stores_are_shared()
     with tempfile.TemporaryDirectory(prefix="ulfm-c-") as folder:
         header_compiles(folder)
