@@ -7,7 +7,8 @@
  * Conventions, as in mpi.h: each call answers an int, 0 where it succeeded; what it tells is written through its last
  * parameters, and only where the answer is 0, unless the call's comment says otherwise. A call that answers a code from 1 to 6 or
  * 12 to 22 has started nothing and ended nothing: a request that was open is still open. Codes 7 to 11 come from a poll and end its
- * request. After 23 the replica serves for nothing more.
+ * request. A loop at the end of this file is a start and its polls: where a poll answers such a code, the start has been made. After
+ * 23 the replica, a rank whose world is replayed from a log (docs/STORE.md), serves for nothing more.
  *
  * PROVED, for each call that isn't marked "in C" and whose caller keeps the rules below: it is safe, it returns, and it makes no
  * more atomic steps than its comment says. What it answers is an answer of the specification at one point of one growing history
