@@ -7,8 +7,8 @@
 /* Milliseconds: after which an entry is appended again that the log doesn't show; between two tries while the store is away; how long each
  * rank leaves it to those before it to append what all would append; after which a poll comes anyway; the longest wait within a delivery. */
 enum { AGAIN = 1000, AWAY = 50, TURN = 20, ANYWAY = 100, PART = 500 };
-/* Nanoseconds of rest for each member that is missing, of so many at most. */
-enum { REST = 8000, RESTS = 64 };
+/* Nanoseconds of rest, times the square of how many members are missing, of so many at most. */
+enum { REST = 400, RESTS = 64 };
 /* How many entries are delivered at once, and how often without a poll in between. */
 enum { ROOM = 256, PARTS = 64 };
 
@@ -129,7 +129,8 @@ static uint64_t seen_of(const struct replica *replica, uint16_t comm, size_t siz
 static void rest(const struct replica *replica, uint16_t comm, size_t size)
 {
     size_t missing = size - replica->settled[comm % ULFM_MAX_COMMS] % size;
-    nanosleep(&(struct timespec){0, REST * (long)(missing < RESTS ? missing : RESTS)}, NULL);
+    long counted = (long)(missing < RESTS ? missing : RESTS);
+    nanosleep(&(struct timespec){0, REST * counted * counted}, NULL);
 }
 
 /* Goes on with what is under way, a start or a poll, and polls until it is answered: again once there is a reason for it, and now and then whenever
