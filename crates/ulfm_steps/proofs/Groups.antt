@@ -1,8 +1,8 @@
 -- Groups whose ranks rise: a rank is found in them by a binary search.
-use Rattle.std.proofs.Common.{◌≡◌, ◌⊎◌, inl, inr, ℕ, suc, ◌+◌, ◌<◌, ◌≤◌, ◌==◌, ◌||◌, Bool, true, false, not, List, [], ◌∷◌, length, get_or, reverse, nat_cmp, Option, Some, None, Result, Ok, Err, refl, sym, subst, arith, if◌then◌else◌}
+use Rattle.std.proofs.Common.{◌≡◌, ◌⊎◌, inl, inr, ℕ, zero, suc, ◌+◌, ◌-◌, ◌<◌, ◌≤◌, nat_le, ◌==◌, ◌||◌, Bool, true, false, not, List, [], ◌∷◌, length, get_or, reverse, nat_cmp, Option, Some, None, Result, Ok, Err, refl, sym, subst, ◌∙◌, arith, if◌then◌else◌}
 use Rattle.std.specs.Prelude.{is_ok}
 use Rattle.std.specs.List.Sorted.{IsBinarySearchResult, IsStrictlyIncreasing}
-use Rattle.std.proofs.lemmas.Bool.{eqb-true}
+use Rattle.std.proofs.lemmas.Bool.{cases_lt, eqb-true, le-leb, lt-leb}
 use Rattle.std.proofs.lemmas.List.Kept.{IsStrictlyIncreasing-filter}
 use Rattle.std.proofs.lemmas.List.Sorted.{searched}
 use Rattle.std.proofs.lemmas.Map.Keys.{below_from_sorted, sorted_from_strictly_increasing}
@@ -49,6 +49,43 @@ search_finds xs x (Err i) found rises = go (has xs x) refl
     go : (b : Bool) → has xs x ≡ b → false ≡ b
     go true e = let at = place_of xs x e in absurd (apart at.0 at.1 at.2 (either at.0 i))
     go false e = refl
+
+-- ranks that rise grow by one at least from each to the next
+rises_by : (xs : List ℕ) → IsStrictlyIncreasing xs → (i d : ℕ) → i + d < length xs → get_or xs i 0 + d ≤ get_or xs (i + d) 0
+rises_by xs rises i zero lt =
+    let same : i ≡ i + 0 = omega arith in
+    subst (λ n. get_or xs i 0 + 0 ≤ get_or xs n 0) same (omega arith)
+rises_by xs rises i (suc d) lt =
+    let rest = rises_by xs rises i d (omega (arith, lt)) in
+    let next : get_or xs (i + d) 0 < get_or xs (i + d + 1) 0 = rises (i + d) (omega (arith, lt)) in
+    let place : i + d + 1 ≡ i + suc d = omega arith in
+    subst (λ n. get_or xs i 0 + suc d ≤ get_or xs n 0) place (omega (arith, rest, next))
+
+-- so each stands at the place of its own number, where the last one does
+whole_at : (xs : List ℕ) (last : ℕ) → IsStrictlyIncreasing xs → get_or xs (length xs - 1) 0 ≡ last → last + 1 ≡ length xs → (i : ℕ) → i ≤ last → get_or xs i 0 ≡ i
+whole_at xs last rises end all i le =
+    let none : 0 + i ≡ i = omega arith in
+    let below = subst (λ n. get_or xs 0 0 + i ≤ get_or xs n 0) none (rises_by xs rises 0 i (omega (arith, all, le))) in
+    let place : i + (last - i) ≡ length xs - 1 = omega (arith, all, le) in
+    let most = subst (λ n. get_or xs i 0 + (last - i) ≤ get_or xs n 0) place (rises_by xs rises i (last - i) (omega (arith, all, le))) in
+    omega (arith, below, most, end, le)
+
+-- nobody was left out of a group whose ranks rise, where its last rank is its length less one: its members are the ranks up to that one
+pub whole_has : (xs : List ℕ) (last : ℕ) → IsStrictlyIncreasing xs → get_or xs (length xs - 1) 0 ≡ last → last + 1 ≡ length xs → (rank : ℕ) → has xs rank ≡ nat_le rank last
+whole_has xs last rises end all rank = go (cases_lt last rank)
+  where
+    out : last < rank → (b : Bool) → has xs rank ≡ b → b ≡ false
+    out beyond true e =
+        let at = place_of xs rank e in
+        let is = whole_at xs last rises end all at.0 (omega (arith, all, at.1)) in
+        absurd (omega (arith, beyond, all, at.1, at.2, is))
+    out beyond false e = refl
+
+    go : (last < rank) ⊎ (rank ≤ last) → has xs rank ≡ nat_le rank last
+    go (inl beyond) = out beyond (has xs rank) refl ∙ sym (lt-leb rank last beyond)
+    go (inr within) =
+        let is = whole_at xs last rises end all rank within in
+        subst (λ y. has xs y ≡ true) is (has_at xs rank 0 (omega (arith, all, within))) ∙ sym (le-leb rank last within)
 
 first_rise : (n : ℕ) → IsStrictlyIncreasing (first_ranks n)
 first_rise n k lt =

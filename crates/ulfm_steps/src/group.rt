@@ -1,5 +1,5 @@
 // Groups of ranks, and which of their members are declared.
-ghost use Rattle.std.specs.Prelude.{◌≡◌, ◌<◌, ◌≤◌, [], IfOk, OnErr, OnOk, filter, length, vec_capacity};
+ghost use Rattle.std.specs.Prelude.{◌≡◌, ◌<◌, ◌≤◌, ℕ, [], true, IfOk, IfSome, OnErr, OnOk, filter, length, nat_le, vec_capacity};
 ghost use Rattle.std.specs.List.Sorted.{IsStrictlyIncreasing};
 ghost use Rattle.ulfm_model.specs.History.{first_ranks as all_below, has, without};
 
@@ -38,12 +38,46 @@ pub fn first_ranks<A: Allocator + Copy>(alloc: A, ranks: u16) -> Result<Vec<u16,
     Ok(group)
 }
 
+// The last rank of a group whose ranks rise, where nobody was left out: its members are all ranks up to that one, and no others.
+fn last_of_all(group: &[u16]) -> Option<u16>
+    requires { IsStrictlyIncreasing group.now }
+    ensures { IfSome result (λ last. (rank : ℕ) → has group.now rank ≡ nat_le rank last) }
+{
+    if group.is_empty() {
+        return None;
+    }
+    let last = group[group.len() - 1];
+    if last as usize + 1 == group.len() {
+        Some(last)
+    } else {
+        None
+    }
+}
+
+// How many of so few ranks are at most this one. Each is compared and counted in as many bits as it has: such a loop runs over many
+// ranks at once.
+fn count_up_to(last: u16, ranks: &[u16]) -> u16
+    requires few { length ranks.now < 65536 }
+    ensures { result ≡ length (filter (λ rank. nat_le rank last) ranks.now) }
+{
+    let mut count = 0;
+    for rank in ranks {
+        count += u16::from(*rank <= last);
+    }
+    count
+}
+
 /// How many of these ranks are in the group, whose ranks rise.
 #[inline(never)]
 pub fn count_in(group: &[u16], ranks: &[u16]) -> usize
     requires { IsStrictlyIncreasing group.now }
     ensures { result ≡ length (filter (has group.now) ranks.now) }
 {
+    if ranks.len() <= u16::MAX as usize {
+        if let Some(last) = last_of_all(group) {
+            return count_up_to(last, ranks) as usize;
+        }
+    }
     ranks.iter().filter(|rank| is_member(group, **rank)).count()
 }
 
@@ -66,6 +100,14 @@ pub fn make_room<B: Allocator>(
     found.reserve(count.saturating_sub(found.len()))
 }
 
+// Whether nobody was left out of a group, whose ranks rise, and all of these ranks are in it.
+fn has_all(group: &[u16], ranks: &[u16]) -> bool
+    requires { IsStrictlyIncreasing group.now }
+    ensures { result ≡ true → filter (has group.now) ranks.now ≡ ranks.now }
+{
+    last_of_all(group).is_some() && count_in(group, ranks) == ranks.len()
+}
+
 /// Puts those of these ranks into a vector that are in the group, whose ranks rise, in their order. It has room for them.
 #[inline(never)]
 pub fn put_in<B: Allocator>(group: &[u16], ranks: &[u16], found: &mut Vec<u16, B>)
@@ -74,6 +116,10 @@ pub fn put_in<B: Allocator>(group: &[u16], ranks: &[u16], found: &mut Vec<u16, B
     requires room { length (filter (has group.now) ranks.now) ≤ vec_capacity found.old }
     ensures { found.new.items ≡ filter (has group.now) ranks.now }
 {
+    if has_all(group, ranks) {
+        let _ = found.extend_from_slice(ranks);
+        return;
+    }
     for rank in ranks {
         if is_member(group, *rank) {
             let _ = found.push(*rank);
