@@ -1,3 +1,4 @@
+pub mod Beginnings
 pub mod Calls
 pub mod EventLemmas
 pub mod FieldLemmas

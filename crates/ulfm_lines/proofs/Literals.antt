@@ -2,20 +2,12 @@
 use Rattle.std.proofs.Common.{◌≡◌, ◌≢◌, ℕ, List, [], ◌∷◌, Bool, true, false, ◌&&◌, refl, subst, arith}
 use Rattle.std.specs.{Prelude.{◌==◌, not}, List.{AllByRecursion}}
 use Rattle.ulfm_script.proofs.WordLemmas.{IsWord}
+use Rattle.ulfm_lines.specs.Fields.{has_no_space, is_word_text}
 
 -- both tests hold
 pub and_true : (a b : Bool) → (a && b) ≡ true → (a ≡ true) × (b ≡ true)
 and_true true b e = (refl, e)
 and_true false b e = absurd cc
-
--- whether a text is a word
-abbrev has_no_space : List ℕ → Bool
-has_no_space [] = true
-has_no_space (x ∷ xs) = not (x == 32) && has_no_space xs
-
-abbrev is_word_text : List ℕ → Bool
-is_word_text [] = false
-is_word_text (x ∷ xs) = has_no_space (x ∷ xs)
 
 no_space : (x : ℕ) → not (x == 32) ≡ true → x ≢ 32
 no_space x e k = let wrong : not (32 == 32) ≡ true = subst (λ (n : ℕ). not (n == 32) ≡ true) k e in cc

@@ -1,6 +1,6 @@
 -- Fields of a trace's line, read one after another. What is wrong with a line that is none of a trace is never told, so any fault stands for all.
 use denote.Ref.{Bor}
-use Rattle.std.specs.Prelude.{ℕ, List, codes, Bool, true, false, Option, Some, None, Result, Ok, Err, if◌then◌else◌}
+use Rattle.std.specs.Prelude.{ℕ, ◌==◌, ◌&&◌, not, List, [], ◌∷◌, codes, Bool, true, false, Option, Some, None, Result, Ok, Err, if◌then◌else◌}
 use Rattle.std.specs.Str.{bytes_eq}
 use Rattle.ulfm_laws.specs.declared.{ctx_mask.CtxMask.{CtxMask}, flag_and.FlagAnd.{FlagAnd}}
 use Rattle.ulfm_model.specs.declared.{contribution.Offer.{Offer}, contribution.Offer.TheVariants.{Flag, Ctx}, event.Caller.{Caller}}
@@ -56,6 +56,15 @@ read_caller word = if bytes_eq word (codes "-") then Ok Outside else (read_rank 
 
 unfoldable pub caller_field : Option (List ℕ) → Field Caller
 caller_field text = field_by read_caller text
+
+-- whether a text is a word: it isn't empty, and has no space
+abbrev pub has_no_space : List ℕ → Bool
+has_no_space [] = true
+has_no_space (x ∷ xs) = not (x == 32) && has_no_space xs
+
+abbrev pub is_word_text : List ℕ → Bool
+is_word_text [] = false
+is_word_text (x ∷ xs) = has_no_space (x ∷ xs)
 
 -- this word
 abbrev pub is_word : List ℕ → List ℕ → Result (Unit {0}) LineKind

@@ -4,32 +4,32 @@ ghost use Rattle.ulfm_script.specs.Words.{rest_at};
 ghost use Rattle.ulfm_lines.specs.EventReading.{arrive_event, event_of, read_fail, mark_event, marked, revoke_event, settle_event, settled, spawn_event};
 
 use crate::fields::{
-    comm_field, labelled, number_field, offer_field, over, place_field, rank_field,
+    behind, comm_field, labelled, number_field, offer_field, over, place_field, rank_field,
 };
 use ulfm_laws::{Acked, FlagAnd, Known};
 use ulfm_model::contribution::{Contribution, MarkCount, Offer};
 use ulfm_model::event::Event;
 use ulfm_script::LineKind;
-use ulfm_script::words::{is_word, next_word};
 
 /// An event, behind its caller; none where no contribution and no mark has its counts.
-#[tactic(auto, unfolding(crate::specs::EventReading::event_of))]
 pub(crate) fn read_event(text: Option<&[u8]>) -> Result<Option<Event<FlagAnd>>, LineKind>
     ensures { result ≡ event_of (rest_at text.entry) }
 {
-    let (verb, fields) = next_word(text)?;
-    if is_word(verb, b"fail") {
-        read_fail(fields)
-    } else if is_word(verb, b"settle") {
-        read_settle(fields)
-    } else if is_word(verb, b"mark") {
-        read_mark(fields)
-    } else if is_word(verb, b"arrive") {
-        read_arrive(fields)
-    } else if is_word(verb, b"revoke") {
-        read_revoke(fields)
-    } else if is_word(verb, b"spawn") {
-        read_spawn(fields)
+    let Some(text) = text else {
+        return Err(LineKind::Words);
+    };
+    if let Some(fields) = behind(b"settle ", text) {
+        read_settle(Some(fields))
+    } else if let Some(fields) = behind(b"arrive ", text) {
+        read_arrive(Some(fields))
+    } else if let Some(fields) = behind(b"mark ", text) {
+        read_mark(Some(fields))
+    } else if let Some(fields) = behind(b"fail ", text) {
+        read_fail(Some(fields))
+    } else if let Some(fields) = behind(b"revoke ", text) {
+        read_revoke(Some(fields))
+    } else if let Some(fields) = behind(b"spawn ", text) {
+        read_spawn(Some(fields))
     } else {
         Err(LineKind::Words)
     }

@@ -1,8 +1,8 @@
 //! The fields of a trace's line, read one after another, each with the text behind it.
-ghost use Rattle.std.specs.Prelude.{◌≡◌, ◌≤◌, ◌<◌, IfOk};
+ghost use Rattle.std.specs.Prelude.{◌≡◌, ◌≢◌, ◌≤◌, ◌<◌, ◌++◌, ◌∷◌, IfOk, IfSome, List, MatchOption, Some, true, ℕ};
 ghost use Rattle.ulfm_script.specs.Digits.{number_in, number_to};
 ghost use Rattle.ulfm_script.specs.Words.{Gives, rest_at};
-ghost use Rattle.ulfm_lines.specs.Fields.{at_field, field_by, caller_field, read_caller, comm_field, error_field, error_of, flag_field, flag_mask, label_field};
+ghost use Rattle.ulfm_lines.specs.Fields.{at_field, field_by, caller_field, read_caller, comm_field, error_field, error_of, flag_field, flag_mask, is_word_text, label_field};
 ghost use Rattle.ulfm_lines.specs.Fields.{labelled, number_field, offer_field, offer_of, over, place_field, point_field, rank_field};
 
 use ulfm_laws::{CtxMask, FlagAnd};
@@ -123,6 +123,19 @@ pub(crate) fn caller_field(text: Option<&[u8]>) -> Result<(Caller, Option<&[u8]>
     Ok((by, rest))
 }
 
+/// What stands behind this beginning of a text, if the text begins so. It is inlined into its callers, where a beginning that is known makes it a few
+/// comparisons of whole words of memory.
+#[inline(always)]
+pub(crate) fn behind<'a>(beginning: &[u8], text: &'a [u8]) -> Option<&'a [u8]>
+    ensures { MatchOption result ((rest : List ℕ) → text.now ≢ beginning.now ++ rest) (λ rest. text.now ≡ beginning.now ++ rest.now) }
+{
+    if text.starts_with(beginning) {
+        Some(&text[beginning.len()..])
+    } else {
+        None
+    }
+}
+
 /// This word, and the text behind it.
 #[inline(always)]
 #[tactic(auto, unfolding(crate::specs::Fields::label_field))]
@@ -130,13 +143,29 @@ pub(crate) fn label_field<'a>(
     label: &[u8],
     text: Option<&'a [u8]>,
 ) -> Result<((), Option<&'a [u8]>), LineKind>
+    requires { is_word_text label.now ≡ true }
     ensures { Gives at_field result (label_field label.now (rest_at text.entry)) }
 {
+    if let Some(rest) = label_ahead(label, text) {
+        return Ok(((), Some(rest)));
+    }
     let (word, rest) = next_word(text)?;
     if !is_word(word, label) {
         return Err(LineKind::Words);
     }
     Ok(((), rest))
+}
+
+/// What stands behind this word and a space at the head of a text, if they stand there: a text that is known is compared whole, and no byte is looked
+/// at alone.
+#[inline(always)]
+fn label_ahead<'a>(label: &[u8], text: Option<&'a [u8]>) -> Option<&'a [u8]>
+    ensures { IfSome result (λ rest. rest_at text.entry ≡ Some (label.now ++ 32 ∷ rest.now)) }
+{
+    match behind(label, text?) {
+        Some([b' ', rest @ ..]) => Some(rest),
+        _ => None,
+    }
 }
 
 /// A number behind its label.
@@ -146,6 +175,7 @@ pub(crate) fn labelled<'a>(
     label: &[u8],
     text: Option<&'a [u8]>,
 ) -> Result<(u16, Option<&'a [u8]>), LineKind>
+    requires { is_word_text label.now ≡ true }
     ensures { Gives at_field result (labelled label.now (rest_at text.entry)) }
 {
     let (_, rest) = label_field(label, text)?;

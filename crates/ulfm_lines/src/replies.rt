@@ -4,11 +4,11 @@ ghost use Rattle.std.specs.Str.{bytes_eq};
 ghost use Rattle.ulfm_model.specs.Answers.{printed};
 ghost use Rattle.ulfm_script.specs.Words.{Gives, rest_at};
 ghost use Rattle.ulfm_lines.specs.Fields.{at_field};
-ghost use Rattle.ulfm_lines.specs.LineReading.{acked_reply, read_agreed, failed_reply, made, read_plain, refusal_field, read_refusal, refused_reply};
-ghost use Rattle.ulfm_lines.specs.LineReading.{read_shrunk, some_reply_of, word_reply};
+ghost use Rattle.ulfm_lines.specs.LineReading.{acked_reply, alone, read_agreed, failed_reply, made, read_plain, refusal_field, read_refusal, refused_reply};
+ghost use Rattle.ulfm_lines.specs.LineReading.{read_shrunk, some_reply_of};
 
 use crate::fields::{
-    comm_field, error_field, flag_field, label_field, labelled, number_field, over,
+    behind, comm_field, error_field, flag_field, label_field, labelled, number_field, over,
 };
 use ulfm_laws::FlagAnd;
 use ulfm_model::{Refusal, Reply, refusal_number};
@@ -16,37 +16,34 @@ use ulfm_script::LineKind;
 use ulfm_script::words::{is_word, next_word};
 
 /// A reply, or none where it tells a context id that no communicator has; and the ranks that it lists, where it does.
-#[tactic(auto, unfolding(crate::specs::LineReading::some_reply_of))]
 pub(crate) fn read_reply(
     text: Option<&[u8]>,
 ) -> Result<(Option<Reply<FlagAnd>>, Option<&[u8]>), LineKind>
     ensures { Gives at_field result (some_reply_of (rest_at text.entry)) }
 {
-    let (word, fields) = next_word(text)?;
-    if is_word(word, b"agreed") {
-        read_agreed(fields)
-    } else if is_word(word, b"shrunk") {
-        read_shrunk(fields)
-    } else if is_word(word, b"failed") {
-        read_failed(fields)
-    } else if is_word(word, b"acked") {
-        read_acked(fields)
-    } else if is_word(word, b"refused") {
-        read_refused(fields)
+    let Some(text) = text else {
+        return Err(LineKind::Words);
+    };
+    if let Some(fields) = behind(b"agreed ", text) {
+        read_agreed(Some(fields))
+    } else if let Some(fields) = behind(b"shrunk ", text) {
+        read_shrunk(Some(fields))
+    } else if let Some(ranks) = behind(b"failed ", text) {
+        read_failed(Some(ranks))
+    } else if let Some(fields) = behind(b"acked ", text) {
+        read_acked(Some(fields))
+    } else if let Some(fields) = behind(b"refused ", text) {
+        read_refused(Some(fields))
     } else {
-        read_alone(word, fields)
+        read_alone(text)
     }
 }
 
 /// A reply of one word, and nothing behind it.
-fn read_alone<'a>(
-    word: &[u8],
-    fields: Option<&'a [u8]>,
-) -> Result<(Option<Reply<FlagAnd>>, Option<&'a [u8]>), LineKind>
-    ensures { Gives at_field result (word_reply word.now (rest_at fields.entry)) }
+fn read_alone<'a>(text: &'a [u8]) -> Result<(Option<Reply<FlagAnd>>, Option<&'a [u8]>), LineKind>
+    ensures { Gives at_field result (alone (λ one. one) (read_plain text.now)) }
 {
-    over(fields)?;
-    let reply = read_plain(word)?;
+    let reply = read_plain(text)?;
     Ok((Some(reply), None))
 }
 

@@ -7,12 +7,11 @@ ghost use Rattle.ulfm_lines.specs.LineTexts.{TraceLine};
 ghost use Rattle.ulfm_lines.specs.Telling.{ListsRanks, TextTells};
 
 use crate::events::read_event;
-use crate::fields::{caller_field, number_field, over, point_field, rank_field};
+use crate::fields::{behind, caller_field, number_field, over, point_field, rank_field};
 use crate::replies::read_reply;
 use std::alloc::{AllocError, Allocator};
 use ulfm_laws::FlagAnd;
 use ulfm_model::Reply;
-use ulfm_script::words::{is_word, split_word};
 use ulfm_script::{LineKind, is_padded, read_call};
 use ulfm_trace_model::Line;
 
@@ -39,11 +38,12 @@ pub fn read_line<A: Allocator>(
     }
     match read_head(line) {
         Err(_) => Ok(None),
-        Ok((head, ranks)) => {
+        Ok((mut told, ranks)) => {
             if !read_ranks(ranks, group)? {
                 return Ok(None);
             }
-            Ok(Some(listing(head, group.len() as u16)))
+            list(&mut told, group.len() as u16);
+            Ok(Some(told))
         }
     }
 }
@@ -69,63 +69,50 @@ fn read_ranks<A: Allocator>(
     Ok(true)
 }
 
-/// A line with the number of ranks that it lists.
-fn listing(line: Line<FlagAnd>, count: u16) -> Line<FlagAnd>
-    ensures { result ≡ line_listing count line }
+/// Gives a line the number of ranks that it lists.
+fn list(line: &mut Line<FlagAnd>, count: u16)
+    ensures { line.new ≡ line_listing count line.old }
 {
-    match line {
-        Line::Replied {
-            by,
-            point,
-            reply: Some(reply),
-        } => {
-            let reply = Some(reply_listing(reply, count));
-            Line::Replied { by, point, reply }
-        }
-        other => other,
+    if let Line::Replied {
+        reply: Some(reply),
+        ..
+    } = line
+    {
+        list_in_reply(reply, count);
     }
 }
 
-fn reply_listing(reply: Reply<FlagAnd>, count: u16) -> Reply<FlagAnd>
-    ensures { result ≡ reply_listing count reply }
+fn list_in_reply(reply: &mut Reply<FlagAnd>, count: u16)
+    ensures { reply.new ≡ reply_listing count reply.old }
 {
     match reply {
-        Reply::FailedGroup { .. } => Reply::FailedGroup { count },
-        Reply::Shrunk { comm, context, .. } => Reply::Shrunk {
-            comm,
-            context,
-            size: count,
-        },
-        other => other,
+        Reply::FailedGroup { count: listed } => *listed = count,
+        Reply::Shrunk { size, .. } => *size = count,
+        _ => {}
     }
 }
 
 /// A line, but for the ranks that it lists, which follow where there are any.
-#[tactic(auto, unfolding(crate::specs::LineReading::line_head))]
 fn read_head(line: &[u8]) -> Result<(Line<FlagAnd>, Option<&[u8]>), LineKind>
     ensures { Gives at_field result (line_head line.now) }
 {
-    let (verb, fields) = split_word(line);
-    if is_word(verb, b"call") {
-        read_called(fields)
-    } else if is_word(verb, b"look") {
-        read_looked(fields)
-    } else if is_word(verb, b"event") {
-        read_happened(fields)
-    } else if is_word(verb, b"reply") {
-        read_replied(fields)
+    if let Some(text) = behind(b"call ", line) {
+        read_called(text)
+    } else if let Some(fields) = behind(b"look ", line) {
+        read_looked(Some(fields))
+    } else if let Some(fields) = behind(b"reply ", line) {
+        read_replied(Some(fields))
+    } else if let Some(fields) = behind(b"event ", line) {
+        read_happened(Some(fields))
     } else {
         Err(LineKind::Words)
     }
 }
 
 #[tactic(auto, unfolding(crate::specs::LineReading::called_line))]
-fn read_called(text: Option<&[u8]>) -> Result<(Line<FlagAnd>, Option<&[u8]>), LineKind>
-    ensures { Gives at_field result (called_line (rest_at text.entry)) }
+fn read_called(text: &[u8]) -> Result<(Line<FlagAnd>, Option<&[u8]>), LineKind>
+    ensures { Gives at_field result (called_line (Some text.now)) }
 {
-    let Some(text) = text else {
-        return Err(LineKind::Words);
-    };
     let call = read_call(text)?;
     let padded = is_padded(text, &call);
     Ok((Line::Called { call, padded }, None))
