@@ -1,8 +1,8 @@
 -- Pending bytes: those of a line are taken, up to a newline where one was found among them.
-use Rattle.std.proofs.Common.{◌≡◌, ◌≢◌, ℕ, suc, ◌+◌, ◌-◌, ◌<◌, ◌≤◌, List, [], ◌∷◌, ◌++◌, length, take, drop, Option, Some, None, refl, sym, ap, ◌∙◌, append_assoc, arith, add-one}
+use Rattle.std.proofs.Common.{◌≡◌, ◌≢◌, ℕ, suc, ◌+◌, ◌-◌, ◌<◌, ◌≤◌, List, [], ◌∷◌, ◌++◌, length, take, drop, Option, Some, None, min, inl, inr, refl, sym, ap, ◌∙◌, append_assoc, arith, add-one}
 use Rattle.std.specs.Prelude.{slice_range, slice_index}
 use Rattle.std.specs.Io.KnownBytes.{Consumes, prepend_known}
-use Rattle.std.proofs.lemmas.List.{take-append-drop, drop-drop, drop-take, get_or-take, length-take}
+use Rattle.std.proofs.lemmas.{Bool.{cases_lt}, List.{take-append-drop, take-take, take_all, drop-drop, drop-take, get_or-take, length-take}}
 use Rattle.std.proofs.Math.Seq.{drop-cons}
 use Rattle.memchr.specs.Find.{IsFirstByte, Nowhere, Passes, is_byte}
 use Rattle.ulfm_script.specs.Buffers.{HasNoNewline}
@@ -42,3 +42,17 @@ part_taken old part new (Some us) is = ap (λ ys. ys ++ us) is ∙ append_assoc 
 pub free_append : (xs ys : List ℕ) → HasNoNewline xs → HasNoNewline ys → HasNoNewline (xs ++ ys)
 free_append [] ys here there = there
 free_append (x ∷ xs) ys here there = (here.0, free_append xs ys here.1 there)
+
+-- so many of the first bytes of a line, as the range of the buffer in which they stand
+pub kept_range : (xs : List ℕ) (s e at most : ℕ) → at < length (slice_range xs s e) → slice_range xs s (s + min at most) ≡ take most (take at (slice_range xs s e))
+kept_range xs s e at most less =
+    let few : at ≤ e - s = omega (arith, less, length-take (e - s) (drop s xs)) in
+    let whole : take at (slice_range xs s e) ≡ take at (drop s xs) = take-take at (e - s) (drop s xs) few in
+    elim (cases_lt most at) [
+      | inl more ↦
+          let n : s + min at most - s ≡ most = omega (arith, more) in
+          ap (λ (k : ℕ). take k (drop s xs)) n ∙ sym (ap (take most) whole ∙ take-take most at (drop s xs) (omega (arith, more)))
+      | inr all ↦
+          let n : s + min at most - s ≡ at = omega (arith, all) in
+          ap (λ (k : ℕ). take k (drop s xs)) n ∙ sym (ap (take most) whole ∙ take_all most (take at (drop s xs)) (omega (arith, all, length-take at (drop s xs))))
+    ]

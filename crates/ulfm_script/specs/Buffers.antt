@@ -1,5 +1,5 @@
 -- What is read and not yet taken, and what is still to be written.
-use Rattle.std.specs.Prelude.{◌≡◌, ◌≢◌, ℕ, ◌<◌, Bool, true, false, List, [], ◌∷◌, ◌++◌, length, take, slice_range, Option, Result, Ok, Err}
+use Rattle.std.specs.Prelude.{◌≡◌, ◌≢◌, ℕ, ◌<◌, Bool, true, false, List, [], ◌∷◌, ◌++◌, length, take, slice_range, Option, Result, Ok, Err, if◌then◌else◌}
 use Rattle.std.specs.List.{AllByRecursion}
 use Rattle.std.specs.Io.KnownBytes.{Keeps, Appends, Consumes, IsAtEnd, prepend_known}
 use Rattle.ulfm_script.specs.Written.{IsBeginning, Outgoing, WritesPart}
@@ -17,6 +17,10 @@ pending input = slice_range input.bytes.items input.start input.end
 -- what is still to be taken, where that is known
 abbrev pub unread : {A R : Type 0} → (R → Option (List ℕ)) → Input A → R → Option (List ℕ)
 unread remaining input reader = prepend_known (pending input) (remaining reader)
+
+-- what is kept of the line that was taken last: a part of the buffer's bytes where it stood there whole, else those that were put together apart from it
+abbrev pub line_of : {A : Type 0} → Input A → List ℕ → List ℕ
+line_of input apart = if input.is_whole then slice_range input.bytes.items input.line_start input.line_end else apart
 
 -- bytes are pending, if there are any more
 abbrev pub Fills : Option (List ℕ) → Option (List ℕ) → List ℕ → Result (Unit {0}) RunFault → Type 0

@@ -17,8 +17,14 @@ pub struct Input<A: Allocator> {
     bytes: Vec<u8, A>,
     start: usize,
     end: usize,
+    /// Whether the line that was taken last stands in the bytes, from `line_start` to `line_end`; if not, in its caller's vector.
+    is_whole: bool,
+    line_start: usize,
+    line_end: usize,
     ghost ordered: { start ≤ end },
     ghost within: { end ≤ length bytes.items },
+    ghost line_ordered: { line_start ≤ line_end },
+    ghost line_within: { line_end ≤ length bytes.items },
     ghost room: { 0 < length bytes.items },
     ghost small: { length bytes.items ≤ 8192 },
 }
@@ -35,7 +41,7 @@ pub enum LineEnd {
 }
 
 impl<A: Allocator> Input<A> {
-    ghost use Rattle.ulfm_script.specs.Buffers.{pending, unread, Fills, KeepsFirst, TakesLine, TakesPart};
+    ghost use Rattle.ulfm_script.specs.Buffers.{line_of, pending, unread, Fills, KeepsFirst, TakesLine, TakesPart};
 
     /// Nothing is read yet. Only memory can be refused, for 8 KB.
     pub fn new(alloc: A) -> Result<Input<A>, AllocError>
@@ -46,6 +52,9 @@ impl<A: Allocator> Input<A> {
             bytes,
             start: 0,
             end: 0,
+            is_whole: false,
+            line_start: 0,
+            line_end: 0,
         })
     }
 
@@ -137,6 +146,43 @@ impl<A: Allocator> Input<A> {
             }
         }
         Err(RunFault::Memory)
+    }
+
+    /// Takes a line as [`Input::read_line`] does, and copies nothing of it where it stands whole in the buffer: what is kept of it, in the buffer or in
+    /// the vector, is [`Input::line`]'s.
+    #[inline(always)]
+    pub fn next_line<R: Read>(
+        &mut self,
+        reader: &mut R,
+        apart: &mut Vec<u8, A>,
+        kept: usize,
+    ) -> Result<LineEnd, RunFault>
+        requires { 0 < kept }
+        ensures { TakesLine kept (unread R.remaining self.old reader.old) (unread R.remaining self.new reader.new) (pending self.new)
+            (line_of self.new apart.new.items) result }
+    {
+        if let Some(at) = memchr(b'\n', self.pending()) {
+            self.is_whole = true;
+            self.line_start = self.start;
+            self.line_end = self.start + at.min(kept);
+            self.start += at + 1;
+            return Ok(LineEnd::Newline);
+        }
+        let end = self.read_line(reader, apart, kept);
+        self.is_whole = false;
+        end
+    }
+
+    /// What is kept of the line that [`Input::next_line`] took last, given the vector that it was called with; it stays so until the next call.
+    #[inline(always)]
+    pub fn line<'a>(&'a self, apart: &'a [u8]) -> &'a [u8]
+        ensures { result.now ≡ line_of self.now apart.now }
+    {
+        if self.is_whole {
+            &self.bytes[self.line_start..self.line_end]
+        } else {
+            apart
+        }
     }
 }
 

@@ -134,7 +134,7 @@ fn run_opened<M: Interpreter<A>, A: Allocator + Copy, R: Read, W: Write>(
 {
     output.put(writer, machine.text())?;
     'lines: for number in 2..LAST_LINE + 2 {
-        match input.read_line(reader, line, LONGEST + 1)? {
+        match input.next_line(reader, line, LONGEST + 1)? {
             LineEnd::Done => return Ok(()),
             LineEnd::Cut => {
                 let kind = LineKind::Cut;
@@ -142,7 +142,7 @@ fn run_opened<M: Interpreter<A>, A: Allocator + Copy, R: Read, W: Write>(
             }
             LineEnd::Newline => {}
         }
-        run_line(writer, output, machine, number, line)?;
+        run_line(writer, output, machine, number, input.line(line))?;
     }
     unreachable!()
 }
@@ -158,7 +158,7 @@ fn open_machine<M: Interpreter<A>, A: Allocator + Copy, R: Read>(
     ensures { Opens M.lang (M.HasRun plan) M.text (unread R.remaining input.old reader.old) (unread R.remaining input.new reader.new)
         (pending input.new) result }
 {
-    match input.read_line(reader, line, LONGEST + 1)? {
+    match input.next_line(reader, line, LONGEST + 1)? {
         LineEnd::Done => {
             let kind = LineKind::Header;
             Err(RunFault::Line { number: 1, kind })
@@ -167,7 +167,7 @@ fn open_machine<M: Interpreter<A>, A: Allocator + Copy, R: Read>(
             let kind = LineKind::Cut;
             Err(RunFault::Line { number: 1, kind })
         }
-        LineEnd::Newline => match first_line::<M, A>(line) {
+        LineEnd::Newline => match first_line::<M, A>(input.line(line)) {
             Ok(heading) => Ok(M::open(alloc, heading, plan)?),
             Err(kind) => Err(RunFault::Line { number: 1, kind }),
         },
