@@ -1,7 +1,7 @@
 -- A flag is read just where it is printed.
-use Rattle.std.proofs.Common.{◌≡◌, ◌≢◌, ℕ, zero, suc, ◌+◌, ◌-◌, ◌*◌, ◌/◌, ◌%◌, ◌^◌, ◌<◌, ◌≤◌, List, [], ◌∷◌, ◌++◌, length, drop, Option, Some, None, Result, Ok, Err, Bool, true, false, cond, refl, sym, ap, ◌∙◌, append_assoc, inl, inr, arith, add-one, mod-eq_of_lt, mod-lt, lit<, lit≤, length-append, subst}
-use Rattle.std.specs.{Prelude.{◌⊎◌, ◌&&◌, ◌==◌, if◌then◌else◌, nat_lt, slice_index, slice_set}, List.{AllByRecursion}}
-use Rattle.std.proofs.lemmas.{Bool.{cases_lt, eq-eqb, eqb-true, lt-ltb, le-ltb, lt-leb, le-leb, ne_eqb}, Bool.Decides.{nat_tests}, List.{append-nil, drop-set, get_or-append-add}, Nat.{div-mul-add, mod-mul-add, div-add-mod', pow-add}}
+use Rattle.std.proofs.Common.{◌≡◌, ◌≢◌, ℕ, zero, suc, ◌+◌, ◌-◌, ◌*◌, ◌/◌, ◌%◌, ◌^◌, ◌<◌, ◌≤◌, List, [], ◌∷◌, ◌++◌, length, Option, Some, None, Result, Ok, Err, Bool, true, false, cond, refl, sym, ap, ◌∙◌, append_assoc, inl, inr, arith, add-one, mod-eq_of_lt, mod-lt, lit<, lit≤, length-append, subst}
+use Rattle.std.specs.{Prelude.{◌⊎◌, ◌&&◌, ◌==◌, if◌then◌else◌, nat_lt, slice_index}, List.{AllByRecursion}}
+use Rattle.std.proofs.lemmas.{Bool.{cases_lt, eq-eqb, eqb-true, lt-ltb, le-ltb, lt-leb, le-leb, ne_eqb}, Bool.Decides.{nat_tests}, List.{append-nil, get_or-append-add}, Nat.{div-mul-add, mod-mul-add, div-add-mod', pow-add}}
 use Rattle.ulfm_laws.specs.{declared.flag_and.FlagAnd.{FlagAnd}, Flags.{same_flag}, Ranges.{payload_bits}}
 use Rattle.ulfm_script.specs.declared.line_kind.LineKind.{LineKind}
 use Rattle.ulfm_script.specs.declared.line_kind.LineKind.TheVariants.{Flag}
@@ -42,7 +42,7 @@ digits_snoc value c [] = refl
 digits_snoc value c (x ∷ xs) = snoc_step value c xs (hex_of x) (λ v. digits_snoc v c xs)
 
 -- a number without its last so many digits
-abbrev cut_off : ℕ → ℕ → ℕ
+abbrev pub cut_off : ℕ → ℕ → ℕ
 cut_off zero n = n
 cut_off (suc count) n = cut_off count (n / 16)
 
@@ -54,7 +54,7 @@ digits_again : (count n : ℕ) → hex_after (cut_off count n) (hex_digits count
 digits_again zero n = refl
 digits_again (suc count) n = rw (digits_snoc (cut_off count (n / 16)) (hex_digit (n % 16)) (hex_digits count (n / 16)), digits_again count (n / 16)) (digit_joins n)
 
-length_digits : (count n : ℕ) → length (hex_digits count n) ≡ count
+pub length_digits : (count n : ℕ) → length (hex_digits count n) ≡ count
 length_digits zero n = refl
 length_digits (suc count) n = rw (length-append (hex_digits count (n / 16)) (hex_digit (n % 16) ∷ []), length_digits count (n / 16)) (omega arith)
 
@@ -145,10 +145,10 @@ unfolding read_flag
 was_read w flag e = flag_from w flag (spells_flag (length w)) (hex_after 0 w) refl refl e
 
 -- how many digits are printed
-few_printed : (flag : FlagAnd) → flag.bits < 16 ^ half_digits → printed_digits flag ≡ half_digits
+pub few_printed : (flag : FlagAnd) → flag.bits < 16 ^ half_digits → printed_digits flag ≡ half_digits
 few_printed flag small = rw (lt-ltb flag.bits (16 ^ half_digits) small) refl
 
-all_printed : (flag : FlagAnd) → 16 ^ half_digits ≤ flag.bits → printed_digits flag ≡ whole_digits
+pub all_printed : (flag : FlagAnd) → 16 ^ half_digits ≤ flag.bits → printed_digits flag ≡ whole_digits
 all_printed flag great = rw (le-ltb flag.bits (16 ^ half_digits) great) refl
 
 -- a flag that was printed is read
@@ -248,7 +248,7 @@ spelled_free false flag = no_spaces (printed_digits flag) flag.bits
 spelled_free true flag = no_spaces whole_digits flag.bits
 
 -- the first digits of a number, and the others
-digits_split : (first count n : ℕ) → hex_digits (first + count) n ≡ hex_digits first (cut_off count n) ++ hex_digits count n
+pub digits_split : (first count n : ℕ) → hex_digits (first + count) n ≡ hex_digits first (cut_off count n) ++ hex_digits count n
 digits_split first zero n = let none : first + 0 ≡ first = omega arith in ap (λ (k : ℕ). hex_digits k n) none ∙ sym (append-nil (hex_digits first n))
 digits_split first (suc count) n =
     let more : first + suc count ≡ suc (first + count) = omega arith in
@@ -316,17 +316,6 @@ flag_in_found Second w flag e = by (length w == whole_digits) refl e
     by : (b : Bool) → (length w == whole_digits) ≡ b → cond b (read_flag w) (Err Flag) ≡ Ok flag → IsSpelledIn Second w flag
     by true is read = record { padded = true; may_pad = refl; word_is = (was_read w flag read).word_is ∙ ap (λ (k : ℕ). hex_digits k flag.bits) (eqb-true (length w) whole_digits is) }
     by false is read = absurd (cc read)
-
--- writing digits from the last to the first, behind places that are left out
-pub digit_written : (count first rest : ℕ) (digits all : List ℕ) → 0 < count → first + count ≤ length digits → hex_digits count rest ++ drop (first + count) digits ≡ all
-    → hex_digits (count - 1) (rest / 16) ++ drop (first + (count - 1)) (slice_set digits (first + (count - 1)) (hex_digit (rest % 16))) ≡ all
-digit_written zero first rest digits all some fits e = absurd (omega arith)
-digit_written (suc count) first rest digits all some fits e =
-    let back : suc count - 1 ≡ count = omega arith in
-    let more : first + suc count ≡ first + count + 1 = omega arith in
-    let put : drop (first + count) (slice_set digits (first + count) (hex_digit (rest % 16))) ≡ hex_digit (rest % 16) ∷ drop (first + suc count) digits =
-    drop-set digits (first + count) (hex_digit (rest % 16)) (omega (arith, fits)) ∙ ap (λ (k : ℕ). hex_digit (rest % 16) ∷ drop k digits) (sym more) in
-    rw (back, put) (sym (append_assoc (hex_digits count (rest / 16)) (hex_digit (rest % 16) ∷ []) (drop (first + suc count) digits)) ∙ e)
 
 -- a flag of the word that was read
 pub flag_read : (w : List ℕ) (r : Result ℕ LineKind) (bits : ℕ) → IsLength (length w) → r ≡ hex_after 0 w → r ≡ Ok bits → (fits : bits < 2 ^ payload_bits) → read_flag w ≡ Ok (record { bits = bits; fits = fits })

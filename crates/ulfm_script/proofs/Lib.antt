@@ -5,6 +5,7 @@ pub mod CallLemmas
 pub mod HeaderLemmas
 pub mod Leading
 pub mod Hexadecimal
+pub mod Halves
 pub mod Numerals
 pub mod Powers
 pub mod RunLemmas

@@ -1,9 +1,9 @@
 //! The lines that replies and calls are printed as.
-ghost use Rattle.std.specs.Prelude.{◌≡◌, ◌++◌, ◌∷◌, [], OnOk};
+ghost use Rattle.std.specs.Prelude.{◌≡◌, ◌<◌, ◌+◌, ◌++◌, ◌∷◌, [], OnOk};
 ghost use Rattle.ulfm_script.specs.Digits.{flag_text, spelled_flag};
 ghost use Rattle.std.specs.Fmt.{decimal};
 ghost use Rattle.ulfm_script.specs.Spelling.{call_text, fields_text, on_comm_text, spelled_text, verb_text};
-ghost use Rattle.ulfm_script.specs.Printed.{acked_text, agreed_text, error_text, failed_text, ranks_text, refused_text, reply_text, shrunk_text, standing_text};
+ghost use Rattle.ulfm_script.specs.Printed.{acked_text, agreed_text, failed_text, ranks_text, refused_text, reply_text, shrunk_text, standing_text};
 
 use crate::digits::{flag_digits, spelled_digits};
 use crate::last_group::LastGroup;
@@ -25,29 +25,26 @@ pub fn print_reply<A: Allocator>(
 ) -> Result<(), AllocError>
     ensures ok { OnOk result (text.new.items ≡ text.old.items ++ reply_text group.now reply.now) }
 {
-    let word: &[u8] = match *reply {
+    match *reply {
+        Reply::Started => text.extend_from_slice(b"started"),
+        Reply::Pending => text.extend_from_slice(b"pending"),
         Reply::Agreed {
             value,
             failed,
             raised,
-        } => return print_agreed(text, value, failed, raised),
-        Reply::Shrunk { comm, context, .. } => {
-            return print_shrunk(text, comm, context, group, last);
-        }
-        Reply::FailedGroup { .. } => return print_group(text, group, last),
-        Reply::Acked { count } => return print_acked(text, count),
-        Reply::Refused(refusal) => return print_refusal(text, refusal),
-        Reply::Standing { revoked } => standing(revoked),
-        Reply::Started => b"started",
-        Reply::Pending => b"pending",
-        Reply::Done => b"done",
-        Reply::Declared => b"declared",
-        Reply::AlreadyFailed => b"already-failed",
-        Reply::Revoked => b"revoked",
-        Reply::AlreadyRevoked => b"already-revoked",
-        Reply::Freed => b"freed",
-    };
-    text.extend_from_slice(word)
+        } => print_agreed(text, value, failed, raised),
+        Reply::Shrunk { comm, context, .. } => print_shrunk(text, comm, context, group, last),
+        Reply::FailedGroup { .. } => print_group(text, group, last),
+        Reply::Acked { count } => print_acked(text, count),
+        Reply::Refused(refusal) => print_refusal(text, refusal),
+        Reply::Standing { revoked } => text.extend_from_slice(standing(revoked)),
+        Reply::Done => text.extend_from_slice(b"done"),
+        Reply::Declared => text.extend_from_slice(b"declared"),
+        Reply::AlreadyFailed => text.extend_from_slice(b"already-failed"),
+        Reply::Revoked => text.extend_from_slice(b"revoked"),
+        Reply::AlreadyRevoked => text.extend_from_slice(b"already-revoked"),
+        Reply::Freed => text.extend_from_slice(b"freed"),
+    }
 }
 
 /// Appends a number in decimal. After an error nothing is said of the text.
@@ -58,17 +55,34 @@ pub fn print_number<A: Allocator>(text: &mut Vec<u8, A>, number: u16) -> Result<
     print_point(text, u32::from(number))
 }
 
-/// Appends a count of events in decimal, digit by digit: it has few. After an error nothing is said of the text.
+/// Appends a count of events in decimal. Most have one digit, which is put as it is. After an error nothing is said of the text.
 #[inline(always)]
 pub fn print_point<A: Allocator>(text: &mut Vec<u8, A>, number: u32) -> Result<(), AllocError>
     ensures { OnOk result (text.new.items ≡ text.old.items ++ decimal number) }
 {
-    let mut buffer = Buffer::new();
-    let digits = buffer.format(number).as_bytes();
-    for digit in digits {
-        text.push(*digit)?;
+    if number < 10 {
+        return print_digit(text, number as u8);
     }
+    print_long(text, number)
+}
+
+/// Appends one digit.
+#[inline(always)]
+fn print_digit<A: Allocator>(text: &mut Vec<u8, A>, number: u8) -> Result<(), AllocError>
+    requires { number < 10 }
+    ensures { OnOk result (text.new.items ≡ text.old.items ++ (48 + number) ∷ []) }
+{
+    text.push(b'0' + number)?;
     Ok(())
+}
+
+/// Appends a count of more than one digit.
+#[inline(never)]
+fn print_long<A: Allocator>(text: &mut Vec<u8, A>, number: u32) -> Result<(), AllocError>
+    ensures { OnOk result (text.new.items ≡ text.old.items ++ decimal number) }
+{
+    let mut buffer = Buffer::new();
+    text.extend_from_slice(buffer.format(number).as_bytes())
 }
 
 /// Each rank behind a space.
@@ -109,14 +123,11 @@ fn print_agreed<A: Allocator>(
 {
     print_flag(text, b"agreed ", value)?;
     print_labelled(text, b" failed ", failed)?;
-    text.extend_from_slice(error(raised))
-}
-
-/// Whether an agree raises an error.
-fn error(raised: bool) -> &'static [u8]
-    ensures { result.now ≡ error_text raised }
-{
-    if raised { b" raised" } else { b" clean" }
+    if raised {
+        text.extend_from_slice(b" raised")
+    } else {
+        text.extend_from_slice(b" clean")
+    }
 }
 
 fn print_shrunk<A: Allocator>(
