@@ -14,6 +14,7 @@ import tempfile
 import time
 
 sys.dont_write_bytecode = True
+from checks import ends, expect
 from crates import Crates
 
 TOP = os.path.dirname(os.path.dirname(os.path.realpath(__file__)))
@@ -28,12 +29,6 @@ mkdir -p out && echo built >"out/$crate"
 chmod +x "out/$crate"
 echo "end $crate" >>"$ASKED"
 """
-failures = []
-
-
-def expect(holds, what):
-    if not holds:
-        failures.append(what)
 
 
 class Copy:
@@ -123,10 +118,7 @@ def main():
     for trial in (lambda it: (builds_all(it, crates, names), builds_what_changed(it, crates, names)), lambda it: goes_on(it, names), tells_what_failed):
         with tempfile.TemporaryDirectory(prefix="build-test-") as folder:
             trial(Copy(folder))
-    for it in failures:
-        print(f"build_test: {it}")
-    print(f"build_test: {'FAILED' if failures else 'ok'}")
-    sys.exit(1 if failures else 0)
+    ends("build_test")
 
 
 if __name__ == "__main__":

@@ -26,6 +26,7 @@ TOP = os.path.dirname(os.path.dirname(os.path.realpath(__file__)))
 sys.path.insert(0, os.path.join(TOP, "bench"))
 from fuzz import changed, script  # noqa: E402
 from traces import pending, shrinks  # noqa: E402
+from checks import ends_counted, holds  # noqa: E402
 from drawn_rows import drawn  # noqa: E402
 
 PICTURES = os.path.join(TOP, "docs/pictures")
@@ -47,14 +48,6 @@ for (let i = 0; i < boxes.length; i++) {
 }
 document.body.innerHTML = '<pre>' + [texts.length, met.length, out.length, ...met, ...out].join('\\n') + '</pre>';
 </script>"""
-counts = {True: 0, False: 0}
-
-
-def holds(what, found):
-    """Counts one check, and names it where it fails."""
-    counts[bool(found)] += 1
-    if not found:
-        print(f"failed: {what}")
 
 
 def ran(program, text, *words):
@@ -257,9 +250,8 @@ def main():
                 looked(browser(), folder, name)
     else:
         print("no Chromium is installed: how pictures look is left out")
-    print(f"{counts[True]} passed, {counts[False]} failed")
-    return int(counts[False] > 0 or counts[True] == 0)
+    ends_counted()
 
 
 if __name__ == "__main__":
-    sys.exit(main())
+    main()

@@ -19,6 +19,7 @@ TOP = os.path.dirname(os.path.dirname(os.path.realpath(__file__)))
 sys.dont_write_bytecode = True
 sys.path.insert(0, os.path.join(TOP, "gate"))
 import schedules  # noqa: E402
+from checks import ends_counted, holds  # noqa: E402
 
 EXAMPLES = os.path.join(TOP, "examples/explore")
 # What is known of each program: its outcomes, its states, and which of its questions have an answer.
@@ -59,14 +60,6 @@ FAULTS = (
     (HEAD + "rank 0\nif done\n", "line 3: words"),
     (HEAD + "\n" * 1000, "line 1001: lines"),
 )
-counts = {True: 0, False: 0}
-
-
-def holds(what, found):
-    """Counts one check, and names it where it fails."""
-    counts[bool(found)] += 1
-    if not found:
-        print(f"failed: {what}")
 
 
 def ran(program, text, *words):
@@ -176,8 +169,7 @@ def main():
         example(options.program, name, options.keep)
     limits(options.program)
     beside_brute_force(options.program, options.programs, options.seed)
-    print(f"{counts[True]} passed, {counts[False]} failed")
-    sys.exit(counts[False] > 0)
+    ends_counted()
 
 
 if __name__ == "__main__":

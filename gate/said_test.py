@@ -5,15 +5,10 @@ import sys
 
 sys.dont_write_bytecode = True
 import said
+from checks import ends, expect
 from crates import read
 
 KEPT = f"{os.path.dirname(os.path.realpath(__file__))}/kept"
-failures = []
-
-
-def expect(holds, what):
-    if not holds:
-        failures.append(what)
 
 
 def of_two_edits():
@@ -69,10 +64,7 @@ def of_the_gate():
 def main():
     for it in (of_two_edits, of_callers, of_names, of_the_gate):
         it()
-    for it in failures:
-        print(f"said_test: {it}")
-    print(f"said_test: {'FAILED' if failures else 'ok'}")
-    sys.exit(1 if failures else 0)
+    ends("said_test")
 
 
 if __name__ == "__main__":

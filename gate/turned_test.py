@@ -5,6 +5,7 @@ import sys
 import tempfile
 
 sys.dont_write_bytecode = True
+from checks import ends, failures
 from turned import Edit, edited
 
 MODULE = """//! Counts.
@@ -72,7 +73,6 @@ FAULTS = {
     "outside": ("file: ../crates.txt\nold: x\nnew: y\n", "no file ../crates.txt"),
     "no_pair": ("file: src/counts.rt\n", "no 'old:' and 'new:' pair"),
 }
-failures = []
 
 
 def main():
@@ -95,10 +95,7 @@ def main():
         texts, fault = edited([f"file: src/counts.rt\nold: {pairs[0][0]}\nnew: {pairs[0][1]}\n" for pairs, _ in (TURNED["body"], TURNED["method"])], folder)
         if fault or texts != {"src/counts.rt": MODULE.replace("x + 1;", "x + 2;").replace("+= 1", "+= 2")}:
             failures.append(f"two edits don't make their texts together: {fault}")
-    for it in failures:
-        print(f"turned_test: {it}")
-    print(f"turned_test: {'FAILED' if failures else 'ok'}")
-    sys.exit(1 if failures else 0)
+    ends("turned_test")
 
 
 if __name__ == "__main__":
