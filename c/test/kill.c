@@ -7,6 +7,7 @@
  *     kill [--runs R] [--seed S]        200 runs, seed 1; a line for each sort of runs, and status 1 where one was wrong */
 #include "dies.h"
 #include "ulfm.h"
+#include "victims.h"
 
 #include <errno.h>
 #include <stdio.h>
@@ -95,13 +96,6 @@ struct plan {
     bool notes_touched;
 };
 
-static double now(void)
-{
-    struct timespec time;
-    clock_gettime(CLOCK_MONOTONIC, &time);
-    return (double)time.tv_sec + 1e-9 * (double)time.tv_nsec;
-}
-
 static void child(const struct plan *plan, ulfm_handle *ranks, ulfm_handle *outside, int number)
 {
     ulfm_drop_copy(outside);
@@ -121,21 +115,10 @@ static void child(const struct plan *plan, ulfm_handle *ranks, ulfm_handle *outs
     _exit(code);
 }
 
-static bool same_reply(const ulfm_reply *one, const ulfm_reply *other)
-{
-    return one->kind == other->kind && one->flag == other->flag && one->failed == other->failed && one->comm == other->comm &&
-           one->context == other->context && one->size == other->size && one->raised == other->raised;
-}
-
 /* Whether two saw the same, as far as the first has come. */
 static bool alike(const struct seen *one, const struct seen *other)
 {
-    if (one->count > other->count)
-        return false;
-    for (int at = 0; at < one->count; at++)
-        if (one->codes[at] != other->codes[at] || !same_reply(&one->replies[at], &other->replies[at]))
-            return false;
-    return true;
+    return one->count <= other->count && same_answers(one->count, one->codes, other->codes, one->replies, other->replies);
 }
 
 /* Whether somebody's moment is still to come: then the parent doesn't sleep. */
@@ -183,13 +166,9 @@ static struct outcome run(const struct plan *plan)
         pid_t pid = waitpid(-1, &status, WNOHANG);
         double passed = now() - begin;
         for (int number = 0; number < plan->processes; number++) {
-            bool is_first, is_late = passed > HALF_A_MINUTE;
-            if (is_late)
+            bool is_first;
+            if (ends_late(pids[number], &is_killed[number], plan->moments[number], passed, HALF_A_MINUTE))
                 outcome.wrong = "somebody hangs";
-            if (!is_killed[number] && (is_late || (plan->moments[number] > 0 && passed >= plan->moments[number]))) {
-                is_killed[number] = true;
-                kill(pids[number], SIGKILL);
-            }
             if (pid != pids[number])
                 continue;
             left--;
@@ -228,11 +207,6 @@ static struct outcome run(const struct plan *plan)
 }
 
 /* ---- many runs ---- */
-
-static double some(double most)
-{
-    return most * ((double)rand() + 1) / ((double)RAND_MAX + 1);
-}
 
 /* Runs of one sort: so many processes, so many victims, killed at random moments or each before one access more than in the run before. */
 static int runs_of(int processes, int victims, bool by_access, int runs)

@@ -9,6 +9,7 @@
  *     store_kill WHERE --agrees N --pause MS       one world of four, of which one is killed half way; N agrees with rests between them
  *     store_kill WHERE --forked OTHER              two replicas over two logs differ, and their digests tell it */
 #include "drivers/replica.h"
+#include "victims.h"
 
 #include <fcntl.h>
 #include <signal.h>
@@ -157,13 +158,6 @@ static struct log_world world_of(const struct plan *plan)
     return (struct log_world){(uint16_t)plan->processes, 2, (uint16_t)(agrees + LATER)};
 }
 
-static double now(void)
-{
-    struct timespec time;
-    clock_gettime(CLOCK_MONOTONIC, &time);
-    return (double)time.tv_sec + 1e-9 * (double)time.tv_nsec;
-}
-
 static void child(const struct plan *plan, int number, unsigned seed)
 {
     static struct replica replica;
@@ -182,22 +176,11 @@ static void child(const struct plan *plan, int number, unsigned seed)
     _exit(code);
 }
 
-static bool same_reply(const ulfm_reply *one, const ulfm_reply *other)
-{
-    return one->kind == other->kind && one->flag == other->flag && one->failed == other->failed && one->comm == other->comm &&
-           one->context == other->context && one->size == other->size && one->raised == other->raised;
-}
-
 /* Whether two saw the same, as far as the first has come. */
 static bool alike(const struct seen *one, const struct seen *other)
 {
-    if (one->count > other->count)
-        return false;
-    for (int at = 0; at < one->count; at++)
-        if (one->codes[at] != other->codes[at] || !same_reply(&one->replies[at], &other->replies[at]) ||
-            memcmp(one->failed[at], other->failed[at], sizeof one->failed[at]) != 0)
-            return false;
-    return true;
+    return one->count <= other->count && same_answers(one->count, one->codes, other->codes, one->replies, other->replies) &&
+           memcmp(one->failed, other->failed, (size_t)one->count * sizeof one->failed[0]) == 0;
 }
 
 /* Entries that no history allows: of no kind; a contribution that knows more failures than there are; a mark of nobody. */
@@ -258,13 +241,8 @@ static struct outcome run(const struct plan *plan)
         pid_t pid = waitpid(-1, &status, WNOHANG);
         double passed = now() - begin;
         for (int number = 0; number < plan->processes; number++) {
-            bool is_late = passed > A_MINUTE + agrees * pause_between / 1000;
-            if (is_late)
+            if (ends_late(pids[number], &is_killed[number], plan->moments[number], passed, A_MINUTE + agrees * pause_between / 1000))
                 outcome.wrong = "somebody hangs";
-            if (!is_killed[number] && (is_late || (plan->moments[number] > 0 && passed >= plan->moments[number]))) {
-                is_killed[number] = true;
-                kill(pids[number], SIGKILL);
-            }
             if (pid != pids[number])
                 continue;
             left--;
@@ -307,11 +285,6 @@ static const char *new_world(const char *pattern)
         printf("%s has no %%d\n", pattern), exit(2);
     snprintf(name, sizeof name, "%.*s%d%s", (int)(at - pattern), pattern, worlds++, at + 2);
     return name;
-}
-
-static double some(double most)
-{
-    return most * ((double)rand() + 1) / ((double)RAND_MAX + 1);
 }
 
 /* Runs of one sort: so many processes, so many victims, killed at random moments or at one append after the other. */
