@@ -240,6 +240,15 @@ static int count_acked(MPI_Comm comm, int *count)
     return given;
 }
 
+/* How many are acknowledged now, or what went wrong. */
+static void put_acked(int class, int count)
+{
+    if (class == MPI_SUCCESS)
+        put("reply %" PRIu64 " acked %d\n", stamp(), count);
+    else
+        put_other(class);
+}
+
 int MPIX_Comm_failure_ack(MPI_Comm comm)
 {
     struct known *on = find(comm);
@@ -249,10 +258,7 @@ int MPIX_Comm_failure_ack(MPI_Comm comm)
     put("call %" PRIu64 " ack %d %d\n", stamp(), on->number, EVERYBODY);
     int given = PMPIX_Comm_failure_ack(comm);
     int class = class_of(given == MPI_SUCCESS ? count_acked(comm, &count) : given);
-    if (class == MPI_SUCCESS)
-        put("reply %" PRIu64 " acked %d\n", stamp(), count);
-    else
-        put_other(class);
+    put_acked(class, count);
     return given;
 }
 
@@ -264,11 +270,8 @@ int MPIX_Comm_failure_get_acked(MPI_Comm comm, MPI_Group *group)
         return PMPIX_Comm_failure_get_acked(comm, group);
     put("call %" PRIu64 " ack %d 0\n", stamp(), on->number);
     int given = PMPIX_Comm_failure_get_acked(comm, group);
-    int class = class_of(given);
-    if (class == MPI_SUCCESS && PMPI_Group_size(*group, &count) == MPI_SUCCESS)
-        put("reply %" PRIu64 " acked %d\n", stamp(), count);
-    else
-        put_other(class);
+    int class = class_of(given == MPI_SUCCESS ? PMPI_Group_size(*group, &count) : given);
+    put_acked(class, count);
     return given;
 }
 

@@ -12,24 +12,23 @@ typedef struct stub_group *MPI_Group;
 #define MPIX_ERR_PROC_FAILED 101
 #define MPIX_ERR_REVOKED 103
 
-int MPI_Init(int *argc, char ***argv);
-int MPI_Init_thread(int *argc, char ***argv, int required, int *provided);
-int MPI_Finalize(void);
-int MPI_Barrier(MPI_Comm comm);
-int MPI_Comm_free(MPI_Comm *comm);
-int MPI_Comm_rank(MPI_Comm comm, int *rank);
-int MPI_Group_free(MPI_Group *group);
+/* A call, and its second name, by which a tool that stands before it calls it. */
+#define STUB_CALL(name, words) \
+    int name words;            \
+    int P##name words
 
-int PMPI_Init(int *argc, char ***argv);
-int PMPI_Init_thread(int *argc, char ***argv, int required, int *provided);
-int PMPI_Finalize(void);
-int PMPI_Barrier(MPI_Comm comm);
-int PMPI_Comm_free(MPI_Comm *comm);
-int PMPI_Comm_rank(MPI_Comm comm, int *rank);
+STUB_CALL(MPI_Init, (int *argc, char ***argv));
+STUB_CALL(MPI_Init_thread, (int *argc, char ***argv, int required, int *provided));
+STUB_CALL(MPI_Finalize, (void));
+STUB_CALL(MPI_Barrier, (MPI_Comm comm));
+STUB_CALL(MPI_Comm_free, (MPI_Comm *comm));
+STUB_CALL(MPI_Comm_rank, (MPI_Comm comm, int *rank));
+STUB_CALL(MPI_Group_free, (MPI_Group *group));
+
+/* By their second name alone. */
 int PMPI_Comm_size(MPI_Comm comm, int *size);
 int PMPI_Comm_group(MPI_Comm comm, MPI_Group *group);
 int PMPI_Error_class(int code, int *error_class);
-int PMPI_Group_free(MPI_Group *group);
 int PMPI_Group_size(MPI_Group group, int *size);
 int PMPI_Group_translate_ranks(MPI_Group one, int count, const int ranks[], MPI_Group other, int found[]);
 
