@@ -3,6 +3,7 @@
  *     agree threads|processes N K      N ranks agree K times and shrink; prints the nanoseconds of a round
  *
  * Measured from the first that begins to the last that ends, over K + 1 rounds. */
+#include "clock.h"
 #include "ulfm.h"
 
 #include <pthread.h>
@@ -11,7 +12,6 @@
 #include <string.h>
 #include <sys/mman.h>
 #include <sys/wait.h>
-#include <time.h>
 #include <unistd.h>
 
 enum { MOST = 64 };
@@ -23,13 +23,6 @@ static struct shared {
 } *shared;
 static ulfm_handle outside = ULFM_HANDLE_NULL, ranks[MOST];
 static int count, rounds;
-
-static double now(void)
-{
-    struct timespec time;
-    clock_gettime(CLOCK_MONOTONIC, &time);
-    return 1e9 * (double)time.tv_sec + (double)time.tv_nsec;
-}
 
 static void work(int number)
 {

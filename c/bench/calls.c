@@ -2,23 +2,16 @@
  *
  *     calls             measures
  *     calls --rounds    1,000 rounds of four ranks and a question each, for a profiler that counts instructions */
+#include "clock.h"
 #include "ulfm.h"
 
 #include <stdio.h>
 #include <stdlib.h>
 #include <string.h>
-#include <time.h>
 
 enum { CALLS = 4000, REPEATS = 25 };
 
 static ulfm_handle outside = ULFM_HANDLE_NULL, ranks[4];
-
-static double now(void)
-{
-    struct timespec time;
-    clock_gettime(CLOCK_MONOTONIC, &time);
-    return 1e9 * (double)time.tv_sec + (double)time.tv_nsec;
-}
 
 static void opened(uint16_t count)
 {

@@ -7,11 +7,11 @@
  * behind itself, which is left out; contributions and arrivals in turn; with a tenth of the ranks declared and marked in each round; and in order,
  * where the replica itself starts an agree before each round, which waits for the round's last entry, and polls behind it. Each is fed up to three
  * lengths, of which the last is all that the world's rounds allow. */
+#include "clock.h"
 #include "ulfm.h"
 
 #include <stdio.h>
 #include <stdlib.h>
-#include <time.h>
 
 enum { RUNS = 5, SHORT = 10000, LONG = 100000 };
 enum { A_FAILURE = 1, AN_AGREE = 2, A_MARK = 4, AN_ARRIVAL = 5 };
@@ -22,13 +22,6 @@ struct fed {
 };
 
 static uint16_t ranks, rounds;
-
-static double now(void)
-{
-    struct timespec time;
-    clock_gettime(CLOCK_MONOTONIC, &time);
-    return 1e9 * (double)time.tv_sec + (double)time.tv_nsec;
-}
 
 static void put(struct fed *log, int kind, unsigned by, unsigned round, unsigned rank, unsigned known, uint64_t flag)
 {

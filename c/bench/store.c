@@ -3,6 +3,7 @@
  *     store_times WHERE OTHER N K      N processes agree K times over the log at WHERE, and in turn with that append an entry each to the log at
  *                                      OTHER, and read on until they have all of them: microseconds of each, the median of K
  *     store_times WHERE --count N D    N processes agree, D of them end and are declared, and the others agree again and shrink: appends counted */
+#include "clock.h"
 #include "drivers/replica.h"
 
 #include <stdio.h>
@@ -10,7 +11,6 @@
 #include <string.h>
 #include <sys/mman.h>
 #include <sys/wait.h>
-#include <time.h>
 #include <unistd.h>
 
 enum { MOST = 64, ROUNDS = 1000, ROOM = 256 };
@@ -21,13 +21,6 @@ static struct shared {
     uint64_t appends[MOST], polls[MOST], before[MOST], shrinks[MOST];
 } *shared;
 static int count, rounds;
-
-static double now(void)
-{
-    struct timespec time;
-    clock_gettime(CLOCK_MONOTONIC, &time);
-    return 1e6 * (double)time.tv_sec + 1e-3 * (double)time.tv_nsec;
-}
 
 static void check(const char *what, int code)
 {
@@ -75,7 +68,7 @@ static void work(const char *where, const char *other, int number)
             bare_round(bare, &next);
         else
             check("agree", replica_agree(&replica, ULFM_COMM_WORLD, &flag));
-        (is_bare ? shared->bare : shared->agrees)[number][part / 2] = now() - begin;
+        (is_bare ? shared->bare : shared->agrees)[number][part / 2] = 1e-3 * (now() - begin);
     }
     shared->appends[number] = replica.appends;
 }
