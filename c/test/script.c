@@ -127,6 +127,12 @@ static void print_ranks(const uint16_t *ranks, size_t count)
     putchar('\n');
 }
 
+static void print_failed(const uint16_t *ranks, size_t count)
+{
+    fputs(count == 0 ? "failed none" : "failed", stdout);
+    print_ranks(ranks, count);
+}
+
 /* Eight digits, or sixteen where the upper half isn't 0. */
 static void print_flag(ulfm_flag flag)
 {
@@ -260,10 +266,8 @@ static void call(void)
             puts(is ? "declared" : "already-failed");
         break;
     case 1:
-        if (succeeds(ulfm_get_failed(own, comm, ranks, ULFM_MAX_RANKS, &found))) {
-            fputs(found == 0 ? "failed none" : "failed", stdout);
-            print_ranks(ranks, found);
-        }
+        if (succeeds(ulfm_get_failed(own, comm, ranks, ULFM_MAX_RANKS, &found)))
+            print_failed(ranks, found);
         break;
     case 2:
         if (succeeds(ulfm_ack_failed(own, comm, count, &count)))
@@ -298,10 +302,8 @@ static void call(void)
             printf("acked %u\n", count);
         break;
     case 11:
-        if (succeeds(ulfm_failure_get_acked(own, comm, ranks, ULFM_MAX_RANKS, &found))) {
-            fputs(found == 0 ? "failed none" : "failed", stdout);
-            print_ranks(ranks, found);
-        }
+        if (succeeds(ulfm_failure_get_acked(own, comm, ranks, ULFM_MAX_RANKS, &found)))
+            print_failed(ranks, found);
         break;
     default:
         if (succeeds(ulfm_free(own, comm)))
