@@ -164,10 +164,9 @@ static struct outcome run(const struct plan *plan)
     for (int left = plan->processes; left > 0;) {
         int status;
         pid_t pid = waitpid(-1, &status, WNOHANG);
-        double passed = now() - begin;
         for (int number = 0; number < plan->processes; number++) {
             bool is_first;
-            if (ends_late(pids[number], &is_killed[number], plan->moments[number], passed, HALF_A_MINUTE))
+            if (ends_late(pids[number], &is_killed[number], plan->moments[number], now() - begin, HALF_A_MINUTE))
                 outcome.wrong = "somebody hangs";
             if (pid != pids[number])
                 continue;

@@ -239,9 +239,8 @@ static struct outcome run(const struct plan *plan)
     for (int left = plan->processes; left > 0;) {
         int status;
         pid_t pid = waitpid(-1, &status, WNOHANG);
-        double passed = now() - begin;
         for (int number = 0; number < plan->processes; number++) {
-            if (ends_late(pids[number], &is_killed[number], plan->moments[number], passed, A_MINUTE + agrees * pause_between / 1000))
+            if (ends_late(pids[number], &is_killed[number], plan->moments[number], now() - begin, A_MINUTE + agrees * pause_between / 1000))
                 outcome.wrong = "somebody hangs";
             if (pid != pids[number])
                 continue;
