@@ -25,6 +25,10 @@ Arguments = List Text
 abbrev pub number_rule : Text → ValueParser → Rule
 number_rule name parser = record (new_rule name) { long = Some name; value_names = 1; parser = Some parser }
 
+-- an option of this name that is given or not, and has no value
+abbrev pub flag_rule : Text → Rule
+flag_rule name = record (new_rule name) { long = Some name; action = Some SetTrue }
+
 -- the option that says how many ranks race, which must be given
 abbrev pub ranks_rule : Rule
 ranks_rule = record (number_rule (codes "ranks") (vp.Signed (pos 1) (pos 64))) { required = true }
@@ -39,11 +43,11 @@ fail_rule = number_rule (codes "fail") (vp.Signed (pos 0) (pos 63))
 
 -- the option that says that a script is one of single steps
 abbrev pub steps_rule : Rule
-steps_rule = record (new_rule (codes "steps")) { long = Some (codes "steps"); action = Some SetTrue }
+steps_rule = flag_rule (codes "steps")
 
 -- the option that says that each call is to be printed before its reply
 abbrev pub echo_rule : Rule
-echo_rule = record (new_rule (codes "echo")) { long = Some (codes "echo"); action = Some SetTrue }
+echo_rule = flag_rule (codes "echo")
 
 -- the command that runs a script
 abbrev pub run : App
@@ -55,14 +59,14 @@ migrate = new_app (codes "migrate")
 
 -- the option that says that the reason is to be explained
 abbrev pub explain_rule : Rule
-explain_rule = record (new_rule (codes "explain")) { long = Some (codes "explain"); action = Some SetTrue }
+explain_rule = flag_rule (codes "explain")
 
 -- the options that say that a log of calls and replies is to be judged, and that the trace is wanted which explains it
 abbrev pub observed_rule : Rule
-observed_rule = record (new_rule (codes "observed")) { long = Some (codes "observed"); action = Some SetTrue }
+observed_rule = flag_rule (codes "observed")
 
 abbrev pub witness_rule : Rule
-witness_rule = record (new_rule (codes "witness")) { long = Some (codes "witness"); action = Some SetTrue }
+witness_rule = flag_rule (codes "witness")
 
 -- the command that judges a trace, or a log
 abbrev pub check : App
@@ -70,10 +74,10 @@ check = with_rule (with_rule (with_rule (new_app (codes "check")) explain_rule) 
 
 -- the options that say that a picture is wanted in characters, and in ASCII alone
 abbrev pub text_rule : Rule
-text_rule = record (new_rule (codes "text")) { long = Some (codes "text"); action = Some SetTrue }
+text_rule = flag_rule (codes "text")
 
 abbrev pub ascii_rule : Rule
-ascii_rule = record (new_rule (codes "ascii")) { long = Some (codes "ascii"); action = Some SetTrue }
+ascii_rule = flag_rule (codes "ascii")
 
 -- the command that draws a trace
 abbrev pub draw : App
@@ -133,37 +137,21 @@ ulfm = with_subcommand replayers race.top
 abbrev pub IsCommand : App → Command → Type 0
 IsCommand app command = (app_of command ≡ app) × ((out-Command command).has_globals ≡ false)
 
--- a text is a number of 16 bits in decimal, perhaps behind a plus
-abbrev pub IsNumber : Text → ℕ → Type 0
-IsNumber text n =
-    IsNumeral 10 (without_leading_plus text) × (digits_value 10 (without_leading_plus text) < 2 ^ 16) × (n ≡ digits_value 10 (without_leading_plus text))
+-- a text is a number of so many bits in decimal, perhaps behind a plus
+abbrev pub IsNumber : ℕ → Text → ℕ → Type 0
+IsNumber bits text n =
+    IsNumeral 10 (without_leading_plus text) × (digits_value 10 (without_leading_plus text) < 2 ^ bits) × (n ≡ digits_value 10 (without_leading_plus text))
 
 -- an option that isn't given, or that has this number
-abbrev pub IsOptional : Option Text → Option ℕ → Type 0
-IsOptional None number = number ≡ None
-IsOptional (Some text) None = ⊥
-IsOptional (Some text) (Some n) = IsNumber text n
-
--- the same as it is read, where a text that is no number is an error
-abbrev pub IsNumberRead : {E : Type 0} → Option Text → Result (Option ℕ) E → Type 0
-IsNumberRead given (Ok number) = IsOptional given number
-IsNumberRead given (Err error) = (number : Option ℕ) → IsOptional given number → ⊥
-
--- a text is a number of 32 bits in decimal, perhaps behind a plus
-abbrev pub IsCount : Text → ℕ → Type 0
-IsCount text n =
-    IsNumeral 10 (without_leading_plus text) × (digits_value 10 (without_leading_plus text) < 2 ^ 32) × (n ≡ digits_value 10 (without_leading_plus text))
-
--- an option that isn't given, or that has this number of 32 bits
-abbrev pub IsOptionalCount : Option Text → Option ℕ → Type 0
-IsOptionalCount None number = number ≡ None
-IsOptionalCount (Some text) None = ⊥
-IsOptionalCount (Some text) (Some n) = IsCount text n
+abbrev pub IsOptional : ℕ → Option Text → Option ℕ → Type 0
+IsOptional bits None number = number ≡ None
+IsOptional bits (Some text) None = ⊥
+IsOptional bits (Some text) (Some n) = IsNumber bits text n
 
 -- the same as it is read, where a text that is no such number is an error
-abbrev pub IsCountRead : {E : Type 0} → Option Text → Result (Option ℕ) E → Type 0
-IsCountRead given (Ok number) = IsOptionalCount given number
-IsCountRead given (Err error) = (number : Option ℕ) → IsOptionalCount given number → ⊥
+abbrev pub IsNumberRead : {E : Type 0} → ℕ → Option Text → Result (Option ℕ) E → Type 0
+IsNumberRead bits given (Ok number) = IsOptional bits given number
+IsNumberRead bits given (Err error) = (number : Option ℕ) → IsOptional bits given number → ⊥
 
 -- a rank of the race is declared, or none
 abbrev pub fail_is_in : ℕ → Option ℕ → Bool
@@ -177,9 +165,9 @@ is_in_range options =
 
 -- the options of a race, as they are given
 pub record IsRaceOf (rows : List Row) (options : RaceOptions) : Type 0 where
-  pub ranks : IsOptional (one_of (codes "ranks") rows) (Some options.ranks)
-  pub rounds : IsOptional (one_of (codes "rounds") rows) (Some options.rounds)
-  pub fail : IsOptional (one_of (codes "fail") rows) options.fail
+  pub ranks : IsOptional 16 (one_of (codes "ranks") rows) (Some options.ranks)
+  pub rounds : IsOptional 16 (one_of (codes "rounds") rows) (Some options.rounds)
+  pub fail : IsOptional 16 (one_of (codes "fail") rows) options.fail
   pub in_range : is_in_range options ≡ true
 
 -- the options of a race as they are read: none where there are none that are in their ranges
@@ -215,8 +203,8 @@ pub record IsDrawRead (rows : List Row) (options : DrawOptions) : Type 0 where
 
 -- the options of an exploration, as they are given
 pub record IsExploreOf (rows : List Row) (options : ExploreOptions) : Type 0 where
-  pub most : IsOptionalCount (one_of (codes "most") rows) options.most
-  pub outcome : IsOptionalCount (one_of (codes "outcome") rows) options.outcome
+  pub most : IsOptional 32 (one_of (codes "most") rows) options.most
+  pub outcome : IsOptional 32 (one_of (codes "outcome") rows) options.outcome
 
 -- the options of an exploration as they are read: none where there are none
 abbrev pub IsExploreRead : List Row → Option ExploreOptions → Type 0

@@ -1,7 +1,7 @@
 //! The program's commands and their options, as the command line crate takes them.
 ghost use Rattle.std.specs.Prelude.{◌≡◌, IfOk, false};
 ghost use Rattle.clap.specs.Words.{rule_of};
-ghost use Rattle.ulfm_command.specs.CommandLines.{IsCommand, ascii_rule, check, draw, drawers, echo_rule, explain_rule, explore, explorers, fail_rule, migrate, migrators, most_rule, number_rule, observed_rule, outcome_rule, race, ranks_rule, readers, replay, replayers, rounds_rule, run, runners, steps_rule, text_rule, ulfm, witness_rule};
+ghost use Rattle.ulfm_command.specs.CommandLines.{IsCommand, check, draw, drawers, explore, explorers, fail_rule, flag_rule, migrate, migrators, most_rule, number_rule, outcome_rule, race, ranks_rule, readers, replay, replayers, rounds_rule, run, runners, ulfm};
 
 use crate::texts::{
     CHECK_HELP, DRAW_HELP, EXPLORE_HELP, MIGRATE_HELP, RACE_HELP, REPLAY_HELP, RUN_HELP, ULFM_HELP,
@@ -27,6 +27,17 @@ fn number_option<'a>(
         .value_name(value)
         .help(help)
         .value_parser(parser)
+}
+
+/// An option that is given or not.
+fn flag_option<'a>(global: Global, name: &'a str, help: &'a str) -> Arg<'a>
+    ensures rule { rule_of result ≡ flag_rule name.now }
+    ensures local { result.global ≡ false }
+{
+    Arg::new(global, name)
+        .long(name)
+        .action(ArgAction::SetTrue)
+        .help(help)
 }
 
 /// How many ranks race.
@@ -83,28 +94,6 @@ fn race_command<'a>(global: Global) -> Result<Command<'a>, AllocError>
         .arg(fail_option(global))
 }
 
-/// That a script is one of single steps.
-fn steps_option<'a>(global: Global) -> Arg<'a>
-    ensures rule { rule_of result ≡ steps_rule }
-    ensures local { result.global ≡ false }
-{
-    Arg::new(global, "steps")
-        .long("steps")
-        .action(ArgAction::SetTrue)
-        .help("Runs a script of single atomic steps, and prints its trace")
-}
-
-/// That each call is to be printed before its reply.
-fn echo_option<'a>(global: Global) -> Arg<'a>
-    ensures rule { rule_of result ≡ echo_rule }
-    ensures local { result.global ≡ false }
-{
-    Arg::new(global, "echo")
-        .long("echo")
-        .action(ArgAction::SetTrue)
-        .help("Prints each call before its reply; with --steps the trace has them anyhow")
-}
-
 /// `ulfm run`.
 fn run_command<'a>(global: Global) -> Result<Command<'a>, AllocError>
     ensures { IfOk result (IsCommand run) }
@@ -114,41 +103,16 @@ fn run_command<'a>(global: Global) -> Result<Command<'a>, AllocError>
             "Runs the script on standard input: of calls, each of which prints a line, or of single steps",
         )
         .after_help(RUN_HELP)
-        .arg(steps_option(global))?
-        .arg(echo_option(global))
-}
-
-/// That the reason of a verdict is to be explained.
-fn explain_option<'a>(global: Global) -> Arg<'a>
-    ensures rule { rule_of result ≡ explain_rule }
-    ensures local { result.global ≡ false }
-{
-    Arg::new(global, "explain")
-        .long("explain")
-        .action(ArgAction::SetTrue)
-        .help("Says of an illegal trace what is wrong, and what would have been legal")
-}
-
-/// That a log is to be judged.
-fn observed_option<'a>(global: Global) -> Arg<'a>
-    ensures rule { rule_of result ≡ observed_rule }
-    ensures local { result.global ≡ false }
-{
-    Arg::new(global, "observed")
-        .long("observed")
-        .action(ArgAction::SetTrue)
-        .help("Judges a log of calls and replies: whether some legal trace explains it")
-}
-
-/// That the trace is wanted which explains a log.
-fn witness_option<'a>(global: Global) -> Arg<'a>
-    ensures rule { rule_of result ≡ witness_rule }
-    ensures local { result.global ≡ false }
-{
-    Arg::new(global, "witness")
-        .long("witness")
-        .action(ArgAction::SetTrue)
-        .help("With --observed, prints the trace that explains the log, too")
+        .arg(flag_option(
+            global,
+            "steps",
+            "Runs a script of single atomic steps, and prints its trace",
+        ))?
+        .arg(flag_option(
+            global,
+            "echo",
+            "Prints each call before its reply; with --steps the trace has them anyhow",
+        ))
 }
 
 /// `ulfm check`.
@@ -160,31 +124,21 @@ fn check_command<'a>(global: Global) -> Result<Command<'a>, AllocError>
             "Judges the trace on standard input: whether it is legal, or which line can't be, and why",
         )
         .after_help(CHECK_HELP)
-        .arg(explain_option(global))?
-        .arg(observed_option(global))?
-        .arg(witness_option(global))
-}
-
-/// That a picture is wanted in characters.
-fn text_option<'a>(global: Global) -> Arg<'a>
-    ensures rule { rule_of result ≡ text_rule }
-    ensures local { result.global ≡ false }
-{
-    Arg::new(global, "text")
-        .long("text")
-        .action(ArgAction::SetTrue)
-        .help("Draws the rows in characters, for a terminal")
-}
-
-/// That only those of ASCII are wanted.
-fn ascii_option<'a>(global: Global) -> Arg<'a>
-    ensures rule { rule_of result ≡ ascii_rule }
-    ensures local { result.global ≡ false }
-{
-    Arg::new(global, "ascii")
-        .long("ascii")
-        .action(ArgAction::SetTrue)
-        .help("With --text, uses ASCII alone, on a terminal too")
+        .arg(flag_option(
+            global,
+            "explain",
+            "Says of an illegal trace what is wrong, and what would have been legal",
+        ))?
+        .arg(flag_option(
+            global,
+            "observed",
+            "Judges a log of calls and replies: whether some legal trace explains it",
+        ))?
+        .arg(flag_option(
+            global,
+            "witness",
+            "With --observed, prints the trace that explains the log, too",
+        ))
 }
 
 /// `ulfm draw`.
@@ -194,8 +148,16 @@ fn draw_command<'a>(global: Global) -> Result<Command<'a>, AllocError>
     Command::new(global, "draw")
         .about("Draws the trace on standard input: a picture for a browser, or rows for a terminal")
         .after_help(DRAW_HELP)
-        .arg(text_option(global))?
-        .arg(ascii_option(global))
+        .arg(flag_option(
+            global,
+            "text",
+            "Draws the rows in characters, for a terminal",
+        ))?
+        .arg(flag_option(
+            global,
+            "ascii",
+            "With --text, uses ASCII alone, on a terminal too",
+        ))
 }
 
 /// How many states there may be.

@@ -1,7 +1,7 @@
 //! What the words of a command line ask for.
 ghost use Rattle.std.specs.Prelude.{◌≡◌, IfOk, Some, codes, map};
 ghost use Rattle.clap.specs.Words.{FailsBy, fault_of, found_of, one_of, rows_of, subcommand_of, subcommand_rows_of};
-ghost use Rattle.ulfm_command.specs.CommandLines.{IsAskedBy, IsCountRead, IsDrawRead, IsEntered, IsExploreRead, IsNumberRead, IsRaceRead, check_form, has_flag, judged_form, run_form, ulfm};
+ghost use Rattle.ulfm_command.specs.CommandLines.{IsAskedBy, IsDrawRead, IsEntered, IsExploreRead, IsNumberRead, IsRaceRead, check_form, has_flag, judged_form, run_form, ulfm};
 
 use crate::asked::{
     Asked, CheckForm, DrawOptions, ExploreOptions, RaceOptions, Reason, RunForm, Task,
@@ -149,7 +149,7 @@ fn read_explore(matches: &ArgMatches<'_>) -> Option<ExploreOptions>
 
 /// The number of 32 bits of an option, if it is given.
 fn read_count(matches: &ArgMatches<'_>, name: &str) -> Result<Option<u32>, ParseIntError>
-    ensures { IsCountRead (one_of name.now (rows_of (found_of matches.now))) result }
+    ensures { IsNumberRead 32 (one_of name.now (rows_of (found_of matches.now))) result }
 {
     matches.try_get_one::<u32>(name)
 }
@@ -175,9 +175,9 @@ fn read_race(matches: &ArgMatches<'_>) -> Option<RaceOptions>
     if race.is_in_range() { Some(race) } else { None }
 }
 
-/// The number of an option, if it is given.
+/// The number of 16 bits of an option, if it is given.
 fn read_number(matches: &ArgMatches<'_>, name: &str) -> Result<Option<u16>, ParseIntError>
-    ensures { IsNumberRead (one_of name.now (rows_of (found_of matches.now))) result }
+    ensures { IsNumberRead 16 (one_of name.now (rows_of (found_of matches.now))) result }
 {
     matches.try_get_one::<u16>(name)
 }

@@ -8,5 +8,5 @@ use Rattle.ulfm_command.proofs.reading.read_number.Goals as goal
 pub returns : goal.returns
 returns c =
     let same = one_text-rows (found_of c.args.matches.now) c.args.name.now in
-    is_read _ (λ bs r. ParsesUnsigned 16 10 bs r × ExplainsUnsignedError 10 bs r × HasUnsignedDigitsIfOk bs r) (λ t x g. g.0) _
+    is_read 16 _ (λ bs r. ParsesUnsigned 16 10 bs r × ExplainsUnsignedError 10 bs r × HasUnsignedDigitsIfOk bs r) (λ t x g. g.0) _
     c.try_get_one.result (λ e. c.try_get_one.ensures.none (same ∙ e)) (λ t e. c.try_get_one.ensures.value t (same ∙ e))
