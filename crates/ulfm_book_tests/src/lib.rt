@@ -2,14 +2,4 @@
 #![tactic(auto)]
 
 #[cfg(test)]
-mod calls;
-#[cfg(test)]
-mod largest;
-#[cfg(test)]
-mod member;
-#[cfg(test)]
-mod places;
-#[cfg(test)]
-mod revoking;
-#[cfg(test)]
-mod words;
+mod tests;

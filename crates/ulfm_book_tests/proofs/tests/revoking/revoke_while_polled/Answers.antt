@@ -2,7 +2,7 @@ use Rattle.std.proofs.Common.{◌≡◌, ◌<◌, length, subst, sym, ◌∙◌,
 use Rattle.std.specs.List.{AllByRecursion}
 use Rattle.ulfm_model.proofs.Lists.{each_from}
 use Rattle.ulfm_book_tests.proofs.Jobs.{each_at, each_remove}
-use Rattle.ulfm_book_tests.proofs.revoking.revoke_while_polled.Goals as goal
+use Rattle.ulfm_book_tests.proofs.tests.revoking.revoke_while_polled.Goals as goal
 
 pub loop-replies-init : goal.loop-replies-init
 loop-replies-init g c =

@@ -3,7 +3,7 @@ use mathlib.Core.List.{IsPrefix}
 use Rattle.ulfm_model.specs.declared.{place.Place.{Place}, place.Place.TheVariants.{List as ListAt, Revoked as RevokedAt}}
 use Rattle.ulfm_model.specs.{History.{History}, Runs.{Did}, Words.{word_at}}
 use Rattle.ulfm_words.proofs.Growing.{word_stays}
-use Rattle.ulfm_book_tests.proofs.words.learn_of_both.Goals as goal
+use Rattle.ulfm_book_tests.proofs.tests.words.learn_of_both.Goals as goal
 
 module _ {P : Type 0} (pack : P → ℕ) (p : Place) (old new : History P) where
   still_set : IsPrefix old new → 0 < word_at pack old p → 0 < word_at pack new p

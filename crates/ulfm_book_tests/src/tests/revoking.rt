@@ -2,7 +2,7 @@
 ghost use Rattle.std.specs.Prelude.{◌≡◌, IfOk};
 ghost use Rattle.std.specs.List.{AllByRecursion};
 
-use crate::member::{Member, Outside, open};
+use crate::tests::member::{Member, Members, Outside, open};
 use std::alloc::{AllocError, Global};
 use std::cmp::Ordering;
 use std::process::Abort;
@@ -22,7 +22,9 @@ const REVOKER: u16 = 1;
 /// What a rank's calls on its thread replied.
 #[derive(Drop)]
 enum Replies {
+    /// Of the rank that revokes: whether it was the first.
     Revoke(Result<bool, Refusal>),
+    /// Of another: what its polls were answered, in order.
     Polls([Reply; 4]),
 }
 
@@ -31,8 +33,8 @@ fn arrive_others<R: Abort>(
     rt: &R,
     alloc: Global,
     outside: &Outside<FlagAnd>,
-    all: Vec<Member<FlagAnd>>,
-) -> Result<Vec<Member<FlagAnd>>, AllocError>
+    all: Members,
+) -> Result<Members, AllocError>
     requires { AllByRecursion (λ m. m.view.words ≡ outside.now.words) all.items }
     ensures { IfOk result (λ ready. AllByRecursion (λ m. m.view.words ≡ outside.now.words) ready.items) }
 {
@@ -67,7 +69,7 @@ fn revoke_or_poll(mut member: Member<FlagAnd>) -> (Replies, Member<FlagAnd>)
 fn run_all<R: Threads + Sync>(
     rt: &R,
     outside: &Outside<FlagAnd>,
-    all: Vec<Member<FlagAnd>>,
+    all: Members,
 ) -> Result<Vec<(Replies, Member<FlagAnd>)>, AllocError>
     requires { AllByRecursion (λ m. m.view.words ≡ outside.now.words) all.items }
     ensures { IfOk result (λ done. AllByRecursion (λ d. d.1.view.words ≡ outside.now.words) done.items) }

@@ -1,7 +1,7 @@
 use Rattle.std.proofs.Common.{◌≡◌, sym, ◌∙◌}
 use Rattle.ulfm_model.proofs.Lists.{each_from}
 use Rattle.ulfm_member.specs.Members.{IsNewMember}
-use Rattle.ulfm_book_tests.proofs.member.open.Goals as goal
+use Rattle.ulfm_book_tests.proofs.tests.member.open.Goals as goal
 
 pub returns : goal.returns
 returns g c =

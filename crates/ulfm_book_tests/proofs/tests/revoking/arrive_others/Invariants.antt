@@ -1,6 +1,6 @@
 use Rattle.std.proofs.Common.{◌≡◌}
 use Rattle.std.specs.List.{AllByRecursion}
-use Rattle.ulfm_book_tests.proofs.revoking.arrive_others.Given as goal
+use Rattle.ulfm_book_tests.proofs.tests.revoking.arrive_others.Given as goal
 
 abbrev pub invariant-loop-member : goal.invariant-loop-member
 invariant-loop-member g l =

@@ -2,7 +2,7 @@ use Rattle.std.proofs.Common.{◌≡◌, ℕ, ◌+◌, ◌-◌, List, [], ◌∷
 use Rattle.ulfm_model.specs.declared.{event.Caller.TheVariants.{Outside}, event.Event.TheVariants.{Fail}, place.Place.TheVariants.{List as ListAt}}
 use Rattle.ulfm_model.specs.History.{failures, has}
 use Rattle.ulfm_model.specs.Terms.{word_or_zero}
-use Rattle.ulfm_book_tests.proofs.words.declare.Goals as goal
+use Rattle.ulfm_book_tests.proofs.tests.words.declare.Goals as goal
 
 -- where the first entry isn't set nobody is declared
 nobody : (xs : List ℕ) → word_or_zero (λ r. r + 1) (slice_get xs 0) ≡ 0 → xs ≡ []

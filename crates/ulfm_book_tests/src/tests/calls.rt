@@ -1,7 +1,7 @@
 // Calls of ranks on threads, over words that they share. No function here may wait.
 ghost use Rattle.std.specs.Prelude.{◌≡◌};
 
-use crate::member::{Member, Outside, declare_all, failed_group, open};
+use crate::tests::member::{Member, Members, Outside, declare_all, failed_group, open};
 use std::alloc::{AllocError, Global};
 use std::process::Abort;
 use std::test::Fail;
@@ -21,10 +21,7 @@ fn all_but(bit: u16) -> FlagAnd {
 }
 
 /// Each contributes on a thread of its own, all but the bit of its number.
-fn start_all<R: Threads + Sync>(
-    rt: &R,
-    all: Vec<Member<FlagAnd>>,
-) -> Result<Vec<Member<FlagAnd>>, AllocError> {
+fn start_all<R: Threads + Sync>(rt: &R, all: Members) -> Result<Members, AllocError> {
     thread::map_vec(
         rt,
         all,
@@ -37,10 +34,7 @@ fn start_all<R: Threads + Sync>(
 }
 
 /// Each starts a shrink on a thread of its own.
-fn shrink_all<R: Threads + Sync>(
-    rt: &R,
-    all: Vec<Member<FlagAnd>>,
-) -> Result<Vec<Member<FlagAnd>>, AllocError> {
+fn shrink_all<R: Threads + Sync>(rt: &R, all: Members) -> Result<Members, AllocError> {
     thread::map_vec(
         rt,
         all,
@@ -54,16 +48,13 @@ fn shrink_all<R: Threads + Sync>(
 /// Each polls on a thread of its own, and comes back with its reply.
 fn poll_and_keep<R: Threads + Sync>(
     rt: &R,
-    all: Vec<Member<FlagAnd>>,
+    all: Members,
 ) -> Result<Vec<(Reply, Member<FlagAnd>)>, AllocError> {
     thread::map_vec(rt, all, &|mut member| (member.poll(0), member))
 }
 
 /// Each polls on a thread of its own.
-fn poll_all<R: Threads + Sync>(
-    rt: &R,
-    all: Vec<Member<FlagAnd>>,
-) -> Result<Vec<Reply>, AllocError> {
+fn poll_all<R: Threads + Sync>(rt: &R, all: Members) -> Result<Vec<Reply>, AllocError> {
     thread::map_vec(rt, all, &|mut member| member.poll(0))
 }
 
@@ -116,7 +107,7 @@ fn declare_then_learn<P: Packed + Send + Sync, R: Threads>(
 /// Each declares so many ranks on a thread of its own, the same rank at once: how many each declared.
 fn declare_on_all<R: Threads + Sync>(
     rt: &R,
-    all: Vec<Member<FlagAnd>>,
+    all: Members,
     ranks: u16,
 ) -> Result<Vec<u16>, AllocError> {
     thread::map_vec(rt, all, &|mut member| declare_all(&mut member, ranks))

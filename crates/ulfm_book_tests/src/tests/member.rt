@@ -4,11 +4,14 @@ ghost use Rattle.std.specs.List.{AllByRecursion};
 
 use std::alloc::Global;
 use ulfm_book::BookWords;
-use ulfm_laws::Packed;
+use ulfm_laws::{FlagAnd, Packed};
 use ulfm_model::{Limits, OpenFault, Refusal};
 
 /// A member that may go to a thread.
 pub(crate) type Member<P> = ulfm_member::Member<BookWords<P>, P, Global>;
+
+/// Several of them, whose contributions are flags.
+pub(crate) type Members = Vec<Member<FlagAnd>>;
 
 /// The outside of such a world.
 pub(crate) type Outside<P> = ulfm_member::Outside<BookWords<P>, P, Global>;

@@ -1,7 +1,7 @@
 use Rattle.std.proofs.Common.{◌≡◌, ℕ, Bool, true, false, refl, arith, if◌then◌else◌}
 use Rattle.ulfm_model.specs.declared.event.Event.TheVariants.{Revoke}
 use Rattle.ulfm_model.specs.History.{is_revoked}
-use Rattle.ulfm_book_tests.proofs.words.revoke.Goals as goal
+use Rattle.ulfm_book_tests.proofs.tests.words.revoke.Goals as goal
 
 -- a word of 0 says no
 says_no : (b : Bool) → (let n : ℕ = if b then 1 else 0 in n) ≡ 0 → b ≡ false

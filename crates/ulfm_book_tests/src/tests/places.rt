@@ -1,7 +1,7 @@
 // Threads that set one place at once.
 ghost use Rattle.ulfm_words.specs.Steps.{view_of, IsView};
 
-use crate::words::{limits, revoke};
+use crate::tests::words::{limits, revoke};
 use std::alloc::{AllocError, Global};
 use std::marker::Model;
 use std::test::Fail;

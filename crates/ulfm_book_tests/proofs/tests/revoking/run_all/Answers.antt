@@ -1,6 +1,6 @@
 use Rattle.std.proofs.Common.{◌≡◌, rules}
 use Rattle.ulfm_book_tests.proofs.Jobs.{jobs_give}
-use Rattle.ulfm_book_tests.proofs.revoking.run_all.Goals as goal
+use Rattle.ulfm_book_tests.proofs.tests.revoking.run_all.Goals as goal
 
 pub returns : goal.returns
 returns g c =

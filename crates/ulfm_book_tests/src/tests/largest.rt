@@ -1,6 +1,6 @@
 // The largest world of 1,024 ranks, over shared words.
-use crate::member::{Member, Outside};
-use crate::words::limits;
+use crate::tests::member::{Member, Members, Outside};
+use crate::tests::words::limits;
 use std::process::Abort;
 use std::test::Fail;
 use ulfm_book::BookWords;
@@ -40,7 +40,7 @@ fn poll_some(rt: &impl Abort, members: &mut [Member<FlagAnd>], ranks: &[u16]) ->
 fn largest_world_agrees(rt: HostRuntime) -> Result<(), Fail> {
     let words: BookWords<FlagAnd> = BookWords::open(rt.alloc(), limits(1024, 2047))?;
     let opened = ulfm_member::open(rt.alloc(), words)?;
-    let (mut outside, mut members): (Outside<FlagAnd>, Vec<Member<FlagAnd>>) = opened;
+    let (mut outside, mut members): (Outside<FlagAnd>, Members) = opened;
     assert_eq!(rt; members.len(), 1024);
     assert_eq!(rt; outside.fail(1023), Ok(true));
     start_all(&rt, &mut members);

@@ -1,8 +1,8 @@
 use Rattle.std.proofs.Common.{◌≡◌, refl, subst, sym, ◌∙◌, ap}
 use Rattle.std.specs.List.{AllByRecursion}
 use Rattle.ulfm_model.proofs.Lists.{each_push}
-use Rattle.ulfm_book_tests.proofs.revoking.arrive_others.Goals as goal
-use Rattle.ulfm_book_tests.proofs.revoking.arrive_others.Goals.{then-number-ne-REVOKER+else-assert_eq, else-number-ne-REVOKER}
+use Rattle.ulfm_book_tests.proofs.tests.revoking.arrive_others.Goals as goal
+use Rattle.ulfm_book_tests.proofs.tests.revoking.arrive_others.Goals.{then-number-ne-REVOKER+else-assert_eq, else-number-ne-REVOKER}
 
 pub loop-member-preserved : goal.loop-member-preserved
 loop-member-preserved g c =
