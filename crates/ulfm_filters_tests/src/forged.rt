@@ -86,9 +86,11 @@ fn forged_headers(rt: HostRuntime) -> Result<(), Fail> {
 /// A change of one line of a text, counted from 1.
 #[derive(Clone, Copy)]
 enum Change {
+    /// Another line stands in its place.
     Becomes(&'static str),
     Twice,
     LeftOut,
+    /// This line comes behind it.
     Followed(&'static str),
     WithoutNewline,
 }

@@ -16,6 +16,7 @@ const LAST_LINE: u32 = 1_000;
 
 /// Why a line wasn't taken.
 enum Stop {
+    /// The line has this fault.
     Kind(ProgramKind),
     Memory,
 }
