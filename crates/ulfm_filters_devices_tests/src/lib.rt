@@ -2,14 +2,4 @@
 #![tactic(auto)]
 
 #[cfg(test)]
-mod calls;
-#[cfg(test)]
-mod lines;
-#[cfg(test)]
-mod memory;
-#[cfg(test)]
-mod steps;
-#[cfg(test)]
-mod told;
-#[cfg(test)]
-mod writes;
+mod tests;

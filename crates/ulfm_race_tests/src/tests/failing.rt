@@ -1,5 +1,5 @@
 // Races in which a rank is declared failed.
-use crate::free::Free;
+use crate::tests::free::Free;
 use std::process::Abort;
 use std::test::Fail;
 use ulfm_laws::flag_and::FlagAnd;

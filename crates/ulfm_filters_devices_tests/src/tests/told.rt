@@ -8,6 +8,7 @@ use ulfm_filters::{Filter, run_filter};
 #[derive(Drop)]
 pub(crate) struct Told {
     errors: Vec<u8>,
+    /// The status that it ends with.
     pub(crate) status: u8,
 }
 

@@ -1,7 +1,7 @@
 //! Scripts of single steps, traces, and a migration, over devices that fail.
-use crate::lines::{given, whole_lines};
-use crate::told::{require, run};
-use crate::writes::{Texts, fail_all_writes};
+use crate::tests::lines::{given, whole_lines};
+use crate::tests::told::{require, run};
+use crate::tests::writes::{Texts, fail_all_writes};
 use std::alloc::Global;
 use std::test::Fail;
 use ulfm_devices::{FailureMode, Pieces};

@@ -1,5 +1,5 @@
 //! Writers that fail at each call in turn.
-use crate::told::{require, run};
+use crate::tests::told::{require, run};
 use std::alloc::Global;
 use std::test::Fail;
 use ulfm_devices::{FailureMode, LimitedWriter};
@@ -9,14 +9,18 @@ use ulfm_worked_rows::calls::SCRIPT;
 /// How writes fail: so many bytes are taken at a time, and a call fails in this way.
 #[derive(Clone, Copy)]
 pub(crate) struct Failure {
+    /// How many bytes one call takes at the most.
     pub(crate) most: usize,
+    /// What the call that fails answers.
     pub(crate) how: FailureMode,
 }
 
 /// What a filter reads, and what it writes where no device fails.
 #[derive(Clone, Copy)]
 pub(crate) struct Texts<'a> {
+    /// The input.
     pub(crate) script: &'a [u8],
+    /// The whole output.
     pub(crate) output: &'a [u8],
 }
 

@@ -1,7 +1,7 @@
 //! Scripts of calls over devices that fail.
-use crate::lines::{count_lines, first_lines, given};
-use crate::told::{require, run};
-use crate::writes::{Failure, Texts, fail_all_writes, fail_each_write, fail_write};
+use crate::tests::lines::{count_lines, first_lines, given};
+use crate::tests::told::{require, run};
+use crate::tests::writes::{Failure, Texts, fail_all_writes, fail_each_write, fail_write};
 use std::alloc::{AllocError, Global};
 use std::test::Fail;
 use ulfm_devices::{FailureMode, Pieces};

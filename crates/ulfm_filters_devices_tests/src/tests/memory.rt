@@ -1,6 +1,6 @@
 //! Memory that is refused: runs in heaps of all sizes that are too small.
-use crate::lines::{count_lines, first_lines};
-use crate::told::require;
+use crate::tests::lines::{count_lines, first_lines};
+use crate::tests::told::require;
 use linked_list_allocator::LocalHeap;
 use std::alloc::Global;
 use std::test::Fail;

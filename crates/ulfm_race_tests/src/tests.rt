@@ -1,0 +1,7 @@
+// The tests, by what they are of.
+
+mod failing;
+mod free;
+mod held;
+mod order;
+mod tables;
