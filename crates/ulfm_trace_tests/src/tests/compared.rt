@@ -1,12 +1,12 @@
 //! The check and the second one on each small change of some traces.
-use crate::reasons::{TAKEN_PLACES, TWO_RANKS};
-use crate::second_check::plain_check;
-use crate::tested::check;
-use crate::traces::{
+use crate::tests::reasons::{TAKEN_PLACES, TWO_RANKS};
+use crate::tests::second_check::plain_check;
+use crate::tests::tested::check;
+use crate::tests::traces::{
     CONTRIBUTION_IN_FLIGHT, DECISION_OF_NOBODY, LATE_ARRIVAL, MARK_COMES_FIRST, MARK_ENDS,
     REVOKED_BETWEEN_LOADS, SHRINK, spliced, text_of,
 };
-use crate::variations::{Change, changed};
+use crate::tests::variations::{Change, changed};
 use std::test::Fail;
 use ulfm_trace::Verdict;
 

@@ -178,9 +178,13 @@ fn all_members<A: Allocator + Copy>(
 /// A communicator: whether there is one of this number, and its members and failed group.
 #[derive(Drop)]
 pub(crate) struct Comm<A: Allocator> {
+    /// Whether it was made.
     pub(crate) exists: bool,
+    /// How many communicators there are.
     pub(crate) count: usize,
+    /// Its members, by rank; nobody where it wasn't made.
     pub(crate) members: Vec<u16, A>,
+    /// Those of them that are declared, in the order of their declarations.
     pub(crate) failed: Vec<u16, A>,
 }
 
@@ -208,8 +212,11 @@ pub(crate) fn comm_at<A: Allocator + Copy>(
 /// What a round decided.
 #[derive(Drop)]
 pub(crate) struct Outcome<A: Allocator> {
+    /// What all contributions come to.
     pub(crate) body: Body<FlagAnd>,
+    /// The members that it names as failed.
     pub(crate) failed: Vec<u16, A>,
+    /// Whether an error is raised: some rank hadn't acknowledged one of them.
     pub(crate) raised: bool,
 }
 

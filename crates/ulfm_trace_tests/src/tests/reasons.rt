@@ -1,7 +1,7 @@
 //! Traces whose last line is bad, for each reason, and traces with every reply.
-use crate::rows::illegal;
-use crate::tested::check;
-use crate::traces::text_of;
+use crate::tests::rows::illegal;
+use crate::tests::tested::check;
+use crate::tests::traces::text_of;
 use std::test::Fail;
 use ulfm_trace::Verdict;
 use ulfm_trace_model::Why;

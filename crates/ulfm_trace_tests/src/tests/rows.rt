@@ -1,6 +1,6 @@
 //! Traces that were worked out by hand, and what changes of them give.
-use crate::tested::check;
-use crate::traces::{
+use crate::tests::tested::check;
+use crate::tests::traces::{
     CONTRIBUTION_IN_FLIGHT, DECISION_OF_NOBODY, LATE_ARRIVAL, MARK_COMES_FIRST, MARK_ENDS,
     MARKS_ALONE, REVOKED_BETWEEN_LOADS, SHRINK, SIXTEEN_DIGITS, THIRTY_TWO_IDS, spliced, text_of,
 };

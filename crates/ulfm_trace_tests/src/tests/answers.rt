@@ -1,6 +1,6 @@
 //! Which replies are answers to a call.
-use crate::holder::{Held, Holder};
-use crate::past::{
+use crate::tests::holder::{Held, Holder};
+use crate::tests::past::{
     Comm, Outcome, comm_at, decided, failures, has_arrived, is_revoked, made_of, slot_at, those,
 };
 use std::alloc::{AllocError, Allocator};
@@ -11,11 +11,17 @@ use ulfm_model::{Call, Entry, Event, Limits, Offer, Refusal, Reply, Request, Slo
 /// A call, with what its reply rests on.
 #[derive(Drop)]
 pub(crate) struct Asking<'a, A: Allocator> {
+    /// For the lists that an answer is compared with.
     pub(crate) alloc: A,
+    /// The world's limits.
     pub(crate) limits: Limits,
+    /// The history up to the reply's point.
     pub(crate) past: &'a [Entry<FlagAnd>],
+    /// The call.
     pub(crate) asked: Call<FlagAnd>,
+    /// The failures that its look found.
     pub(crate) seen: &'a [u16],
+    /// The events that it added itself.
     pub(crate) own: &'a [Event<FlagAnd>],
 }
 

@@ -1,7 +1,7 @@
 //! Readers that give little at once, and readers that fail.
-use crate::rows::illegal;
-use crate::tested::Tested;
-use crate::traces::{CONTRIBUTION_IN_FLIGHT, text_of};
+use crate::tests::rows::illegal;
+use crate::tests::tested::Tested;
+use crate::tests::traces::{CONTRIBUTION_IN_FLIGHT, text_of};
 use linked_list_allocator::LocalHeap;
 use std::alloc::Global;
 use std::test::Fail;

@@ -1,9 +1,9 @@
 //! A second judge of traces: it keeps all that was said, and walks over it at each line.
 ghost use Rattle.std.specs.Prelude.{◌<◌, length, IfSome};
 
-use crate::answers::{Asking, is_answer, is_fail_answer};
-use crate::holder::{Holder, caller_of, may_own};
-use crate::past::{
+use crate::tests::answers::{Asking, is_answer, is_fail_answer};
+use crate::tests::holder::{Holder, caller_of, may_own};
+use crate::tests::past::{
     Comm, comm_at, decided, failures, first, has_arrived, is_revoked, made_of, slot_at,
 };
 use std::alloc::{AllocError, Allocator};
@@ -15,10 +15,15 @@ use ulfm_trace_model::{Line, Why};
 /// A call under way.
 #[derive(Drop)]
 pub(crate) struct Under<A: Allocator> {
+    /// Who made it.
     pub(crate) by: Caller,
+    /// The call.
     pub(crate) asked: Call<FlagAnd>,
+    /// How many events there were when it began.
     pub(crate) begun: usize,
+    /// How many failures its look found, once it has looked.
     pub(crate) look: Option<usize>,
+    /// The events that it added itself.
     pub(crate) own: Vec<Event<FlagAnd>, A>,
 }
 

@@ -8,18 +8,26 @@ use ulfm_model::{Call, Caller, Event, Limits, Refusal, Reply, Request};
 /// A communicator that a rank holds.
 #[derive(Clone, Copy)]
 pub(crate) struct Held {
+    /// Its number.
     pub(crate) comm: u16,
+    /// Its context id.
     pub(crate) context: u8,
+    /// How many failures of it the rank has acknowledged.
     pub(crate) acked: u16,
+    /// The rank's next agreement round on it.
     pub(crate) next_agreement: u16,
+    /// The next barrier round.
     pub(crate) next_barrier: u16,
+    /// The request that is open on it.
     pub(crate) request: Option<Request>,
 }
 
 /// What a rank holds.
 #[derive(Drop)]
 pub(crate) struct Holder<A: Allocator> {
+    /// Whether it was refused as self-failed, and is for good.
     pub(crate) refused: bool,
+    /// Its communicators, in the order in which it got them.
     pub(crate) held: Vec<Held, A>,
 }
 

@@ -1,5 +1,5 @@
 //! A second check of a trace's text, over the second judge.
-use crate::plain_judge::PlainJudge;
+use crate::tests::plain_judge::PlainJudge;
 use std::alloc::{AllocError, Allocator};
 use ulfm_lines::read_line;
 use ulfm_script::{HeaderKind, read_header};
