@@ -4,22 +4,4 @@
 #![tactic(auto)]
 
 #[cfg(test)]
-mod arrivals;
-#[cfg(test)]
-mod blocks;
-#[cfg(test)]
-mod counted;
-#[cfg(test)]
-mod finished;
-#[cfg(test)]
-mod laws;
-#[cfg(test)]
-mod model;
-#[cfg(test)]
-mod read_on;
-#[cfg(test)]
-mod stepped;
-#[cfg(test)]
-mod words;
-#[cfg(test)]
-mod world;
+mod tests;
