@@ -2,20 +2,4 @@
 #![tactic(auto)]
 
 #[cfg(test)]
-mod acknowledging;
-#[cfg(test)]
-mod calls;
-#[cfg(test)]
-mod jobs;
-#[cfg(test)]
-mod last_steps;
-#[cfg(test)]
-mod member;
-#[cfg(test)]
-mod memory;
-#[cfg(test)]
-mod play;
-#[cfg(test)]
-mod sizes;
-#[cfg(test)]
-mod step_by_step;
+mod tests;

@@ -1,6 +1,6 @@
 // The calls of 2013: all known failures are acknowledged at once, and those that are acknowledged are listed.
 
-use crate::member::first_member;
+use crate::tests::member::first_member;
 use linked_list_allocator::LocalHeap;
 use std::alloc::{Allocator, Global};
 use std::process::Abort;

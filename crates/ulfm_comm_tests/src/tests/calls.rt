@@ -1,7 +1,7 @@
 // Calls of single ranks: memory that is refused, and others' events that come in between.
 ghost use Rattle.std.specs.Prelude.{◌<◌};
 
-use crate::member::first_member;
+use crate::tests::member::first_member;
 use linked_list_allocator::LocalHeap;
 use std::alloc::{AllocError, Allocator, Global};
 use std::process::Abort;

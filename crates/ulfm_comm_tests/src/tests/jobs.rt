@@ -23,8 +23,11 @@ const FOUR: Limits = Limits {
 /// A declaration; or a rank's shrink of a communicator, or poll of one.
 #[derive(Clone, Copy)]
 enum Asked {
+    /// The declaration of this rank.
     Fail(u16),
+    /// By this rank, of this communicator.
     Shrink(u16, u16),
+    /// The same.
     Poll(u16, u16),
 }
 

@@ -1,7 +1,7 @@
 // How many steps a rank's last call made: of whole calls, and of calls that are taken step by step.
 
-use crate::calls::apply;
-use crate::play::{Play, Verb, call_of};
+use crate::tests::calls::apply;
+use crate::tests::play::{Play, Verb, call_of};
 use std::alloc::Global;
 use std::process::Abort;
 use std::test::Fail;

@@ -1,6 +1,6 @@
 // Memory: which calls take it, in which of their steps, and what they answer where it is refused.
 
-use crate::play::{Play, Verb};
+use crate::tests::play::{Play, Verb};
 use linked_list_allocator::LocalHeap;
 use std::alloc::{AllocError, Allocator, Global};
 use std::process::Abort;

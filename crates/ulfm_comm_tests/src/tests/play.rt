@@ -26,8 +26,10 @@ use ulfm_words::{OpenWords, Step, Words};
 pub(crate) enum Verb<P> {
     Get,
     GetAcked,
+    /// An acknowledgement of so many failures.
     Ack(u16),
     AckAll,
+    /// An agree with this contribution.
     Agree(P),
     Shrink,
     Barrier,

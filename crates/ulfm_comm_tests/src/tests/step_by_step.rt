@@ -1,7 +1,7 @@
 // Calls that are taken step by step, in turns.
 
-use crate::calls::{agreed, apply};
-use crate::play::{Play, Verb, call_of};
+use crate::tests::calls::{agreed, apply};
+use crate::tests::play::{Play, Verb, call_of};
 use std::alloc::{AllocError, Global};
 use std::process::Abort;
 use std::test::Fail;
@@ -351,7 +351,9 @@ fn looks_begin_behind(rt: HostRuntime) -> Result<(), Fail> {
 /// A line of a script: the outside declares a rank, or a rank is asked, on a communicator.
 #[derive(Clone, Copy)]
 enum Line {
+    /// This rank is declared.
     Fail(u16),
+    /// This rank is asked, on this communicator.
     Ask(u16, u16, Verb<FlagAnd>),
 }
 

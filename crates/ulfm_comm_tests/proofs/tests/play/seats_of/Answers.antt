@@ -5,7 +5,7 @@ use Rattle.ulfm_model.specs.Records.{Fits}
 use Rattle.ulfm_model.proofs.Lists.{each_push}
 use Rattle.ulfm_comm.specs.Counts.{records_of}
 use Rattle.ulfm_comm_tests.specs.Playing.{Plays}
-use Rattle.ulfm_comm_tests.proofs.play.seats_of.Goals as goal
+use Rattle.ulfm_comm_tests.proofs.tests.play.seats_of.Goals as goal
 
 pub loop-own-init : goal.loop-own-init
 loop-own-init g c =

@@ -4,7 +4,7 @@ use Rattle.ulfm_words.specs.Steps.{over}
 use Rattle.ulfm_model.specs.Records.{Fits}
 use Rattle.ulfm_comm.specs.Counts.{records_of}
 use Rattle.ulfm_comm_tests.specs.Playing.{Plays}
-use Rattle.ulfm_comm_tests.proofs.play.seats_of.Given as goal
+use Rattle.ulfm_comm_tests.proofs.tests.play.seats_of.Given as goal
 
 abbrev pub invariant-loop-own : goal.invariant-loop-own
 invariant-loop-own g l =

@@ -3,7 +3,7 @@ use Rattle.ulfm_words.specs.Steps.{over}
 use Rattle.ulfm_comm.proofs.AmongOthers.{waits_none}
 use Rattle.ulfm_comm_tests.specs.Playing.{Plays}
 use Rattle.ulfm_comm_tests.proofs.Seats.{each_at, play_next}
-use Rattle.ulfm_comm_tests.proofs.play.Play.begin.Goals as goal
+use Rattle.ulfm_comm_tests.proofs.tests.play.Play.begin.Goals as goal
 
 pub begin-requires-clause-sits : goal.begin-requires-clause-sits
 begin-requires-clause-sits g c =

@@ -1,6 +1,6 @@
 use Rattle.ulfm_words.specs.Steps.{over}
 use Rattle.ulfm_comm_tests.proofs.Seats.{play_failed}
-use Rattle.ulfm_comm_tests.proofs.play.Play.fail.Goals as goal
+use Rattle.ulfm_comm_tests.proofs.tests.play.Play.fail.Goals as goal
 
 pub invariant_of-self : goal.invariant_of-self
 invariant_of-self g c =

@@ -2,7 +2,7 @@ use Rattle.std.proofs.Common.{arith}
 use Rattle.ulfm_words.specs.Steps.{over}
 use Rattle.ulfm_comm_tests.specs.Playing.{Plays}
 use Rattle.ulfm_comm_tests.proofs.Seats.{each_at, play_next}
-use Rattle.ulfm_comm_tests.proofs.play.Play.revoke.Goals as goal
+use Rattle.ulfm_comm_tests.proofs.tests.play.Play.revoke.Goals as goal
 
 pub revoke-requires-clause-sits : goal.revoke-requires-clause-sits
 revoke-requires-clause-sits g c =

@@ -2,7 +2,7 @@ use Rattle.std.proofs.Common.{arith}
 use Rattle.ulfm_words.specs.Steps.{over}
 use Rattle.ulfm_comm_tests.specs.Playing.{Plays}
 use Rattle.ulfm_comm_tests.proofs.Seats.{each_at, play_next}
-use Rattle.ulfm_comm_tests.proofs.play.Play.step.Goals as goal
+use Rattle.ulfm_comm_tests.proofs.tests.play.Play.step.Goals as goal
 
 pub step-requires-clause-sits : goal.step-requires-clause-sits
 step-requires-clause-sits g c =

@@ -1,7 +1,7 @@
 use Rattle.std.proofs.Common.{false, sym}
 use Rattle.ulfm_words.specs.Steps.{over}
 use Rattle.ulfm_comm_tests.proofs.Seats.{stood_first}
-use Rattle.ulfm_comm_tests.proofs.play.Player.begin.Goals as goal
+use Rattle.ulfm_comm_tests.proofs.tests.play.Player.begin.Goals as goal
 
 pub returns-in-None : goal.returns-in-None
 returns-in-None g c =

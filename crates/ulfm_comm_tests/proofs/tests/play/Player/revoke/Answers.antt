@@ -2,7 +2,7 @@ use Rattle.std.proofs.Common.{sym}
 use Rattle.ulfm_words.specs.Steps.{over}
 use Rattle.ulfm_comm.proofs.AmongOthers.{waits_none}
 use Rattle.ulfm_comm_tests.proofs.Seats.{call_waits}
-use Rattle.ulfm_comm_tests.proofs.play.Player.revoke.Goals as goal
+use Rattle.ulfm_comm_tests.proofs.tests.play.Player.revoke.Goals as goal
 
 pub returns-in-Some-clause-waits : goal.returns-in-Some-clause-waits
 returns-in-Some-clause-waits g c = waits_none (g.W.Words.sight c.args.pass.now)

@@ -1,7 +1,7 @@
 use Rattle.std.proofs.Common.{false, sym}
 use Rattle.ulfm_words.specs.Steps.{over}
 use Rattle.ulfm_comm_tests.proofs.Seats.{answered_fits, stood_next, step_waits}
-use Rattle.ulfm_comm_tests.proofs.play.Player.step.Goals as goal
+use Rattle.ulfm_comm_tests.proofs.tests.play.Player.step.Goals as goal
 
 pub returns-in-None-clause-sits : goal.returns-in-None-clause-sits
 returns-in-None-clause-sits g c =
