@@ -12,6 +12,9 @@ import os
 import re
 import sys
 
+sys.dont_write_bytecode = True
+from crates import read  # noqa: E402
+
 HERE = os.path.dirname(os.path.dirname(os.path.abspath(__file__)))
 CRATES = ("ulfm_comm", "ulfm_job", "ulfm_member", "ulfm_book", "ulfm_wait", "vukrasp", "ulfm_race")
 # of these crates only the functions of these tests
@@ -27,11 +30,6 @@ SOME = {
 }
 PUBLIC = re.compile(r"^( *)pub fn (\w+)")
 TEST = re.compile(r"^fn (\w+)\(rt: HostRuntime\).*?\{\n(.*?)^\}$", re.M | re.S)
-
-
-def read(file):
-    with open(file, encoding="utf-8") as it:
-        return it.read()
 
 
 def implemented(line):
