@@ -29,35 +29,26 @@ follows_then p q r (inr b) (inl f) = inr (sym f ∙ b)
 follows_then p q r h (inr b) = inr b
 
 -- the three marks are read alike: they stand in a text or in a value
+pub marks_alike : (p : Place) → (step p 35 ≡ step p 36) × (step p 64 ≡ step p 36)
+marks_alike Before = (refl, refl)
+marks_alike (Text names) = (refl, refl)
+marks_alike (Opened names) = (refl, refl)
+marks_alike (Name name names) = (refl, refl)
+marks_alike (Spaced name names) = (refl, refl)
+marks_alike (Attribute name names) = (refl, refl)
+marks_alike (Equals name names) = (refl, refl)
+marks_alike (Value name names) = (refl, refl)
+marks_alike (Quoted name names) = (refl, refl)
+marks_alike (Slash names) = (refl, refl)
+marks_alike (Closing name names) = (refl, refl)
+marks_alike Done = (refl, refl)
+marks_alike Bad = (refl, refl)
+
 pub number_mark : (p : Place) → step p 35 ≡ step p 36
-number_mark Before = refl
-number_mark (Text names) = refl
-number_mark (Opened names) = refl
-number_mark (Name name names) = refl
-number_mark (Spaced name names) = refl
-number_mark (Attribute name names) = refl
-number_mark (Equals name names) = refl
-number_mark (Value name names) = refl
-number_mark (Quoted name names) = refl
-number_mark (Slash names) = refl
-number_mark (Closing name names) = refl
-number_mark Done = refl
-number_mark Bad = refl
+number_mark p = (marks_alike p).0
 
 pub class_mark : (p : Place) → step p 64 ≡ step p 36
-class_mark Before = refl
-class_mark (Text names) = refl
-class_mark (Opened names) = refl
-class_mark (Name name names) = refl
-class_mark (Spaced name names) = refl
-class_mark (Attribute name names) = refl
-class_mark (Equals name names) = refl
-class_mark (Value name names) = refl
-class_mark (Quoted name names) = refl
-class_mark (Slash names) = refl
-class_mark (Closing name names) = refl
-class_mark Done = refl
-class_mark Bad = refl
+class_mark p = (marks_alike p).1
 
 -- what a plain byte is not
 record Parts (a b c d : Bool) : Type 0 where
