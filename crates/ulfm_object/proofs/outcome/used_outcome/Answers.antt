@@ -9,32 +9,23 @@ index-requires g c =
     let at = sym (rw (c.deref.ensures.value, c.comm_of.ensures) at c.place_of.ensures) ∙ c.in-Some-place_of.is in
     omega (arith, position_below (is_of (comm_of c.args.asked.now)) c.args.own.now.held.items c.in-Some-place_of.i at, c.args.own.now.held.ok)
 
-pub returns-in-Some-place_of-clause-after : goal.returns-in-Some-place_of-clause-after
-returns-in-Some-place_of-clause-after g c =
+pub returns-in-Some-place_of : goal.returns-in-Some-place_of
+returns-in-Some-place_of g c =
     let none = sym c.refusal_of.ensures ∙ c.in_default.is in
     let at = sym (rw (c.deref.ensures.value, c.comm_of.ensures) at c.place_of.ensures) ∙ c.in-Some-place_of.is in
     let held = find_is c.args.own.now.held.items (comm_of c.args.asked.now) c.in-Some-place_of.i c.index.result.now at
     ∙ ap (λ (x : Held). Some x) (sym c.index.ensures) in
-    rw (none, held) c.held_outcome.ensures.after
+    record {
+      after = rw (none, held) c.held_outcome.ensures.after;
+      reply = rw (none, held) c.held_outcome.ensures.reply;
+    }
 
-pub returns-in-Some-place_of-clause-reply : goal.returns-in-Some-place_of-clause-reply
-returns-in-Some-place_of-clause-reply g c =
-    let none = sym c.refusal_of.ensures ∙ c.in_default.is in
-    let at = sym (rw (c.deref.ensures.value, c.comm_of.ensures) at c.place_of.ensures) ∙ c.in-Some-place_of.is in
-    let held = find_is c.args.own.now.held.items (comm_of c.args.asked.now) c.in-Some-place_of.i c.index.result.now at
-    ∙ ap (λ (x : Held). Some x) (sym c.index.ensures) in
-    rw (none, held) c.held_outcome.ensures.reply
-
-pub returns-in-None-clause-after : goal.returns-in-None-clause-after
-returns-in-None-clause-after g c =
+pub returns-in-None : goal.returns-in-None
+returns-in-None g c =
     let none = sym c.refusal_of.ensures ∙ c.in_default.is in
     let at = sym (rw (c.deref.ensures.value, c.comm_of.ensures) at c.place_of.ensures) ∙ c.in-None.is in
     let held = find_missing c.args.own.now.held.items (comm_of c.args.asked.now) at in
-    rw (none, held) (rw append-nil c.refused-in-None.ensures.after)
-
-pub returns-in-None-clause-reply : goal.returns-in-None-clause-reply
-returns-in-None-clause-reply g c =
-    let none = sym c.refusal_of.ensures ∙ c.in_default.is in
-    let at = sym (rw (c.deref.ensures.value, c.comm_of.ensures) at c.place_of.ensures) ∙ c.in-None.is in
-    let held = find_missing c.args.own.now.held.items (comm_of c.args.asked.now) at in
-    rw (none, held) c.refused-in-None.ensures.reply
+    record {
+      after = rw (none, held) (rw append-nil c.refused-in-None.ensures.after);
+      reply = rw (none, held) c.refused-in-None.ensures.reply;
+    }

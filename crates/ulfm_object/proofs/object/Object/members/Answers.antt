@@ -7,7 +7,6 @@ use Rattle.ulfm_object.proofs.object.Object.members.Goals as goal
 
 pub returns-clause-nobody : goal.returns-clause-nobody
 returns-clause-nobody g c = λ missing.
-    let ranks = c.self.inside.limits.ranks in
     let same : c.self.inside.log.items ≡ c.args.self.now.history = ap (λ (s : State g.row.P.Denot). s.history) c.self.view_is in
-    nobody_in ranks c.self.inside.log.items c.args.comm (λ here. missing (subst (λ h. Exists h c.args.comm) same here)) (λ (group : Vec ℕ g.row.A.Denot). group.items) c.members.result
-    (subst (λ (h : History g.row.P.Denot). IfOk c.members.result (λ (group : Vec ℕ g.row.A.Denot). group.items ≡ members ranks h c.args.comm)) c.deref.ensures.value c.members.ensures)
+    nobody_in c.self.inside.limits.ranks c.self.inside.log.items c.args.comm (λ here. missing (subst (λ h. Exists h c.args.comm) same here)) (λ (group : Vec ℕ g.row.A.Denot). group.items) c.members.result
+    (subst (λ (h : History g.row.P.Denot). IfOk c.members.result (λ (group : Vec ℕ g.row.A.Denot). group.items ≡ members c.self.inside.limits.ranks h c.args.comm)) c.deref.ensures.value c.members.ensures)
