@@ -323,6 +323,17 @@ impl<A: Allocator + Copy + Drop> Reading<A> {
         }
     }
 
+    /// A name in a line, at the next operation of a rank.
+    fn here(&self, line: u32, name: u16, rank: u16) -> Named {
+        let at = self.end_of(rank);
+        Named {
+            rank,
+            name,
+            at,
+            line,
+        }
+    }
+
     /// Gives the next operation of the section's ranks a name.
     fn add_label(&mut self, line: u32, name: u16) -> Result<(), Stop> {
         if self.section.is_empty() {
@@ -341,25 +352,15 @@ impl<A: Allocator + Copy + Drop> Reading<A> {
         if find_label(&self.labels, rank, name).is_some() {
             return Err(Stop::Kind(ProgramKind::Name));
         }
-        let at = self.end_of(rank);
-        self.labels.push(Named {
-            rank,
-            name,
-            at,
-            line,
-        })?;
+        let here = self.here(line, name, rank);
+        self.labels.push(here)?;
         Ok(())
     }
 
     /// Notes that the next operation of a rank jumps to a name.
     fn note_jump(&mut self, line: u32, name: u16, rank: u16) -> Result<(), Stop> {
-        let at = self.end_of(rank);
-        self.jumps.push(Named {
-            rank,
-            name,
-            at,
-            line,
-        })?;
+        let here = self.here(line, name, rank);
+        self.jumps.push(here)?;
         Ok(())
     }
 
