@@ -93,7 +93,9 @@ fn number_behind(at: usize) -> u16 {
 /// What a rank notes: a reply, by its number, or words of its own, by the number of their text.
 #[derive(Clone, Copy, Debug, PartialEq, Eq)]
 pub(crate) enum Note {
+    /// A reply, by its number.
     Reply(u16),
+    /// Words that were said, by their number.
     Said(u16),
 }
 

@@ -8,5 +8,6 @@ pub struct Failing {
     pub at: u32,
     /// Who is declared, 0 to 1023, also where the world doesn't have the rank.
     pub rank: u16,
+    /// Scripts can name the rank.
     pub ghost fits: { rank < 1024 },
 }
