@@ -37,8 +37,11 @@ pub const MOST_FAILURES: u16 = 1024;
 /// What a rank has started on a communicator and not yet been answered, with its round.
 #[derive(Clone, Copy, Debug, PartialEq, Eq)]
 pub enum Request {
+    /// An agreement on flags, in this round.
     Agree { round: u16 },
+    /// A shrink, in this round of agreement.
     Shrink { round: u16 },
+    /// A barrier, in this round of barriers.
     Barrier { round: u16 },
 }
 

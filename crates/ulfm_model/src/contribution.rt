@@ -8,7 +8,9 @@ use ulfm_laws::ctx_mask::CtxMask;
 /// What a rank offers to an agreement round: a flag to an agree, the context ids that are free at it to a shrink.
 #[derive(Clone, Copy, Debug, PartialEq, Eq)]
 pub enum Offer<P> {
+    /// The flag of an agree.
     Flag(P),
+    /// The context ids that are free at a rank that shrinks.
     Ctx(CtxMask),
 }
 

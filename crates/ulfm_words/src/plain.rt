@@ -27,6 +27,7 @@ pub struct PlainWords<P: Packed> {
     /// The limits that the words were opened with.
     pub limits: Limits,
     flags: PhantomData<P>,
+    /// The limits are those of a world that may be opened.
     pub ghost may_open: { MayOpen limits },
 }
 

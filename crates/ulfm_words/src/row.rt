@@ -12,7 +12,9 @@ use ulfm_model::place::Place;
 /// Where a word stands: among the words that come first, or in a line as that of a rank.
 #[derive(Clone, Copy)]
 pub(crate) enum Seat {
+    /// A word of the first line.
     Head { index: usize },
+    /// A rank's word in a further line.
     Cell { line: usize, rank: usize },
 }
 

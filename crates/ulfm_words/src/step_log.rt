@@ -9,6 +9,7 @@ use std::marker::Model;
 /// Atomic steps in their order, each with whether it was a load. It takes no memory, and its methods do nothing as a program runs.
 #[derive(Drop)]
 pub struct StepLog {
+    /// What was logged, from the first step on.
     pub ghost items: { List (Last × Bool) },
 }
 
