@@ -42,3 +42,4 @@ pub mod Misses
 pub mod Unspread
 pub mod Runs
 pub mod Others
+pub mod Waiting

@@ -17,8 +17,8 @@ use Rattle.ulfm_steps.proofs.{Arriving.{in_order_few}, InBlocks.{peek_most, peek
 use Rattle.ulfm_comm.proofs.Look.{tests_same}
 use Rattle.ulfm_words.specs.Steps.{Sight}
 use Rattle.ulfm_comm.specs.{Bound.{call_bound, poll_bound, step_bound}, Look.{Passes}, Phase.{NextBelow}, Requests.{agreement}}
-use Rattle.ulfm_comm.specs.StepsLeft.{FewerLeft, Spends, after_look, after_peek, after_round, behind_look, group_of, polling, steps_left, with_look}
-use Rattle.ulfm_comm.specs.declared.{phases.phase.Next.{Next}, phases.phase.Next.TheVariants.{Goes, Ends}}
+use Rattle.ulfm_comm.specs.StepsLeft.{FewerLeft, Spends, after_look, after_peek, after_round, behind_look, group_of, polling, reads_first, steps_left, with_look}
+use Rattle.ulfm_comm.specs.declared.{phases.phase.Next.{Next}, phases.phase.Next.TheVariants.{Goes, Ends}, phases.phase.Phase.{Phase}}
 use Rattle.ulfm_comm.specs.declared.phases.phase.Phase.TheVariants.{Over, Begun, Looking, Marking, Peeking, Reading, Waiting}
 
 -- what was seen makes no difference to what the record refuses
@@ -70,20 +70,20 @@ module _ {P : Type 0} (limits : Limits) (own : Record) (asked : Call P) where
     pub peeking_after : (k : ℕ) (shrinks : Bool) (peek : Peek P) → x.request ≡ Some (agreement shrinks k) → 0 < length x.group
         → steps_left limits own asked (Peeking peek shrinks) < most
     peeking_after k shrinks peek is_open any =
-        subst (λ g. peeks_left (length g) peek + (length (filter (has g) own.seen) + blocks_cost (length g) + after_round limits own shrinks) < most)
+        subst (λ g. peeks_left (length g) peek + (max 1 (length (filter (has g) own.seen)) + blocks_cost (length g) + after_round limits own shrinks) < most)
         (sym (ap group_of held)) (by_kind shrinks is_open)
       where
         cost : peeks_left (length x.group) peek + blocks_cost (length x.group) ≤ 4 * length x.group + 4
         cost = peek_most (length x.group) peek any
 
         by_kind : (b : Bool) → x.request ≡ Some (agreement b k) → peeks_left (length x.group) peek +
-            (length (filter (has x.group) own.seen) + blocks_cost (length x.group) + after_round limits own b) < most
+            (max 1 (length (filter (has x.group) own.seen)) + blocks_cost (length x.group) + after_round limits own b) < most
         by_kind false is_open =
             let all = look_poll passed rank c x (Some (Agree k)) is held is_open in
-            omega (arith, all, few, cost, length-append (filter (has x.group) own.seen) (without x.group own.seen))
+            omega (arith, all, any, few, cost, length-append (filter (has x.group) own.seen) (without x.group own.seen))
         by_kind true is_open =
             let all = look_poll passed rank c x (Some (Shrink k)) is held is_open in
-            omega (arith, all, few, cost, some, length-append (filter (has x.group) own.seen) (without x.group own.seen))
+            omega (arith, all, any, few, cost, some, length-append (filter (has x.group) own.seen) (without x.group own.seen))
 
 -- a poll that has loaded its round's blocks has no more left than its marks, its readings, and what comes after them
 module _ {P : Type 0} (limits : Limits) (own : Record) (asked : Call P) (x : Held) (held : held_at own (comm_of asked) ≡ Some x) (shrinks : Bool)
@@ -91,7 +91,7 @@ module _ {P : Type 0} (limits : Limits) (own : Record) (asked : Call P) (x : Hel
   abbrev group_now : group_of (held_at own (comm_of asked)) ≡ x.group
   group_now = ap group_of held
 
-  pub unread_marks : (marks : MarkAll) → steps_left limits own asked (Marking marks blocks shrinks) ≤ after_peek limits own asked shrinks
+  pub unread_marks : (marks : MarkAll) → steps_left limits own asked (Marking marks blocks shrinks) + reads_first (Marking marks blocks shrinks) ≤ after_peek limits own asked shrinks
   unread_marks marks =
       let group = group_of (held_at own (comm_of asked)) in
       let cost : unread_cost blocks (length group) ≤ blocks_cost (length group) = unread_most blocks (length group) in
@@ -110,7 +110,7 @@ module _ {P : Type 0} (limits : Limits) (own : Record) (asked : Call P) (x : Hel
 
   pub unread_reads : (reading : ReadBlocks P) (comm round size : ℕ) → reading ≡ starts_at comm round blocks size → size ≡ length x.group
       → is_whole blocks (length x.group) ≡ false
-      → steps_left limits own asked (Reading reading shrinks) ≤ after_peek limits own asked shrinks
+      → steps_left limits own asked (Reading reading shrinks) + reads_first (Reading reading shrinks) ≤ after_peek limits own asked shrinks
   unread_reads reading comm round size is size_is unknown =
       let group = group_of (held_at own (comm_of asked)) in
       let cost : unread_cost blocks (length group) ≤ blocks_cost (length group) = unread_most blocks (length group) in
@@ -151,13 +151,17 @@ module _ {P : Type 0} (limits : Limits) (own : Record) (asked : Call P) (x : Hel
   peeks_on peek next now after few =
       let few_now = subst (λ n. after + peeks_left n next ≤ now + peeks_left n peek) same_length few in omega (arith, few_now)
 
-  -- one that has ended
-  pub peeks_past : (peek : Peek P) (rest : ℕ) → rest ≤ after_peek limits own asked shrinks → rest < steps_left limits own asked (Peeking peek shrinks)
-  peeks_past peek rest le = let some = peek_some (length (group_of (held_at own (comm_of asked)))) peek in omega (arith, le, some)
+  -- one that has ended, with what comes next, before which another load may have been made
+  pub peeks_past : (peek : Peek P) (new : Record) (next : Next P) (now after : Sight P) → after.steps ≡ now.steps
+      → Spends (after_peek limits own asked shrinks) limits new asked next now after → FewerLeft (steps_left limits own asked (Peeking peek shrinks)) limits new asked next
+  peeks_past peek new (Goes phase) now after same spends =
+      let some = peek_some (length (group_of (held_at own (comm_of asked)))) peek in omega (arith, same, spends, some)
+  peeks_past peek new (Ends reply) now after same spends = tt
 
-  pub peeks_over : (peek : Peek P) (rest now after : ℕ) → rest ≤ after_peek limits own asked shrinks → after ≤ now + peeks_left (length members) peek
-      → after + rest ≤ now + steps_left limits own asked (Peeking peek shrinks)
-  peeks_over peek rest now after le few = let few_now = subst (λ n. after ≤ now + peeks_left n peek) same_length few in omega (arith, le, few_now)
+  pub peeks_over : (peek : Peek P) (new : Record) (next : Next P) (now mid after : Sight P) → mid.steps ≤ now.steps + peeks_left (length members) peek
+      → Spends (after_peek limits own asked shrinks) limits new asked next mid after → Spends (steps_left limits own asked (Peeking peek shrinks)) limits new asked next now after
+  peeks_over peek new next now mid after few spends =
+      let few_now = subst (λ n. mid.steps ≤ now.steps + peeks_left n peek) same_length few in omega (arith, few_now, spends)
 
   -- .. or whose round is decided
   pub peeks_fewer : (peek : Peek P) (new : Record) (next : Next P) → FewerLeft (after_round limits own shrinks + 1) limits new asked next
@@ -206,6 +210,11 @@ module _ {P : Type 0} (limits : Limits) (own : Record) (asked : Call P) (x : Hel
           → Spends (steps_left limits own asked (Reading reading shrinks)) limits new asked next now after
       spends (Goes phase) fewer = omega (arith, few_now, fewer)
       spends (Ends reply) fewer = omega (arith, few_now)
+
+-- before a reading one load may be made, else none
+pub reads_few : {P : Type 0} (phase : Phase P) → reads_first phase ≤ 1
+reads_few (Reading reading shrinks) = omega arith
+reads_few _ = omega arith
 
 -- what comes nearer than some comes nearer than more
 pub below_more : {P : Type 0} (few more : ℕ) → few ≤ more → (next : Next P) → NextBelow few next → NextBelow more next

@@ -86,11 +86,17 @@ abbrev pub after_round : Limits → Record → Bool → ℕ
 after_round limits own false = 0
 after_round limits own true = limits.ranks - length own.seen + 2 * (limits.comms - 1)
 
--- how many it makes once it has loaded its round's blocks: marks of the declared members, and readings of the blocks, come before that
+-- how many it makes once it has loaded its round's blocks: marks of the declared members, and readings of the blocks, come before that; where
+-- nobody is to be marked, the reading may begin with one more load, of the place of a member who was missing
 abbrev pub after_peek : {P : Type 0} → Limits → Record → Call P → Bool → ℕ
 after_peek limits own asked shrinks =
     let group = group_of (held_at own (comm_of asked)) in
-    length (filter (has group) own.seen) + blocks_cost (length group) + after_round limits own shrinks
+    max 1 (length (filter (has group) own.seen)) + blocks_cost (length group) + after_round limits own shrinks
+
+-- that load
+abbrev pub reads_first : {P : Type 0} → Phase P → ℕ
+reads_first (Reading reading shrinks) = 1
+reads_first _ = 0
 
 -- how many steps a call makes from here on, at most, by what it does next
 abbrev pub steps_left : {P : Type 0} → Limits → Record → Call P → Phase P → ℕ

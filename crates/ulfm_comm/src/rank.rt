@@ -44,6 +44,9 @@ pub(crate) struct LocalState<P: Packed, A: Allocator> {
     seen: Vec<u16, A>,
     // How many of them, from the first on, are known to be other ranks.
     others: usize,
+    // The place, among a round's members, of the one at whom its last reading ended, since that one was missing. No contract rests on it:
+    // a load tells whether who stands there is missing.
+    awaited: Option<u16>,
     refused: bool,
     flags: PhantomData<P>,
 }
@@ -83,6 +86,7 @@ impl<P: Packed, A: Allocator + Copy> LocalState<P, A> {
             held,
             seen,
             others: 0,
+            awaited: None,
             refused: false,
             flags: PhantomData,
         })
@@ -187,6 +191,22 @@ impl<P: Packed, A: Allocator> LocalState<P, A> {
         let most = (self.limits.ranks as usize).saturating_sub(1);
         self.seen.truncate(most);
         self.others = 0;
+    }
+
+    // The place of the member at whom its last reading ended. It is forgotten.
+    #[inline(always)]
+    pub(crate) fn take_awaited(&mut self) -> Option<u16>
+        ensures { self.new ≡ self.old }
+    {
+        self.awaited.take()
+    }
+
+    // A reading ended at the member of this place.
+    #[inline(always)]
+    pub(crate) fn await_at(&mut self, place: u16)
+        ensures { self.new ≡ self.old }
+    {
+        self.awaited = Some(place);
     }
 
     // From now on it is refused.

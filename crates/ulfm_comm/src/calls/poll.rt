@@ -21,7 +21,8 @@ impl<P: Packed, A: Allocator + Copy> Rank<P, A> {
     /// each member that is known to have failed and hasn't contributed: a mark takes the member's place in the round, so that it is left
     /// out. Then it reads what the members' places say. Where somebody is missing who isn't known to have failed, the reply is pending,
     /// and the request stays open. Else the round is decided, for all who poll alike (ULFM: Communicator Functions, `MPI_COMM_AGREE`,
-    /// `MPI_COMM_SHRINK`).
+    /// `MPI_COMM_SHRINK`). A pending poll remembers at whose place it ended. Where the next one has nobody to mark, it loads that place
+    /// first, and is pending at once while that is empty.
     ///
     /// An agree ends with the flags combined, the size of the failed group, and whether an error is raised. A shrink ends with a new
     /// communicator, which the rank holds from then on. That has the members of the old one, in their order, without the failed group

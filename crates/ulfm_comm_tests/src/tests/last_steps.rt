@@ -134,6 +134,47 @@ fn single_blocks_are_counted(rt: HostRuntime) -> Result<(), Fail> {
     both(&rt, rt.alloc(), 4, &moves)
 }
 
+// A whole poll that is pending remembers at whom it ended: the next one loads that place first, once. One that is taken step by step reads
+// in order.
+#[test]
+fn waiting_polls_are_counted(rt: HostRuntime) -> Result<(), Fail> {
+    let moves = [
+        Move::Agree(0, 3),
+        Move::Poll(0, 5),
+        Move::Poll(0, 3),
+        Move::Agree(2, 3),
+        Move::Poll(0, 3),
+        Move::Agree(1, 3),
+        Move::Poll(0, 10),
+        Move::Poll(0, 3),
+        Move::Agree(3, 3),
+        Move::Poll(0, 13),
+        Move::Agree(0, 3),
+        Move::Poll(0, 5),
+        // Where a member is to be marked, the poll reads in order behind its mark.
+        Move::Fail(3),
+        Move::Poll(0, 7),
+        Move::Poll(0, 6),
+    ];
+    whole(&rt, rt.alloc(), 4, &moves)
+}
+
+#[test]
+fn waiting_polls_of_two_blocks_are_counted(rt: HostRuntime) -> Result<(), Fail> {
+    let moves = [
+        Move::Agree(0, 3),
+        Move::Agree(1, 3),
+        Move::Poll(0, 12),
+        Move::Poll(0, 5),
+        Move::Poll(1, 7),
+        Move::Poll(1, 5),
+        Move::Agree(2, 3),
+        Move::Poll(0, 11),
+        Move::Poll(1, 5),
+    ];
+    whole(&rt, rt.alloc(), 3, &moves)
+}
+
 #[test]
 fn others_steps_are_not_counted(rt: HostRuntime) -> Result<(), Fail> {
     let mut play = Play::open(rt.alloc(), PlainWords::<FlagAnd>::open(limits(3))?)?;

@@ -1,10 +1,11 @@
 use Rattle.std.proofs.lemmas.Bool.{false≢true}
 use Rattle.ulfm_words.proofs.Trails.{did_prefix}
 use Rattle.ulfm_comm.proofs.Wings.{turn_same}
-use Rattle.std.proofs.Common.{◌≡◌, ◌+◌, ◌<◌, ◌≤◌, ℕ, List, Some, true, false, [], length, refl, ap, sym, ◌∙◌, arith}
+use Rattle.std.proofs.Common.{◌≡◌, ◌+◌, ◌<◌, ◌≤◌, ℕ, List, Some, true, false, [], length, refl, ap, subst, sym, ◌∙◌, arith}
 use Rattle.ulfm_model.specs.{Blocks.{IsSummed}, Records.{Held, Record, held_at}, Terms.{comm_of}}
-use Rattle.ulfm_steps.specs.Blocks.{AllSet, AreSet, is_whole}
-use Rattle.ulfm_steps.proofs.KnownBlocks.{all_known}
+use Rattle.ulfm_steps.specs.{Blocks.{AllSet, AreSet, is_whole, peek_site}, Turns.{IsStepAt}}
+use Rattle.ulfm_steps.proofs.KnownBlocks.{all_known, set_later}
+use Rattle.ulfm_comm.proofs.Waiting.{goes_then}
 use Rattle.ulfm_comm.specs.{Known.{KnowsNext}, Phase.{IsFurther, IsPast, NextBelow, Turns}, Step.{TakesTurn}, StepsLeft.{FewerLeft, Spends, steps_left}}
 use Rattle.ulfm_comm.specs.declared.{phases.phase.Next.{Next}, phases.phase.Phase.TheVariants.{Peeking}}
 use Rattle.ulfm_comm.specs.AlsoLeft.{AlsoSpends, FindsSetIn, also_left}
@@ -16,7 +17,7 @@ use Rattle.ulfm_comm.proofs.rank.LocalState.go_peeking.Goals.{After-deref, After
 use Rattle.ulfm_comm.specs.Local.{stance, local}
 use Rattle.ulfm_comm.specs.Phase.{under_way}
 use Rattle.ulfm_comm.specs.Step.{coming}
-use Rattle.ulfm_words.specs.Steps.{view_of, over}
+use Rattle.ulfm_words.specs.Steps.{view_of, over, Goes, Sight}
 
 -- a step was made, so that fewer are left
 fewer : (after left now most : ℕ) → after + left ≤ now + most → now < after → left < most
@@ -61,26 +62,28 @@ all-requires g c =
     omega (arith, some, length_is g (goal.at.all-requires g c).After-len-members)
 
 -- the loads add nothing; what comes after them leaves the failures that were seen
-peeks : (g : _) (c : After-advance g) (next : Next g.row.P.Denot) (left : List ℕ) (new : Record)
+peeks : (g : _) (c : After-advance g) (most : ℕ) (after : Sight g.row.P.Denot)
+    → Goes g.P.Meld.meld g.W.Words.alone false most (view_of g.P.Packed.pack (g.W.Words.name c.args.words.now) (g.W.Words.sight c.args.pass.now)) (view_of g.P.Packed.pack (g.W.Words.name c.args.words.now) after)
+    → (c.args.whole ≡ false → IsStepAt (peek_site c.args.peek) true (g.W.Words.sight c.args.pass.now) after)
+    → (next : Next g.row.P.Denot) (left : List ℕ) (new : Record)
     → (c.args.whole ≡ false → FewerLeft (steps_left (g.W.Words.name c.args.words.now).limits c.args.self.now c.args.asked.now
     (Peeking c.args.peek c.args.shrinks)) (g.W.Words.name c.args.words.now).limits new c.args.asked.now next)
     → Spends (steps_left (g.W.Words.name c.args.words.now).limits c.args.self.now c.args.asked.now (Peeking c.args.peek c.args.shrinks))
-    (g.W.Words.name c.args.words.now).limits new c.args.asked.now next (g.W.Words.sight c.args.pass.now) (g.W.Words.sight c.advance.new.pass)
+    (g.W.Words.name c.args.words.now).limits new c.args.asked.now next (g.W.Words.sight c.args.pass.now) after
     → (c.args.whole ≡ true → IsFurther (Peeking c.args.peek c.args.shrinks) next) → new.seen ≡ c.args.self.now.seen → IsPast next
     → (FindsSetIn c.args.self.now c.args.asked.now (g.W.Words.sight c.args.pass.now).cached (Peeking c.args.peek c.args.shrinks)
-    → AlsoSpends (also_left (g.W.Words.name c.args.words.now).limits c.args.self.now c.args.asked.now (Peeking c.args.peek c.args.shrinks)) (g.W.Words.name c.args.words.now).limits c.args.asked.now (stance c.args.self.now (g.W.Words.sight c.args.pass.now)) next (stance new (g.W.Words.sight c.advance.new.pass)))
+    → AlsoSpends (also_left (g.W.Words.name c.args.words.now).limits c.args.self.now c.args.asked.now (Peeking c.args.peek c.args.shrinks)) (g.W.Words.name c.args.words.now).limits c.args.asked.now (stance c.args.self.now (g.W.Words.sight c.args.pass.now)) next (stance new after))
     → (AreSet (g.W.Words.sight c.args.pass.now).cached c.args.peek.comm c.args.peek.round c.args.peek.blocks
-    → KnowsNext c.args.self.now c.args.asked.now (g.W.Words.sight c.advance.new.pass).cached next)
-    → Turns g.P.Meld.meld g.W.Words.alone (under_way c.args.asked.now (Peeking c.args.peek c.args.shrinks) c.args.group.now.items) (local c.args.self.now (view_of g.P.Packed.pack (g.W.Words.name c.args.words.now) (g.W.Words.sight c.args.pass.now))) next left (local new (view_of g.P.Packed.pack (g.W.Words.name c.args.words.now) (g.W.Words.sight c.advance.new.pass)))
-    → TakesTurn g.P.Meld.meld g.W.Words.alone c.args.whole (under_way c.args.asked.now (Peeking c.args.peek c.args.shrinks) c.args.group.now.items) (local c.args.self.now (view_of g.P.Packed.pack (g.W.Words.name c.args.words.now) (g.W.Words.sight c.args.pass.now))) (coming next left) (local new (view_of g.P.Packed.pack (g.W.Words.name c.args.words.now) (g.W.Words.sight c.advance.new.pass)))
-peeks g c next left new nearer spends further sees leads also knows turns =
-    let goes = c.advance.ensures.goes in
+    → KnowsNext c.args.self.now c.args.asked.now after.cached next)
+    → Turns g.P.Meld.meld g.W.Words.alone (under_way c.args.asked.now (Peeking c.args.peek c.args.shrinks) c.args.group.now.items) (local c.args.self.now (view_of g.P.Packed.pack (g.W.Words.name c.args.words.now) (g.W.Words.sight c.args.pass.now))) next left (local new (view_of g.P.Packed.pack (g.W.Words.name c.args.words.now) after))
+    → TakesTurn g.P.Meld.meld g.W.Words.alone c.args.whole (under_way c.args.asked.now (Peeking c.args.peek c.args.shrinks) c.args.group.now.items) (local c.args.self.now (view_of g.P.Packed.pack (g.W.Words.name c.args.words.now) (g.W.Words.sight c.args.pass.now))) (coming next left) (local new (view_of g.P.Packed.pack (g.W.Words.name c.args.words.now) after))
+peeks g c most after goes one next left new nearer spends further sees leads also knows turns =
     let now = g.W.Words.sight c.args.pass.now in
     record {
       walks = record { of = goes.of; own = []; did = goes.did; onward = goes.onward; cached = goes.cached };
       beside = turn_same _ _ _ _ _ (λ w. w) (did_prefix g.W.Words.alone _ _ _ goes.did) goes.caches;
       named = λ single. peek_named c.args.peek c.args.shrinks c.args.self.now.number (comm_of c.args.asked.now) now
-          (g.W.Words.sight c.advance.new.pass) c.requires.stands.2.at.1.there (c.advance.ensures.takes.one single);
+          after c.requires.stands.2.at.1.there (one single);
       nearer = nearer;
       spends = spends;
       also = also;
@@ -101,7 +104,7 @@ returns-then-not-advance g c =
     (held g (goal.at.returns-then-not-advance g c).After-deref) c.args.shrinks c.deref.result.now
     (members g (goal.at.returns-then-not-advance g c).After-deref) c.args.peek c.advance.new.self (g.W.Words.sight c.args.pass.now).steps after.steps
     takes.turns in
-    peeks g (goal.at.returns-then-not-advance g c).After-advance _ _ _ (λ single. fewer after.steps
+    peeks g (goal.at.returns-then-not-advance g c).After-advance 4 after c.advance.ensures.goes takes.one _ _ _ (λ single. fewer after.steps
     (steps_left (g.W.Words.name c.args.words.now).limits c.args.self.now c.args.asked.now (Peeking c.advance.new.self c.args.shrinks))
     (g.W.Words.sight c.args.pass.now).steps (steps_left (g.W.Words.name c.args.words.now).limits c.args.self.now c.args.asked.now
     (Peeking c.args.peek c.args.shrinks)) left takes.some) left (λ whole. absurd (false≢true (sym c.if-not-advance.true ∙ c.advance.ensures.ends whole)))
@@ -120,47 +123,52 @@ returns-then-not-advance g c =
     g.W.Words.alone only (g.W.Words.sight c.advance.new.pass) c.advance.ensures.goes.of c.advance.ensures.goes.did c.advance.ensures.goes.onward
     c.advance.new.self c.advance.ensures.comm c.advance.ensures.round c.advance.ensures.are (c.if-not-advance.ensures.some refl) (c.if-not-advance.ensures.first refl))
 
-pub unread-requires-clause-peeked : goal.unread-requires-clause-peeked
-unread-requires-clause-peeked g c =
+pub go_unread-requires-clause-peeked : goal.go_unread-requires-clause-peeked
+go_unread-requires-clause-peeked g c =
     let stands = c.requires.stands in
     let here : is_whole c.advance.new.self.blocks (length c.deref.result.now) ≡ false = ap (is_whole c.advance.new.self.blocks)
-    (sym (length_is g (goal.at.unread-requires-clause-peeked g c).After-len-members)) ∙ sym c.in-None.ensures.whole in (
+    (sym (length_is g (goal.at.go_unread-requires-clause-peeked g c).After-len-members)) ∙ sym c.in-None.ensures.whole in (
       stands.0,
       stands.1,
       peek_unread g.P.Meld.meld (over g.P.Packed.pack (g.W.Words.name c.args.words.now)) c.args.asked.now c.args.peek c.args.shrinks c.args.group.now.items c.args.self.now
           (g.W.Words.sight c.args.pass.now) c.requires.of
           c.held_comm-x.result.now c.comm_of.result c.held_comm-x.ensures c.comm_of.ensures c.deref.result.now
-          (members g (goal.at.unread-requires-clause-peeked g c).After-deref) false stands.0 stands.1 stands.2
+          (members g (goal.at.go_unread-requires-clause-peeked g c).After-deref) false stands.0 stands.1 stands.2
           g.W.Words.alone (λ here. absurd (false≢true here)) (g.W.Words.sight c.advance.new.pass) c.advance.ensures.goes.of c.advance.ensures.goes.did
           c.advance.ensures.goes.onward c.advance.new.self c.advance.ensures.comm c.advance.ensures.round c.advance.ensures.are here,
     )
 
 pub returns-in-None : goal.returns-in-None
 returns-in-None g c =
+    let name = over g.P.Packed.pack (g.W.Words.name c.args.words.now) in
+    let limits = (g.W.Words.name c.args.words.now).limits in
     let takes = c.if-not-advance.ensures.takes in
-    let after = g.W.Words.sight c.advance.new.pass in
+    let start = g.W.Words.sight c.args.pass.now in
+    let mid = g.W.Words.sight c.advance.new.pass in
+    let after = g.W.Words.sight c.go_unread.new.pass in
+    let first = c.advance.ensures.goes in
+    let then = c.go_unread.ensures in
+    let at = (goal.at.returns-in-None g c).After-deref in
     let here : is_whole c.advance.new.self.blocks (length c.deref.result.now) ≡ false = ap (is_whole c.advance.new.self.blocks)
     (sym (length_is g (goal.at.returns-in-None g c).After-len-members)) ∙ sym c.in-None.ensures.whole in
-    peeks g (goal.at.returns-in-None g c).After-advance _ _ _
-    (λ single. peeks_past (g.W.Words.name c.args.words.now).limits c.args.self.now c.args.asked.now c.held_comm-x.result.now
-    (held g (goal.at.returns-in-None g c).After-deref) c.args.shrinks c.deref.result.now (members g (goal.at.returns-in-None g c).After-deref) c.args.peek _
-    c.unread.ensures.nearer)
-    (peeks_over (g.W.Words.name c.args.words.now).limits c.args.self.now c.args.asked.now c.held_comm-x.result.now
-    (held g (goal.at.returns-in-None g c).After-deref) c.args.shrinks c.deref.result.now (members g (goal.at.returns-in-None g c).After-deref) c.args.peek _
-    (g.W.Words.sight c.args.pass.now).steps after.steps c.unread.ensures.nearer (omega (arith, takes.turns)))
-    (λ whole. c.unread.ensures.further) refl c.unread.ensures.past
-    (λ all. let whole = also_whole (g.W.Words.name c.args.words.now).limits c.args.self.now c.args.asked.now c.held_comm-x.result.now
-    (held g (goal.at.returns-in-None g c).After-deref) c.args.shrinks c.deref.result.now (members g (goal.at.returns-in-None g c).After-deref) c.args.peek
-    c.advance.new.self (g.W.Words.sight c.args.pass.now) after c.advance.ensures.comm c.advance.ensures.round c.advance.ensures.front
+    peeks g (goal.at.returns-in-None g c).After-advance 5 after (goes_then g.P.Meld.meld g.W.Words.alone name 4 1 start mid after first then.goes)
+    (λ single. subst (λ s. IsStepAt (peek_site c.args.peek) true start s) (sym (then.single single)) (takes.one single)) _ _ _
+    (λ single. peeks_past limits c.args.self.now c.args.asked.now c.held_comm-x.result.now (held g at) c.args.shrinks c.deref.result.now (members g at) c.args.peek
+    _ _ mid after (ap (λ (s : Sight g.row.P.Denot). s.steps) (then.single single)) then.spends)
+    (peeks_over limits c.args.self.now c.args.asked.now c.held_comm-x.result.now (held g at) c.args.shrinks c.deref.result.now (members g at) c.args.peek
+    _ _ start mid after (omega (arith, takes.turns)) then.spends)
+    (λ whole. then.further) (ap (λ (w : Record). w.seen) then.kept) then.past
+    (λ all. let whole = also_whole limits c.args.self.now c.args.asked.now c.held_comm-x.result.now (held g at) c.args.shrinks c.deref.result.now (members g at) c.args.peek
+    c.advance.new.self start mid c.advance.ensures.comm c.advance.ensures.round c.advance.ensures.front
     c.advance.ensures.onward c.advance.ensures.kept all (c.advance.ensures.last c.if-not-advance.false) (c.advance.ensures.back c.if-not-advance.false) in absurd (false≢true (sym here ∙ whole)))
-    (λ known. c.unread.ensures.knows after.cached (rw (c.advance.ensures.comm, c.advance.ensures.round) (c.advance.ensures.sets known)))
+    (λ known. then.knows after.cached (set_later mid.cached after.cached c.advance.new.self.comm c.advance.new.self.round c.advance.new.self.blocks then.goes.cached
+    (rw (c.advance.ensures.comm, c.advance.ensures.round) (c.advance.ensures.sets known))))
     (λ alone only old before stands.
-    c.unread.ensures.turns c.args.group.now.items alone old before
-    (peek_unread g.P.Meld.meld (over g.P.Packed.pack (g.W.Words.name c.args.words.now)) c.args.asked.now c.args.peek c.args.shrinks c.args.group.now.items c.args.self.now
-    (g.W.Words.sight c.args.pass.now) c.requires.of
-    c.held_comm-x.result.now c.comm_of.result c.held_comm-x.ensures c.comm_of.ensures c.deref.result.now (members g (goal.at.returns-in-None g c).After-deref)
+    then.turns c.args.group.now.items alone only old before
+    (peek_unread g.P.Meld.meld name c.args.asked.now c.args.peek c.args.shrinks c.args.group.now.items c.args.self.now start c.requires.of
+    c.held_comm-x.result.now c.comm_of.result c.held_comm-x.ensures c.comm_of.ensures c.deref.result.now (members g at)
     alone old before stands
-    g.W.Words.alone only (g.W.Words.sight c.advance.new.pass) c.advance.ensures.goes.of c.advance.ensures.goes.did c.advance.ensures.goes.onward
+    g.W.Words.alone only mid first.of first.did first.onward
     c.advance.new.self c.advance.ensures.comm c.advance.ensures.round c.advance.ensures.are here))
 
 -- all were: this is what they say
@@ -203,7 +211,7 @@ pub returns-in-Some : goal.returns-in-Some
 returns-in-Some g c =
     let takes = c.if-not-advance.ensures.takes in
     let after = g.W.Words.sight c.advance.new.pass in
-    peeks g (goal.at.returns-in-Some g c).After-advance _ _ _
+    peeks g (goal.at.returns-in-Some g c).After-advance 4 after c.advance.ensures.goes takes.one _ _ _
     (λ single. peeks_fewer (g.W.Words.name c.args.words.now).limits c.args.self.now c.args.asked.now c.held_comm-x.result.now
     (held g (goal.at.returns-in-Some g c).After-deref) c.args.shrinks c.deref.result.now (members g (goal.at.returns-in-Some g c).After-deref) c.args.peek _
     _ c.decided.ensures.nearer)

@@ -1,4 +1,4 @@
-use Rattle.std.proofs.Common.{refl, rules, ◌≡◌, ℕ, List, Some, true, false, [], ap, sym, ◌∙◌, arith}
+use Rattle.std.proofs.Common.{refl, rules, ◌≡◌, ℕ, List, Some, true, false, [], ap, subst, sym, ◌∙◌, arith}
 use Rattle.ulfm_words.proofs.Trails.{did_prefix}
 use Rattle.ulfm_comm.proofs.Wings.{turn_blocks}
 use Rattle.ulfm_model.specs.{Records.{Held, Record, held_at}, Terms.{comm_of}}
@@ -14,7 +14,7 @@ use Rattle.ulfm_comm.proofs.rank.LocalState.go_reading.Goals.{After-deref, After
 use Rattle.ulfm_comm.specs.Local.{local}
 use Rattle.ulfm_comm.specs.Phase.{under_way}
 use Rattle.ulfm_comm.specs.Step.{coming}
-use Rattle.ulfm_words.specs.Steps.{view_of, over}
+use Rattle.ulfm_words.specs.Steps.{view_at, view_of, over}
 
 -- the members that the code reads
 members : (g : _) (c : After-deref g) → c.deref.result.now ≡ c.held_comm-x.result.now.group
@@ -99,20 +99,24 @@ returns-in-None g c =
 
 pub returns-in-Some-Missing : goal.returns-in-Some-Missing
 returns-in-Some-Missing g c =
+    let name = over g.P.Packed.pack (g.W.Words.name c.args.words.now) in
     let takes = c.in-Some-Missing.ensures.takes in
+    let start = g.W.Words.sight c.args.pass.now in
     let after = g.W.Words.sight c.advance.new.pass in
-    reads g (goal.at.returns-in-Some-Missing g c).After-advance _ _ _ (search rules)
-    (reads_spend (g.W.Words.name c.args.words.now).limits c.args.self.now c.args.asked.now c.held_comm-x.result.now
-    (held g (goal.at.returns-in-Some-Missing g c).After-deref) c.args.shrinks c.deref.result.now
-    (members g (goal.at.returns-in-Some-Missing g c).After-deref) c.args.reading c.args.self.now (Ends Pending) (g.W.Words.sight c.args.pass.now) after
-    (omega (arith, takes.turns)) tt)
-    (search rules) (search rules) (search rules) (λ known of. absurd (cc of)) (λ alone only old before stands.
-    reading_pends g.P.Meld.meld (over g.P.Packed.pack (g.W.Words.name c.args.words.now)) c.args.asked.now c.args.reading c.args.shrinks c.args.group.now.items c.args.self.now
-    (g.W.Words.sight c.args.pass.now)
+    let at = (goal.at.returns-in-Some-Missing g c).After-deref in
+    let own = c.args.self.now in
+    let group = c.args.group.now.items in
+    subst (λ (w : Record). TakesTurn g.P.Meld.meld g.W.Words.alone c.args.whole (under_way c.args.asked.now (Reading c.args.reading c.args.shrinks) group) (local own (view_at name start)) (coming (Ends Pending) group) (local w (view_at name after)))
+    (sym c.await_at.ensures)
+    (reads g (goal.at.returns-in-Some-Missing g c).After-advance (Ends Pending) group own (λ single. tt)
+    (reads_spend (g.W.Words.name c.args.words.now).limits own c.args.asked.now c.held_comm-x.result.now (held g at) c.args.shrinks c.deref.result.now
+    (members g at) c.args.reading own (Ends Pending) start after (omega (arith, takes.turns)) tt)
+    (λ whole. tt) refl tt (λ known of. absurd (cc of)) (λ alone only old before stands.
+    reading_pends g.P.Meld.meld name c.args.asked.now c.args.reading c.args.shrinks group own start
     c.held_comm-x.result.now c.comm_of.result c.held_comm-x.ensures c.comm_of.ensures c.deref.result.now
-    (members g (goal.at.returns-in-Some-Missing g c).After-deref) alone old before stands
-    g.W.Words.alone only (g.W.Words.sight c.advance.new.pass) c.advance.ensures.goes.of c.advance.ensures.goes.did c.advance.ensures.goes.onward
-    c.advance.new.self c.advance.ensures.comm c.advance.ensures.round takes.some (rw c.in-Some-Missing.field-0-is at c.in-Some-Missing.ensures.tells))
+    (members g at) alone old before stands
+    g.W.Words.alone only after c.advance.ensures.goes.of c.advance.ensures.goes.did c.advance.ensures.goes.onward
+    c.advance.new.self c.advance.ensures.comm c.advance.ensures.round takes.some (rw c.in-Some-Missing.field-0-is at c.in-Some-Missing.ensures.tells)))
 
 -- the round's blocks are all set
 known : (g : _) (c : After-advance g) (next : Next g.row.P.Denot) → NextBelow 5 next
