@@ -142,6 +142,7 @@ enum Verb {
     Fail,
     Ack,
     Agree,
+    /// A call that names a rank and a communicator, and nothing else.
     Plain(Plain),
 }
 

@@ -108,7 +108,9 @@ pub(crate) enum Phase<P: Packed> {
 // What comes after a step: more of them, or the reply.
 #[derive(Drop)]
 pub(crate) enum Next<P: Packed> {
+    // Further, to this phase.
     Goes(Phase<P>),
+    // To its end, with this reply.
     Ends(Reply<P>),
 }
 
