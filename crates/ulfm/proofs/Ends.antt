@@ -10,22 +10,22 @@ use Rattle.ulfm_command.specs.declared.asked.{CheckForm.TheVariants.{Trace, Expl
 use Rattle.ulfm_command.specs.declared.asked.{Task.{Task}, Task.TheVariants.{Run, Migrate, Check, Draw, Explore, Replay, Race}}
 use Rattle.ulfm_draw.specs.declared.{drawing.Form.{Form}, sheet.Looks.{Looks}}
 use Rattle.ulfm_draw.specs.Drawings.{DrawsText}
-use Rattle.ulfm_echo.specs.Echoes.{echo_scripts}
+use Rattle.ulfm_filters.specs.Echoes.{echo_scripts}
 use Rattle.ulfm_explain.specs.Explained.{ExplainsText}
 use Rattle.ulfm_explore.specs.Shows.{IsShown, Tells}
 use Rattle.ulfm_filters.specs.Statuses.{CheckedWith, EchoedWith, MigratedWith, PrintsAt, PrintsWhole, RanWith, StepsRanWith, Streams, status_of, verdict_status}
-use Rattle.ulfm_migrate.specs.Migrations.{migrations}
-use Rattle.ulfm_programs.specs.declared.program.Program.{Program}
+use Rattle.ulfm_filters.specs.Migrations.{migrations}
+use Rattle.ulfm_schedules.specs.declared.program.Program.{Program}
 use Rattle.ulfm_race.specs.declared.plan.Plan.{Plan}
 use Rattle.ulfm_race.specs.Races.{IsOutcome}
-use Rattle.ulfm_race_text.specs.Lines.{race_text}
+use Rattle.ulfm_filters.specs.RaceLines.{race_text}
 use Rattle.ulfm_script.specs.declared.fault.RunFault.{RunFault}
 use Rattle.ulfm_script.specs.declared.fault.RunFault.TheVariants.{Line, Memory, Read, Write}
 use Rattle.ulfm_script.specs.Ends.{KnownText}
 use Rattle.ulfm_script.specs.Runs.{call_scripts}
 use Rattle.ulfm_script.proofs.ByteLemmas.{keeps_start}
 use Rattle.ulfm_script.proofs.RunLemmas.{ran_none}
-use Rattle.ulfm_step_script.specs.StepScripts.{step_scripts}
+use Rattle.ulfm_run.specs.StepScripts.{step_scripts}
 use Rattle.ulfm.specs.Drawn.{DrewWith, form_of}
 use Rattle.ulfm.specs.Explained.{ExplainedWith}
 use Rattle.ulfm.specs.Explored.{ExploredWith, at_status, most_states, whole_status}

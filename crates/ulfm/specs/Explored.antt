@@ -3,7 +3,7 @@ use Rattle.std.specs.Prelude.{◌≡◌, ◌≤◌, ◌⊎◌, ◌==◌, ℕ, Bo
 use Rattle.std.specs.Io.KnownBytes.{Keeps}
 use Rattle.ulfm_command.specs.declared.asked.ExploreOptions.{ExploreOptions}
 use Rattle.ulfm_explore.specs.Shows.{IsShown, Tells}
-use Rattle.ulfm_programs.specs.declared.program.Program.{Program}
+use Rattle.ulfm_schedules.specs.declared.program.Program.{Program}
 use Rattle.ulfm_filters.specs.Statuses.{PrintsAt}
 use Rattle.ulfm_script.specs.Ends.{KnownText}
 

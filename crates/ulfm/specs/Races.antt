@@ -8,7 +8,7 @@ use Rattle.ulfm_command.specs.declared.asked.RaceOptions.{RaceOptions}
 use Rattle.ulfm_filters.specs.Statuses.{PrintsWhole}
 use Rattle.ulfm_race.specs.declared.plan.Plan.{Plan}
 use Rattle.ulfm_race.specs.Races.{IsOutcome}
-use Rattle.ulfm_race_text.specs.Lines.{race_text}
+use Rattle.ulfm_filters.specs.RaceLines.{race_text}
 use Rattle.ulfm_script.specs.Ends.{KnownText}
 
 -- the plan of a race with these options

@@ -25,10 +25,9 @@ use ulfm_command::{
 use ulfm_draw::{Form, Looks, draw};
 use ulfm_explain::explain;
 use ulfm_explore::{ExploreFault, explore};
-use ulfm_filters::{Filter, print_text, run_filter, tell, tell_bad_line, tell_fault};
-use ulfm_programs::{ProgramFault, read_program};
+use ulfm_filters::{Filter, print_text, race_lines, run_filter, tell, tell_bad_line, tell_fault};
 use ulfm_race::{Gate, Plan, RaceFault, Turn, race};
-use ulfm_race_text::race_lines;
+use ulfm_schedules::{ProgramFault, read_program};
 use ulfm_script::RunFault;
 use ulfm_search::observe;
 use ulfm_trace::Verdict;

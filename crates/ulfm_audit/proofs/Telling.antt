@@ -7,7 +7,7 @@ use Rattle.std.specs.List.{cons_option}
 use Rattle.ulfm_laws.specs.{Flags.{flag_meld}, declared.flag_and.FlagAnd.{FlagAnd}}
 use Rattle.ulfm_model.specs.declared.{event.Entry.{Entry}, limits.Limits.{Limits}}
 use Rattle.ulfm_model.specs.{History.{History}, Words.{MayOpen}}
-use Rattle.ulfm_replay.specs.Replays.{Feeds}
+use Rattle.ulfm_replica.specs.Replays.{Feeds}
 use Rattle.ulfm_script.specs.Ends.{IsTextOf, KnownText}
 use Rattle.ulfm_audit.specs.Audits.{AuditsEntries, IsNoLog, Shows, Takes, TakesPieces, entry_lines}
 use Rattle.ulfm_audit.specs.{Digests.{digest_of}, Texts.{end_text}}

@@ -4,7 +4,7 @@ use Rattle.ulfm_laws.specs.{Flags.{flag_meld}, declared.flag_and.FlagAnd.{FlagAn
 use Rattle.ulfm_model.specs.declared.{event.Entry.{Entry}, limits.Limits.{Limits}}
 use Rattle.ulfm_model.specs.{History.{History}, Words.{MayOpen}}
 use Rattle.ulfm_numbers.specs.{declared.numbers.Numbers.{Numbers}, Seen.{seen_of}}
-use Rattle.ulfm_replay.specs.Replays.{AreReplayed, Feeds}
+use Rattle.ulfm_replica.specs.Replays.{AreReplayed, Feeds}
 use Rattle.ulfm_words.specs.Steps.{Sight, view_of}
 use Rattle.ulfm_script.specs.Ends.{IsTextOf, KnownText}
 use Rattle.ulfm_audit.specs.declared.auditing.{AuditFault.{AuditFault}, AuditFault.TheVariants.{Log, Memory, Read}}

@@ -5,7 +5,7 @@ use Rattle.std.specs.Simd.{first_chunks}
 use Rattle.ulfm_laws.specs.declared.flag_and.FlagAnd.{FlagAnd}
 use Rattle.ulfm_model.specs.declared.{event.Entry.{Entry}, limits.Limits.{Limits}}
 use Rattle.ulfm_model.specs.Words.{MayOpen}
-use Rattle.ulfm_replay.specs.Wire.{IsReadAs, entry_bytes, two}
+use Rattle.ulfm_replica.specs.Wire.{IsReadAs, entry_bytes, two}
 
 -- the head of a log of a world of these limits
 abbrev pub head_bytes : Limits → List ℕ

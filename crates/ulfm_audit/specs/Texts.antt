@@ -5,7 +5,7 @@ use Rattle.ulfm_laws.specs.{Flags.{flag_meld}, declared.flag_and.FlagAnd.{FlagAn
 use Rattle.ulfm_model.specs.declared.{event.Entry.{Entry}, event.Event.{Event}}
 use Rattle.ulfm_model.specs.History.{Decision}
 use Rattle.ulfm_numbers.specs.Seen.{Seen, decision_in, is_decided_in}
-use Rattle.ulfm_trace_model.specs.declared.line.Line.TheVariants.{Happened}
+use Rattle.ulfm_model.specs.declared.line.Line.TheVariants.{Happened}
 use Rattle.ulfm_lines.specs.LineTexts.{line_text, mask_flag}
 use Rattle.ulfm_script.specs.{Digits.{flag_text}, Printed.{error_text}}
 use Rattle.ulfm_audit.specs.Digests.{digest_text}

@@ -14,12 +14,12 @@ use std::io::{ErrorKind, Read};
 use thiserror::Error;
 use ulfm_laws::FlagAnd;
 use ulfm_lines::print_line;
+use ulfm_model::Line;
 use ulfm_model::event::Entry;
 use ulfm_model::limits::Limits;
 use ulfm_numbers::numbers::Numbers;
-use ulfm_replay::{ENTRY_BYTES, entry_of, feed};
+use ulfm_replica::{ENTRY_BYTES, entry_of, feed};
 use ulfm_script::{LastGroup, print_point};
-use ulfm_trace_model::Line;
 use ulfm_words::PlainPass;
 
 /// Why a log wasn't audited.

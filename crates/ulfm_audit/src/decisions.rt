@@ -1,18 +1,18 @@
 //! What a round decided, as a line.
 ghost use Rattle.std.specs.Prelude.{◌≡◌, ◌++◌, OnOk};
 ghost use Rattle.std.specs.Fmt.{decimal};
-ghost use Rattle.ulfm_history.specs.Walked.{decision_of};
+ghost use Rattle.ulfm_record.specs.Walked.{decision_of};
 ghost use Rattle.ulfm_numbers.specs.Telling.{seen_at};
 ghost use Rattle.ulfm_script.specs.Digits.{flag_text};
 ghost use Rattle.ulfm_audit.specs.Texts.{body_text, decided_text, failed_text, round_lines, settled_lines};
 
 use itoa::Buffer;
 use std::alloc::{AllocError, Allocator};
-use ulfm_history::decide::Decided;
 use ulfm_laws::{Body, FlagAnd};
 use ulfm_model::event::Event;
 use ulfm_numbers::allowed::{decision, is_decided};
 use ulfm_numbers::numbers::Numbers;
+use ulfm_record::decide::Decided;
 use ulfm_script::digits::flag_digits;
 use ulfm_script::print_number;
 

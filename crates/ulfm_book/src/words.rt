@@ -56,7 +56,7 @@ impl<P: Packed, A: Allocator> BookWords<P, A> {
     ///
     /// ```
     /// let words: BookWords<FlagAnd> = BookWords::open(alloc, limits)?;
-    /// let (outside, members) = ulfm_member::open(alloc, words)?;
+    /// let (outside, members) = ulfm_wait::open(alloc, words)?;
     /// ```
     pub fn open(alloc: A, limits: Limits) -> Result<BookWords<P, A>, OpenFault>
         ensures opened { IfOk result (λ w. w.limits ≡ limits) }

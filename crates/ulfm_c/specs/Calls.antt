@@ -9,7 +9,7 @@ use Rattle.ulfm_comm.specs.Calls.{reply_of}
 use Rattle.ulfm_comm.specs.Excludes.{Excludes}
 use Rattle.ulfm_comm.specs.{Fails.{Fails, declared}, Queries.{listed_in, query}}
 use Rattle.ulfm_comm.specs.declared.calls.polled.Polled.{Polled}
-use Rattle.ulfm_member.specs.Members.{Membership, MemberCalls, MemberFails, MemberGets, MemberMisses, MemberPolls, Viewing, after_call, view_in, setting_of}
+use Rattle.ulfm_wait.specs.Members.{Membership, MemberCalls, MemberFails, MemberGets, MemberMisses, MemberPolls, Viewing, after_call, view_in, setting_of}
 use Rattle.ulfm_c.specs.Codes.{code}
 use Rattle.ulfm_c.specs.Written.{Lent, Lists, WritesPolled}
 use Rattle.ulfm_c.specs.declared.polled.PolledReply.{PolledReply}

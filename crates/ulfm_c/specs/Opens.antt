@@ -7,7 +7,7 @@ use Rattle.ulfm_model.specs.{History.{first_ranks}, Records.{new_record}}
 use Rattle.ulfm_model.specs.declared.{limits.Limits.{Limits}, limits.OpenFault.{OpenFault}, limits.OpenFault.TheVariants.{OutOfRange, TooLarge, OutOfMemory}}
 use Rattle.ulfm_words.specs.Steps.{Name}
 use Rattle.ulfm_book.specs.Rules.{IsFault}
-use Rattle.ulfm_member.specs.{Members.{IsNewMember, Membership, Viewing}, Outsides.{IsNewOutside}}
+use Rattle.ulfm_wait.specs.{Members.{IsNewMember, Membership, Viewing}, Outsides.{IsNewOutside}}
 use Rattle.ulfm_c.specs.Calls.{flag_pack}
 use Rattle.ulfm_c.specs.declared.handle.Handle.{Handle}
 use Rattle.ulfm_c.specs.declared.party.Party.{Party}

@@ -2,7 +2,7 @@
 use Rattle.std.specs.Prelude.{◌≡◌, ℕ, ℤ, Option, Some, None, pos}
 use Rattle.ulfm_laws.specs.declared.flag_and.FlagAnd.{FlagAnd}
 use Rattle.ulfm_model.specs.Records.{Held, Record, held_at}
-use Rattle.ulfm_member.specs.Members.{Membership}
+use Rattle.ulfm_wait.specs.Members.{Membership}
 use Rattle.ulfm_c.specs.Written.{Lent, Lists}
 use Rattle.ulfm_c.specs.declared.party.Party.{Party}
 use Rattle.ulfm_c.specs.declared.party.Party.TheVariants.{Outside, Rank, Replica}

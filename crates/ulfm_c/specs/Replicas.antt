@@ -6,7 +6,7 @@ use Rattle.ulfm_model.specs.declared.{call.Call.{Call}, call.Call.TheVariants.{A
 use Rattle.ulfm_model.specs.declared.reply.Reply.{Reply}
 use Rattle.ulfm_model.specs.declared.reply.Reply.TheVariants as reply
 use Rattle.ulfm_model.specs.{Answers.{printed}, History.{has}, Records.{Held, Record, held_at}}
-use Rattle.ulfm_replay.specs.Wire.{entry_bytes}
+use Rattle.ulfm_replica.specs.Wire.{entry_bytes}
 use Rattle.ulfm_replica.specs.Replicas.{BeginsIn, FeedsIn, IsNewReplica, Replicated, Rules, RunsIn, rules}
 use Rattle.ulfm_replica.specs.declared.answers.{Fed.{Fed}, FeedFault.{FeedFault}, FeedFault.TheVariants.{Gap, Lost as IsLost}, Lost.{Lost}, Ran.{Ran}}
 use Rattle.ulfm_replica.specs.declared.answers.Fed.TheVariants as fed

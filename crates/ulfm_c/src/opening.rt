@@ -58,7 +58,7 @@ fn open_parties(alloc: Global, limits: Limits) -> Result<(Box<Party>, Vec<Box<Pa
     ensures fault { IfErr result (IsFault limits) }
 {
     let words: BookWords<FlagAnd> = BookWords::open(alloc, limits)?;
-    let (outside, members) = ulfm_member::open(alloc, words)?;
+    let (outside, members) = ulfm_wait::open(alloc, words)?;
     match boxed(alloc, outside, members) {
         Ok(parties) => Ok(parties),
         Err(AllocError) => Err(OpenFault::OutOfMemory),

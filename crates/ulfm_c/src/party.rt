@@ -17,10 +17,10 @@ use ulfm_laws::FlagAnd;
 use ulfm_model::Refusal;
 
 /// A rank with its world and its pass.
-pub type Member = ulfm_member::Member<BookWords<FlagAnd>, FlagAnd, Global>;
+pub type Member = ulfm_wait::Member<BookWords<FlagAnd>, FlagAnd, Global>;
 
 /// The outside of a world, and its pass.
-pub type Outside = ulfm_member::Outside<BookWords<FlagAnd>, FlagAnd, Global>;
+pub type Outside = ulfm_wait::Outside<BookWords<FlagAnd>, FlagAnd, Global>;
 
 /// A rank that replays the log of its world.
 pub type Replica = ulfm_replica::Replica<FlagAnd, Global>;

@@ -17,8 +17,7 @@ use std::alloc::{AllocError, Global};
 use ulfm_comm::Rank;
 use ulfm_laws::FlagAnd;
 use ulfm_model::{Call, Refusal, Reply};
-use ulfm_replay::bytes_of;
-use ulfm_replica::{EntryBytes, Fed, FeedFault, Lost, Ran};
+use ulfm_replica::{EntryBytes, Fed, FeedFault, Lost, Ran, bytes_of};
 use ulfm_steps::group::has_rank;
 
 /// No call is under way.

@@ -1,3 +1,4 @@
 pub mod Appending
 pub mod Judged
 pub mod Rows
+pub mod Reading

@@ -1,6 +1,6 @@
 -- What the two forms of a picture say of a trace.
 use Rattle.std.specs.Prelude.{◌≡◌, ℕ, List, ◌++◌}
-use Rattle.ulfm_markup.specs.Markup.{EndsWith, IsWellFormed}
+use Rattle.ulfm_draw.specs.Markup.{EndsWith, IsWellFormed}
 use Rattle.ulfm_trace.specs.{Verdicts.{verdict_text}, declared.verdict.Verdict.{Verdict}}
 use Rattle.ulfm_draw.specs.Columns.{own_lines, without_columns}
 

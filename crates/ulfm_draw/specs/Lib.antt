@@ -2,3 +2,4 @@ pub mod Columns
 pub mod Drawings
 pub mod Forms
 pub mod Words
+pub mod Markup

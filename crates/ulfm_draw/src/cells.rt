@@ -9,12 +9,11 @@ use crate::picture::{line_at, lines_of};
 use crate::say::say_number;
 use crate::sheet::{Looks, put_row, put_words};
 use std::alloc::{AllocError, Allocator};
-use ulfm_model::Limits;
 use ulfm_model::event::Event;
 use ulfm_model::reply::Reply;
+use ulfm_model::{Limits, Line};
 use ulfm_story::{Note, Row, Story, split_line, tell_story};
 use ulfm_trace::{Verdict, verdict_line};
-use ulfm_trace_model::Line;
 
 /// After how many rows the names of the lanes come again.
 const AGAIN: usize = 40;

@@ -5,13 +5,13 @@ ghost use Rattle.ulfm_draw.specs.Words.{Appends};
 use crate::say::{Part, say, say_lane};
 use std::alloc::{AllocError, Allocator};
 use ulfm_laws::FlagAnd;
+use ulfm_model::Line;
 use ulfm_model::call::{Call, comm_of};
 use ulfm_model::contribution::{Contribution, Offer};
 use ulfm_model::event::Event;
 use ulfm_model::reply::Reply;
 use ulfm_script::flag_digits;
 use ulfm_story::Row;
-use ulfm_trace_model::Line;
 
 /// The words in a row's lane.
 pub fn put_label<A: Allocator>(label: &mut Vec<u8, A>, row: &Row) -> Result<(), AllocError>

@@ -2,11 +2,11 @@
 ghost use Rattle.std.specs.Prelude.{◌<◌, ◌≤◌, ◌^◌, IfOk};
 
 use crate::layout::span_of;
+use crate::{Group, Leaf};
 use std::alloc::{AllocError, Allocator};
-use ulfm_markup::{Group, Leaf};
+use ulfm_model::Line;
 use ulfm_model::event::Event;
 use ulfm_story::{Story, Tone};
-use ulfm_trace_model::Line;
 
 /// A sign or a colour.
 #[derive(Clone, Copy, Debug, PartialEq, Eq)]

@@ -7,8 +7,8 @@ use crate::legend::{draw_legend, legend_height, tone_class};
 use crate::say::{Part, say, say_number};
 use crate::signs::{Drawn, draw_number, draw_row, put_shown};
 use crate::style::STYLE;
+use crate::{Group, Leaf, Page};
 use std::alloc::{AllocError, Allocator};
-use ulfm_markup::{Group, Leaf, Page};
 use ulfm_story::{Bar, MOST_LINES, Story, Tone, split_line, tell_story};
 use ulfm_trace::{Verdict, verdict_line};
 

@@ -5,12 +5,12 @@ use crate::labels::{put_label, put_title};
 use crate::layout::{Layout, SHOWN};
 use crate::say::say_number;
 use crate::style::{note_class, round_class};
+use crate::{Group, Leaf, Page};
 use std::alloc::{AllocError, Allocator};
 use ulfm_laws::FlagAnd;
-use ulfm_markup::{Group, Leaf, Page};
+use ulfm_model::Line;
 use ulfm_model::event::Event;
 use ulfm_story::{Note, Row};
-use ulfm_trace_model::Line;
 
 /// A row, with all that is drawn in it.
 #[derive(Drop)]

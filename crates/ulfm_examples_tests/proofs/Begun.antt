@@ -5,7 +5,7 @@ use Rattle.ulfm_words.specs.Steps.{over, view_at, view_of, IsView, Name, Over, S
 use Rattle.ulfm_comm.specs.Phase.{Stands, UnderWay, Waits}
 use Rattle.ulfm_comm.proofs.AmongOthers.{waits_none}
 use Rattle.ulfm_comm.specs.Local.{local}
-use Rattle.ulfm_member.specs.Members.{IsMember, Membership}
+use Rattle.ulfm_wait.specs.Members.{IsMember, Membership}
 
 -- it stands where it began
 pub stands_begun : {P : Type 0} (meld : P → P → P) (pack : P → ℕ) (m : Membership P) (name : Name) (way : UnderWay P) → m.view.words ≡ name → IsMember meld pack m

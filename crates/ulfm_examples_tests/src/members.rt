@@ -1,12 +1,12 @@
-// Examples of `Member`, `Outside` and `ulfm_member::open`.
+// Examples of `Member`, `Outside` and `ulfm_wait::open`.
 
 use crate::open::{TWO, two};
 use std::test::Fail;
 use ulfm_book::BookWords;
 use ulfm_comm::Polled;
 use ulfm_laws::FlagAnd;
-use ulfm_member::{Member, Outside};
 use ulfm_model::Refusal;
+use ulfm_wait::{Member, Outside};
 use ulfm_words::PlainWords;
 
 #[test]
@@ -15,7 +15,7 @@ fn book_words_open(rt: HostRuntime) -> Result<(), Fail> {
     let limits = TWO;
 
     let words: BookWords<FlagAnd> = BookWords::open(alloc, limits)?;
-    let (outside, members) = ulfm_member::open(alloc, words)?;
+    let (outside, members) = ulfm_wait::open(alloc, words)?;
 
     assert!(rt; outside.limits() == limits && members.len() == 2);
     Ok(())
@@ -27,7 +27,7 @@ fn members_open(rt: HostRuntime) -> Result<(), Fail> {
     let limits = TWO;
 
     let words: PlainWords<FlagAnd> = PlainWords::open(limits)?;
-    let (mut outside, members) = ulfm_member::open(alloc, words)?;
+    let (mut outside, members) = ulfm_wait::open(alloc, words)?;
     for member in &members {
         assert!(rt; member.failures().is_empty());
     }
@@ -377,7 +377,7 @@ fn member_known_fit(rt: HostRuntime) -> Result<(), Fail> {
 fn in_turn_poll_in_turn(rt: HostRuntime) -> Result<(), Fail> {
     let alloc = rt.alloc();
     let words: BookWords<FlagAnd> = BookWords::open(alloc, TWO)?;
-    let (_, mut members) = ulfm_member::open(alloc, words)?;
+    let (_, mut members) = ulfm_wait::open(alloc, words)?;
     let (Some(mut second), Some(mut first)) = (members.pop(), members.pop()) else {
         return Ok(());
     };
@@ -390,7 +390,7 @@ fn in_turn_poll_in_turn(rt: HostRuntime) -> Result<(), Fail> {
         failed: 0,
         raised: false,
     };
-    let polled = ulfm_member::poll_in_turn(&mut first, &mut second, 0);
+    let polled = ulfm_wait::poll_in_turn(&mut first, &mut second, 0);
     assert!(rt; polled == (Ok(agreed), Ok(agreed)));
     // With two members a round has one block: a load of the list of failures, and two of that block.
     assert!(rt; second.last_steps() == 3);

@@ -10,9 +10,9 @@ use ulfm_words::PlainWords;
 
 pub(crate) type Words = PlainWords<FlagAnd>;
 
-pub(crate) type Member = ulfm_member::Member<Words, FlagAnd, Global>;
+pub(crate) type Member = ulfm_wait::Member<Words, FlagAnd, Global>;
 
-pub(crate) type Outside = ulfm_member::Outside<Words, FlagAnd, Global>;
+pub(crate) type Outside = ulfm_wait::Outside<Words, FlagAnd, Global>;
 
 /// Two ranks, one communicator to be made, four rounds.
 pub(crate) const TWO: Limits = Limits {
@@ -26,7 +26,7 @@ pub(crate) fn two(rt: &impl Abort, alloc: Global) -> Result<(Outside, Member), F
     ensures { IfOk result (λ o. o.1.view.words ≡ o.0.words) }
 {
     let words: Words = PlainWords::open(TWO)?;
-    let (outside, mut members) = ulfm_member::open(alloc, words)?;
+    let (outside, mut members) = ulfm_wait::open(alloc, words)?;
     assert!(rt; members.len() == 2);
     Ok((outside, members.swap_remove(0)))
 }

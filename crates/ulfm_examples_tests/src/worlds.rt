@@ -3,9 +3,9 @@
 use crate::open::{TWO, two};
 use std::test::Fail;
 use ulfm_comm::World;
-use ulfm_job::Job;
 use ulfm_laws::FlagAnd;
 use ulfm_model::{Call, Refusal, Reply};
+use ulfm_run::Job;
 use ulfm_words::PlainWords;
 
 #[test]

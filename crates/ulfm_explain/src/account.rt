@@ -10,9 +10,8 @@ use ulfm_laws::{FlagAnd, Known};
 use ulfm_lines::read_line;
 use ulfm_model::call::{Request, comm_of};
 use ulfm_model::event::{Caller, Event};
-use ulfm_model::{Call, MarkCount};
+use ulfm_model::{Call, Line, MarkCount, Why};
 use ulfm_script::print_call;
-use ulfm_trace_model::{Line, Why};
 
 /// The most bytes of a bad line that a note shows.
 const MOST_SHOWN: usize = 500;

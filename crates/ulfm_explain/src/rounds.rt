@@ -4,13 +4,13 @@ use crate::points::Relevant;
 use crate::say::{Part, line_words, put_ranks, say};
 use crate::scene::Scene;
 use std::alloc::{AllocError, Allocator};
-use ulfm_history::groups::{failed, members};
-use ulfm_history::reads::{has_arrived, is_revoked, slot};
 use ulfm_laws::FlagAnd;
+use ulfm_model::Line;
 use ulfm_model::call::Request;
 use ulfm_model::event::Entry;
+use ulfm_record::groups::{failed, members};
+use ulfm_record::reads::{has_arrived, is_revoked, slot};
 use ulfm_story::decision_words;
-use ulfm_trace_model::Line;
 
 /// Notes the events that matter, each with its number.
 pub(crate) fn note_matters<A: Allocator + Copy>(

@@ -1,9 +1,9 @@
 //! Notes in words and numbers.
 use std::alloc::{AllocError, Allocator};
 use ulfm_laws::FlagAnd;
+use ulfm_model::Line;
 use ulfm_model::event::Caller;
 use ulfm_script::{LastGroup, print_number, print_point};
-use ulfm_trace_model::Line;
 
 /// A piece of a note.
 #[derive(Clone, Copy)]

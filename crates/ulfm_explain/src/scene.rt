@@ -8,10 +8,9 @@ use ulfm_model::call::{comm_of, rank_of};
 use ulfm_model::event::{Caller, Entry};
 use ulfm_model::limits::Limits;
 use ulfm_model::refusal::Refusal;
-use ulfm_model::{Call, Reply, Request};
+use ulfm_model::{Call, Line, Reply, Request};
 use ulfm_script::{HeaderKind, read_header};
 use ulfm_story::split_line;
-use ulfm_trace_model::Line;
 
 /// The call that a caller has under way.
 #[derive(Clone, Copy)]

@@ -3,16 +3,15 @@ use crate::points::Relevant;
 use crate::say::line_words;
 use crate::scene::{Begun, Scene, judge_behind};
 use std::alloc::{AllocError, Allocator};
-use ulfm_history::decide::{decision, is_decided};
-use ulfm_history::groups::{failed, members};
-use ulfm_history::reads::place_made;
 use ulfm_judge::Judge;
 use ulfm_laws::{Body, FlagAnd};
-use ulfm_model::Reply;
 use ulfm_model::call::{Call, Request, comm_of};
 use ulfm_model::event::Entry;
 use ulfm_model::refusal::Refusal;
-use ulfm_trace_model::Line;
+use ulfm_model::{Line, Reply};
+use ulfm_record::decide::{decision, is_decided};
+use ulfm_record::groups::{failed, members};
+use ulfm_record::reads::place_made;
 
 /// The most lines that are offered.
 const MOST_OFFERS: usize = 4;

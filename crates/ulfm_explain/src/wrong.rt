@@ -4,15 +4,14 @@ use crate::say::{Part, put_ranks, say};
 use crate::scene::{Begun, Scene};
 use crate::tries::Candidate;
 use std::alloc::{AllocError, Allocator};
-use ulfm_history::groups::{failed, members};
-use ulfm_history::reads::{
-    count_made, failures, has_arrived, has_rank, is_declared, is_revoked, slot,
-};
 use ulfm_laws::FlagAnd;
 use ulfm_lines::trace_line::LONGEST;
-use ulfm_model::Reply;
 use ulfm_model::event::{Caller, Event};
-use ulfm_trace_model::Line;
+use ulfm_model::{Line, Reply};
+use ulfm_record::groups::{failed, members};
+use ulfm_record::reads::{
+    count_made, failures, has_arrived, has_rank, is_declared, is_revoked, slot,
+};
 
 /// The most lines that a trace may have.
 const LAST_LINE: u32 = 5_000_000;

@@ -1,7 +1,7 @@
 -- What follows from a script that was run to its end.
 use Rattle.std.proofs.Common.{◌≡◌, ℕ, List, [], Some, None, Ok, sym, subst}
 use Rattle.ulfm_script.specs.{Ends.{KnownText, PrintsAll}, Scripts.{script_of}}
-use Rattle.ulfm_step_script.specs.StepScripts.{RunsSteps, step_scripts}
+use Rattle.ulfm_run.specs.StepScripts.{RunsSteps, step_scripts}
 use Rattle.ulfm_explore.specs.Shows.{Runs}
 
 -- a script that was run to its end, into an empty text, gives this text

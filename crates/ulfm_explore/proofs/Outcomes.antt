@@ -3,7 +3,7 @@ use Rattle.std.proofs.Common.{◌≡◌, List, [], ◌∷◌, ◌++◌, map}
 use Rattle.std.specs.List.{All}
 use Rattle.std.proofs.lemmas.List.{map-append}
 use Rattle.std.proofs.lemmas.List.Elements.{All-append, All-cons, All-nil}
-use Rattle.ulfm_programs.specs.declared.program.Program.{Program}
+use Rattle.ulfm_schedules.specs.declared.program.Program.{Program}
 use Rattle.ulfm_explore.specs.{Shows.{IsOutcome}, Views.{told_of}}
 use Rattle.ulfm_explore.specs.declared.confirm.Shown.{Shown}
 

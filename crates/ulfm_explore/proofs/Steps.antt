@@ -1,8 +1,8 @@
 -- A rank's program goes on, move by move.
 use Rattle.std.proofs.Common.{◌≡◌, ◌∙◌, ℕ, ◌+◌, true, false, if◌then◌else◌, refl, sym, ap, add-one}
-use Rattle.ulfm_programs.specs.Programs.{move_at}
-use Rattle.ulfm_programs.specs.declared.moves.Move.{Move}
-use Rattle.ulfm_programs.specs.declared.program.Program.{Program}
+use Rattle.ulfm_schedules.specs.Programs.{move_at}
+use Rattle.ulfm_schedules.specs.declared.moves.Move.{Move}
+use Rattle.ulfm_schedules.specs.declared.program.Program.{Program}
 use Rattle.ulfm_explore.specs.Readings.{Reached, goes_on, is_on, moved}
 
 goes_next : {A : Type 0} (program : Program A) (rank left : ℕ) (it : Reached) (next : Move) → next ≡ move_at program rank it.at it.last

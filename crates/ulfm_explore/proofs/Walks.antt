@@ -2,9 +2,9 @@
 use Rattle.std.proofs.Common.{◌≡◌, ◌∙◌, ℕ, suc, ◌+◌, ◌<◌, Bool, true, false, if◌then◌else◌, List, [], ◌∷◌, ◌++◌, length, get_or, drop, map, Option, Some, refl, sym, ap, add-one}
 use Rattle.std.proofs.Math.Seq.{drop-cons}
 use Rattle.std.proofs.lemmas.List.{get_or-map, length-map, map-append}
-use Rattle.ulfm_programs.specs.Programs.{text_at}
-use Rattle.ulfm_programs.specs.declared.program.{Find.{Find}, Program.{Program}}
-use Rattle.ulfm_programs.specs.declared.moves.Row.{Row}
+use Rattle.ulfm_schedules.specs.Programs.{text_at}
+use Rattle.ulfm_schedules.specs.declared.program.{Find.{Find}, Program.{Program}}
+use Rattle.ulfm_schedules.specs.declared.moves.Row.{Row}
 use Rattle.ulfm_explore.specs.{Readings.{ranks_to}, Tellings.{Line, Told, answer_to, has_all, has_noted, is_answer, found_to, next_number, outcome_to, outcomes_to, row_to, rows_to, some}, Views.{row_of}}
 use Rattle.ulfm_explore.specs.declared.telling.Question.{Question}
 use Rattle.std.specs.Prelude.{slice_get}

@@ -6,15 +6,15 @@ use Rattle.ulfm_model.specs.declared.call.Call.{Call}
 use Rattle.ulfm_model.specs.declared.call.Call.TheVariants as call
 use Rattle.ulfm_script.specs.{Digits.{read_number}, Scripts.{lines_from}, Spelling.{call_text}, Words.{first_word}}
 use Rattle.ulfm_script.specs.declared.line_kind.LineKind.{LineKind}
-use Rattle.ulfm_programs.specs.Programs.{may_at, most_moves, move_at, next_of, op_at, text_at}
-use Rattle.ulfm_programs.specs.declared.moves.{Fate.{Fate}, Move.{Move}}
-use Rattle.ulfm_programs.specs.declared.moves.Fate.TheVariants.{Runs, Ended, Out, Died}
-use Rattle.ulfm_programs.specs.declared.moves.Move.TheVariants as move
-use Rattle.ulfm_programs.specs.declared.program.{Ask.{Ask}, May.{May}, Op.{Op}, Place.{Place}, Program.{Program}}
-use Rattle.ulfm_programs.specs.declared.program.Ask.TheVariants as ask
-use Rattle.ulfm_programs.specs.declared.program.May.TheVariants.{Stay, Die, Fail}
-use Rattle.ulfm_programs.specs.declared.program.Op.TheVariants as op
-use Rattle.ulfm_programs.specs.declared.program.Place.TheVariants as place
+use Rattle.ulfm_schedules.specs.Programs.{may_at, most_moves, move_at, next_of, op_at, text_at}
+use Rattle.ulfm_schedules.specs.declared.moves.{Fate.{Fate}, Move.{Move}}
+use Rattle.ulfm_schedules.specs.declared.moves.Fate.TheVariants.{Runs, Ended, Out, Died}
+use Rattle.ulfm_schedules.specs.declared.moves.Move.TheVariants as move
+use Rattle.ulfm_schedules.specs.declared.program.{Ask.{Ask}, May.{May}, Op.{Op}, Place.{Place}, Program.{Program}}
+use Rattle.ulfm_schedules.specs.declared.program.Ask.TheVariants as ask
+use Rattle.ulfm_schedules.specs.declared.program.May.TheVariants.{Stay, Die, Fail}
+use Rattle.ulfm_schedules.specs.declared.program.Op.TheVariants as op
+use Rattle.ulfm_schedules.specs.declared.program.Place.TheVariants as place
 
 -- How far a rank has come: its fate, its place in its program, the last communicator that it got from a shrink, whether a call of it is under way, its last
 -- reply but `started`, what it noted, how many declarations were called, how many ranks are declared, and whether each call was its program's.

@@ -1,10 +1,10 @@
 -- What an outcome that is printed rests on.
 use Rattle.std.specs.Prelude.{◌≡◌, ℕ, Bool, true, List, None}
 use Rattle.std.specs.List.{All}
-use Rattle.ulfm_programs.specs.declared.moves.Fate.{Fate}
-use Rattle.ulfm_programs.specs.declared.program.Program.{Program}
+use Rattle.ulfm_schedules.specs.declared.moves.Fate.{Fate}
+use Rattle.ulfm_schedules.specs.declared.program.Program.{Program}
 use Rattle.ulfm_script.specs.{Ends.{PrintsAll}, Scripts.{script_of}}
-use Rattle.ulfm_step_script.specs.StepScripts.{step_scripts}
+use Rattle.ulfm_run.specs.StepScripts.{step_scripts}
 use Rattle.ulfm_explore.specs.{Readings.{AreRows}, Tellings.{Told, told_text}}
 
 -- The text is a script of steps without a fault, and the trace is what running all its lines writes: the text of a legal trace that follows them.

@@ -2,10 +2,10 @@
 use Rattle.std.specs.Prelude.{ℕ, ◌+◌, min, Bool, true, false, if◌then◌else◌, List, [], ◌∷◌, ◌++◌, length, Option, Some, None, codes, slice_get}
 use Rattle.std.specs.{Fmt.{decimal}, Str.{bytes_eq}}
 use Rattle.ulfm_script.specs.Scripts.{lines_from}
-use Rattle.ulfm_programs.specs.{Programs.{text_at}, Words.{has_words}}
-use Rattle.ulfm_programs.specs.declared.moves.Fate.{Fate}
-use Rattle.ulfm_programs.specs.declared.moves.Fate.TheVariants.{Runs, Ended, Out, Died}
-use Rattle.ulfm_programs.specs.declared.program.{Find.{Find}, Program.{Program}}
+use Rattle.ulfm_schedules.specs.{Programs.{text_at}, Words.{has_words}}
+use Rattle.ulfm_schedules.specs.declared.moves.Fate.{Fate}
+use Rattle.ulfm_schedules.specs.declared.moves.Fate.TheVariants.{Runs, Ended, Out, Died}
+use Rattle.ulfm_schedules.specs.declared.program.{Find.{Find}, Program.{Program}}
 use Rattle.ulfm_explore.specs.declared.telling.Question.{Question}
 use Rattle.ulfm_explore.specs.declared.telling.Question.TheVariants as question
 

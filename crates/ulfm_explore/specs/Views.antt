@@ -3,7 +3,7 @@ use Rattle.std.specs.Prelude.{ℕ, if◌then◌else◌, List, map, Some, None}
 use Rattle.ulfm_explore.specs.{Readings.{Reached}, Tellings.{Told}}
 use Rattle.ulfm_explore.specs.declared.confirm.Shown.{Shown}
 use Rattle.ulfm_explore.specs.declared.reading.Reading.{Reading}
-use Rattle.ulfm_programs.specs.declared.moves.{Fate.{Fate}, Row.{Row}}
+use Rattle.ulfm_schedules.specs.declared.moves.{Fate.{Fate}, Row.{Row}}
 
 -- how far a rank has come, by what is kept of it
 abbrev pub reached : {A : Type 0} → Reading A → Reached

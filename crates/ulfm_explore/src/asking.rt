@@ -5,7 +5,7 @@ ghost use Rattle.ulfm_explore.specs.Readings.{asked_by, call_of, calls_nobody, c
 
 use ulfm_laws::FlagAnd;
 use ulfm_model::Call;
-use ulfm_programs::{Ask, Fate, May, Move, Op, Place};
+use ulfm_schedules::{Ask, Fate, May, Move, Op, Place};
 use ulfm_script::words::{read_number, split_word};
 
 /// Whether a rank goes on or waits.

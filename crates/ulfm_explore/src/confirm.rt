@@ -4,10 +4,9 @@ ghost use Rattle.ulfm_explore.specs.{Readings.{AreRows}, Shows.{Runs, Shows}, Vi
 
 use crate::reading::read_row;
 use std::alloc::{AllocError, Allocator};
-use ulfm_programs::{Program, Row};
+use ulfm_run::{StepTable, run_step_script};
+use ulfm_schedules::{Program, Row};
 use ulfm_script::RunFault;
-use ulfm_seats::StepTable;
-use ulfm_step_script::run_step_script;
 
 /// A script that the step engine ran to its end, with its trace, and what became of the ranks in that.
 #[derive(Drop)]

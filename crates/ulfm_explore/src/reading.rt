@@ -1,7 +1,7 @@
 //! What became of a rank, read off a trace: its program goes along with the trace's lines.
 ghost use Rattle.std.specs.Prelude.{◌≡◌, ◌<◌, ◌∷◌, [], IfOk, OnOk, MatchOption, length, option_map};
 ghost use Rattle.ulfm_script.specs.{Scripts.{lines_from}, Words.{rest_at}};
-ghost use Rattle.ulfm_programs.specs.Programs.{move_at, op_at};
+ghost use Rattle.ulfm_schedules.specs.Programs.{move_at, op_at};
 ghost use Rattle.ulfm_explore.specs.Readings.{after_reply, answered, begun, behind, declaration_answered, declared, failed, gone_on, made_in, may_begin, may_declare, may_fail, moved, noting, rests, row_in, saying, stands_before, start, takes, takes_all, takes_call, takes_event, takes_reply, told};
 ghost use Rattle.ulfm_explore.specs.Views.{reached, row_of};
 
@@ -10,7 +10,7 @@ use crate::asking::{
     is_on, is_quiet, is_wait, made_in, runs, text_behind,
 };
 use std::alloc::{AllocError, Allocator};
-use ulfm_programs::{Fate, Move, Program, Row, most_moves, move_at};
+use ulfm_schedules::{Fate, Move, Program, Row, most_moves, move_at};
 use ulfm_script::print_call;
 use ulfm_script::words::{read_number, split_word};
 

@@ -7,8 +7,7 @@ use crate::confirm::{Shown, are_same, show};
 use crate::telling::{is_first_answer, tell};
 use std::alloc::{AllocError, AllocFailed, Allocator};
 use thiserror::Error;
-use ulfm_programs::Program;
-use ulfm_schedules::{Searched, search};
+use ulfm_schedules::{Program, Searched, search};
 
 /// How a program is explored.
 #[derive(Clone, Copy, Debug, PartialEq, Eq)]

@@ -7,7 +7,7 @@ ghost use Rattle.ulfm_explore.specs.{Tellings.{answer_to, count_text, counts_to,
 use crate::confirm::Shown;
 use crate::reading::split_line;
 use std::alloc::{AllocError, Allocator};
-use ulfm_programs::{Fate, Find, Program, Row, has_words};
+use ulfm_schedules::{Fate, Find, Program, Row, has_words};
 use ulfm_script::print_point;
 
 /// The word of a fate.

@@ -1,7 +1,7 @@
 //! What is told of small programs.
 use std::alloc::Global;
 use ulfm_explore::{ExploreFault, Plan, explore};
-use ulfm_programs::read_program;
+use ulfm_schedules::read_program;
 
 /// A program of two ranks, of which one may be declared.
 const AGREE: &str =

@@ -1,6 +1,6 @@
 //! Programs that are read.
 use ulfm_laws::FlagAnd;
-use ulfm_programs::{Ask, May, Op, Place, read_program};
+use ulfm_schedules::{Ask, May, Op, Place, read_program};
 
 #[test]
 fn reads_a_program(rt: HostRuntime) {

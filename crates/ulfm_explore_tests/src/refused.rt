@@ -2,7 +2,7 @@
 use linked_list_allocator::LocalHeap;
 use std::test::Fail;
 use ulfm_explore::{ExploreFault, Plan, explore};
-use ulfm_programs::{ProgramFault, read_program};
+use ulfm_schedules::{ProgramFault, read_program};
 
 /// Two ranks, of which one may be declared, and a question that has an answer.
 const PROGRAM: &str =

@@ -1,8 +1,7 @@
 //! The model of the search beside the step engine, step by step.
 use std::alloc::Global;
 use ulfm_explore::{are_same, follow};
-use ulfm_programs::read_program;
-use ulfm_schedules::walk;
+use ulfm_schedules::{read_program, walk};
 
 /// Programs that have every call, and every way to be declared.
 const PROGRAMS: [&str; 5] = [

@@ -1,3 +1,10 @@
 pub mod Answers
 pub mod Notes
 pub mod Statuses
+pub mod RaceLines
+pub mod Echoes
+pub mod EchoLaws
+pub mod MigrationLaws
+pub mod Migrations
+pub mod Calls
+pub mod Written

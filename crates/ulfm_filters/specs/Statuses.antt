@@ -1,17 +1,17 @@
 -- How a filter did its work, behind an exit status.
 use Rattle.std.specs.Prelude.{◌≡◌, ◌⊎◌, ℕ, List, OnOk, Result, Ok, Err}
 use Rattle.std.specs.Io.KnownBytes.{Appends, Keeps}
-use Rattle.ulfm_echo.specs.Echoes.{RunsEchoed}
+use Rattle.ulfm_filters.specs.Echoes.{RunsEchoed}
 use Rattle.ulfm_filters.specs.declared.filter.Filter.{Filter}
 use Rattle.ulfm_filters.specs.declared.filter.Filter.TheVariants.{Calls, Echoed, Steps, Migrate, Check}
 use Rattle.ulfm_filters.specs.Notes.{TellsEnd, TellsVerdict, no_memory, no_read}
-use Rattle.ulfm_migrate.specs.Migrations.{Migrates, RunsMigration}
+use Rattle.ulfm_filters.specs.Migrations.{Migrates, RunsMigration}
 use Rattle.ulfm_script.specs.declared.fault.RunFault.{RunFault}
 use Rattle.ulfm_script.specs.declared.fault.RunFault.TheVariants.{Line, Memory, Read, Write}
 use Rattle.ulfm_script.specs.Ends.{KnownText, RunEnd}
 use Rattle.ulfm_script.specs.Runs.{RunsBuffered}
 use Rattle.ulfm_script.specs.Written.{WritesPart}
-use Rattle.ulfm_step_script.specs.StepScripts.{RunsSteps}
+use Rattle.ulfm_run.specs.StepScripts.{RunsSteps}
 use Rattle.ulfm_trace.specs.declared.verdict.CheckFault.TheVariants as check
 use Rattle.ulfm_trace.specs.declared.verdict.{Verdict.{Verdict}, Verdict.TheVariants.{Legal, Illegal}}
 use Rattle.ulfm_trace.specs.{Checks.{CheckEnd, Checks}, Verdicts.{verdict_text}}

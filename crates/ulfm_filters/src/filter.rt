@@ -4,10 +4,9 @@ ghost use Rattle.ulfm_filters.specs.Notes.{TellsEnd, TellsVerdict};
 ghost use Rattle.ulfm_filters.specs.Statuses.{CheckedTelling, CheckedWith, Filtered, FilteredTelling, PrintsVerdict, status_of, verdict_status};
 
 use crate::telling::{print_text, tell_fault};
+use crate::{migrate, run_echoed};
 use std::alloc::Allocator;
 use std::io::{Read, Write};
-use ulfm_echo::run_echoed;
-use ulfm_migrate::migrate;
 use ulfm_run::{WordsMachine, run_calls, run_steps};
 use ulfm_script::RunFault;
 use ulfm_trace::{CheckFault, Verdict, check, verdict_line};

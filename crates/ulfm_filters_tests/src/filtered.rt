@@ -1,8 +1,8 @@
 //! What a filter gives for a text that lies in memory.
 use std::alloc::Global;
 use std::test::Fail;
+use ulfm_devices::row::Row;
 use ulfm_filters::{Filter, run_filter};
-use ulfm_worked_rows::Row;
 
 /// What a filter wrote and told, and its status.
 #[derive(Drop)]

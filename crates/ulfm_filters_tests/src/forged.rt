@@ -2,8 +2,8 @@
 use crate::filtered::require_answer;
 use std::alloc::Global;
 use std::test::Fail;
+use ulfm_devices::traces::TRACE_JUDGED_A;
 use ulfm_filters::Filter;
-use ulfm_worked_rows::traces::TRACE_JUDGED_A;
 
 /// What stands behind the header, and the fault of line 2 that it has.
 const FAULTS: [(&[u8], &str); 13] = [

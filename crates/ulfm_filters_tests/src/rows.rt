@@ -1,8 +1,8 @@
 //! The worked rows.
 use crate::filtered::{migrate_rows, run_rows};
 use std::test::Fail;
+use ulfm_devices::row::{calls, steps, traces};
 use ulfm_filters::Filter;
-use ulfm_worked_rows::{calls, steps, traces};
 
 #[test]
 fn worked_rows(rt: HostRuntime) -> Result<(), Fail> {

@@ -10,8 +10,8 @@ use Rattle.ulfm_model.specs.History.{History, decision, failed, failures, has, h
 use Rattle.ulfm_model.specs.Records.{Held, Record, free_ids, held_at}
 use Rattle.ulfm_record.specs.Kept.{FitsNext}
 use Rattle.ulfm_record.proofs.Allowed.{allowed_fits}
-use Rattle.ulfm_trace_model.specs.Traces.{AnswersCall, AnswersRank, MayReply, Traced, Under, call_by, listed, record_in, view_at}
-use Rattle.ulfm_trace_model.specs.declared.line.Line.{Line}
+use Rattle.ulfm_model.specs.Traces.{AnswersCall, AnswersRank, MayReply, Traced, Under, call_by, listed, record_in, view_at}
+use Rattle.ulfm_model.specs.declared.line.Line.{Line}
 use Rattle.ulfm_numbers.specs.{Groups.{same_ranks}, Seen.{seen_of}}
 use Rattle.ulfm_judge.specs.CallsAt.{CallAt, call_of}
 use Rattle.ulfm_judge.specs.ReplyTests.{by_record_test, call_test, listed_in, looked_test, pending_test, polled_test, rank_test, replied_test, reply_test}

@@ -5,7 +5,7 @@ use Rattle.std.proofs.lemmas.Bool.Decides.{Decides-and, Decides-like, Decides-or
 use Rattle.ulfm_model.specs.declared.{call.Call.{Call}, call.Request.{Request}, contribution.Contribution.{Contribution}, event.Caller.{Caller}, event.Event.{Event}}
 use Rattle.ulfm_model.specs.{Answers.{CallAdds, MarksDeclared, MayOwn, PollAdds, comm_of, refusal_of}, History.{has}, Records.{Held, Record, held_at}}
 use Rattle.ulfm_numbers.proofs.Deciding.{eq_decides, false_decides, never_decides, none_decides, true_decides}
-use Rattle.ulfm_trace_model.specs.Traces.{IsLookDue, MayAdd, MayAddBy, Traced, Under, call_by, found_by, record_in}
+use Rattle.ulfm_model.specs.Traces.{IsLookDue, MayAdd, MayAddBy, Traced, Under, call_by, found_by, record_in}
 use Rattle.ulfm_judge.specs.Tests.{due_test, own_call_test, own_by_test, adds_on_test, adds_test, arrives_test, makes_test, marks_test, own_test, poll_test, revokes_test, settles_test}
 
 module _ {P : Type 0} (look : List ℕ) where

@@ -9,8 +9,8 @@ use Rattle.ulfm_model.specs.declared.{call.Call.{Call}, event.Caller.{Caller}, l
 use Rattle.ulfm_model.specs.{Answers.{Effect, comm_of, left_by, left_with, printed, traits_of}, History.{History}, Records.{Held, Record, held_at}}
 use Rattle.ulfm_model.proofs.Lists.{each_from}
 use Rattle.ulfm_record.specs.{declared.record.RankRecord.{RankRecord}, Kept.{FitsNext, record_of}}
-use Rattle.ulfm_trace_model.specs.declared.line.{Line.{Line}, Why.{Why}}
-use Rattle.ulfm_trace_model.specs.Traces.{MayReply, Takes, Traced, Under, after_reply, call_by, caller_of, record_in, records_after, same_caller}
+use Rattle.ulfm_model.specs.declared.line.{Line.{Line}, Why.{Why}}
+use Rattle.ulfm_model.specs.Traces.{MayReply, Takes, Traced, Under, after_reply, call_by, caller_of, record_in, records_after, same_caller}
 use Rattle.ulfm_judge.specs.ReplyTests.{reply_test}
 use Rattle.ulfm_judge.specs.{declared.calls.OpenCall.{OpenCall}, Kept.{AreCalls, GoesWith, MayLeave, traced_of}, Telling.{TellsSome}}
 use Rattle.ulfm_numbers.specs.{declared.numbers.Numbers.{Numbers}, Telling.{TablesTell}}

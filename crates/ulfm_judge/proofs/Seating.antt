@@ -11,7 +11,7 @@ use Rattle.ulfm_model.specs.declared.event.Caller.{Caller}
 use Rattle.ulfm_model.specs.History.{first_ranks}
 use Rattle.ulfm_model.proofs.Groups.{first_at, first_length}
 use Rattle.ulfm_numbers.proofs.Placing.{get_other, get_same}
-use Rattle.ulfm_trace_model.specs.Traces.{Under, caller_of, change_by, same_caller}
+use Rattle.ulfm_model.specs.Traces.{Under, caller_of, change_by, same_caller}
 use Rattle.ulfm_judge.specs.declared.calls.OpenCall.{OpenCall}
 use Rattle.ulfm_judge.specs.Kept.{AreCalls, kept_by, open_at, place_by, seat_of, under_of}
 

@@ -10,8 +10,8 @@ use Rattle.ulfm_model.specs.Answers.{comm_of, most_failures, printed, rank_of, r
 use Rattle.ulfm_model.specs.Computed.{lowest_id}
 use Rattle.ulfm_model.specs.History.{Decision, has}
 use Rattle.ulfm_model.specs.Records.{Held, Record, free_ids, held_at}
-use Rattle.ulfm_trace_model.specs.Traces.{Traced, Under, record_in, view_at}
-use Rattle.ulfm_trace_model.specs.declared.line.Line.{Line}
+use Rattle.ulfm_model.specs.Traces.{Traced, Under, record_in, view_at}
+use Rattle.ulfm_model.specs.declared.line.Line.{Line}
 use Rattle.ulfm_judge.specs.{declared.polls.Named.{Named}, declared.replies.Due.{Due}}
 use Rattle.ulfm_judge.specs.CallsAt.{CallAt, call_of}
 use Rattle.ulfm_numbers.specs.{Groups.{same_ranks}, Seen.{Seen, decision_in, failed_in, is_decided_in, is_made_in, seen_of}}

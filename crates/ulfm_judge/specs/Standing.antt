@@ -1,6 +1,6 @@
 -- What a judge stands for.
 use Rattle.std.specs.Prelude.{◌≡◌, ℕ, length}
-use Rattle.ulfm_trace_model.specs.Traces.{Traced}
+use Rattle.ulfm_model.specs.Traces.{Traced}
 use Rattle.ulfm_judge.specs.declared.judge.Judge.{Judge}
 use Rattle.ulfm_judge.specs.Kept.{AreCalls, traced_of}
 use Rattle.ulfm_numbers.specs.Telling.{TablesTell}

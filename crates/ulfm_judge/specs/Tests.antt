@@ -4,7 +4,7 @@ use Rattle.ulfm_model.specs.declared.{call.Call.{Call}, call.Request.{Request}, 
 use Rattle.ulfm_model.specs.Answers.{comm_of, refusal_of}
 use Rattle.ulfm_model.specs.History.{has}
 use Rattle.ulfm_model.specs.Records.{Held, Record, held_at}
-use Rattle.ulfm_trace_model.specs.Traces.{Traced, Under, call_by, found_by, record_in}
+use Rattle.ulfm_model.specs.Traces.{Traced, Under, call_by, found_by, record_in}
 
 -- whether an event marks, in round k, a member that the look found declared
 abbrev pub marks_test : {P : Type 0} → List ℕ → Held → ℕ → Event P → Bool

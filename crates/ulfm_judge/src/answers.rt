@@ -16,7 +16,6 @@ use crate::replies::{
     is_revoke_reply, is_standing_reply, is_start_reply,
 };
 use std::alloc::{AllocError, Allocator};
-use ulfm_history::reads::has_rank;
 use ulfm_laws::meld::{Meld, Packed};
 use ulfm_model::call::{Call, MOST_FAILURES, comm_of};
 use ulfm_model::contribution::Offer;
@@ -26,6 +25,7 @@ use ulfm_numbers::groups::same_ranks;
 use ulfm_numbers::numbers::Numbers;
 use ulfm_record::held::{HeldComm, place_of, refusal_of};
 use ulfm_record::ids::free_ids;
+use ulfm_record::reads::has_rank;
 
 /// Whether a call starts a request.
 fn starts<P: Copy>(asked: &Call<P>) -> bool

@@ -6,16 +6,16 @@ ghost use Rattle.ulfm_model.specs.Answers.{traits_of};
 ghost use Rattle.ulfm_model.specs.History.{History, failures, first_ranks};
 ghost use Rattle.ulfm_record.specs.Kept.{record_of};
 ghost use Rattle.ulfm_record.specs.declared.record.RankRecord.{RankRecord};
-ghost use Rattle.ulfm_trace_model.specs.Traces.{Takes, Under};
-ghost use Rattle.ulfm_trace_model.specs.declared.line.Line.{Line};
+ghost use Rattle.ulfm_model.specs.Traces.{Takes, Under};
+ghost use Rattle.ulfm_model.specs.declared.line.Line.{Line};
 
 use std::alloc::{AllocError, Allocator};
 use ulfm_laws::meld::Meld;
 use ulfm_model::call::{Call, rank_of};
 use ulfm_model::event::{Caller, Event};
 use ulfm_model::limits::Limits;
+use ulfm_model::line::Why;
 use ulfm_record::record::RankRecord;
-use ulfm_trace_model::line::Why;
 
 /// A caller's place for a call.
 #[derive(Drop)]

@@ -11,8 +11,8 @@ ghost use Rattle.ulfm_model.specs.Words.{MayOpen};
 ghost use Rattle.ulfm_model.specs.declared.event.Caller.{Caller};
 ghost use Rattle.ulfm_model.specs.declared.reply.Reply.{Reply};
 ghost use Rattle.ulfm_record.specs.Kept.{FitsNext, record_of};
-ghost use Rattle.ulfm_trace_model.specs.Traces.{Takes, Under, caller_of, record_in, records_after, same_caller};
-ghost use Rattle.ulfm_trace_model.specs.declared.line.Line.{Line};
+ghost use Rattle.ulfm_model.specs.Traces.{Takes, Under, caller_of, record_in, records_after, same_caller};
+ghost use Rattle.ulfm_model.specs.declared.line.Line.{Line};
 
 use crate::answers::{is_answer, lists};
 use crate::calls::{OpenCall, first_of, place_by, place_of_rank};
@@ -24,13 +24,13 @@ use ulfm_laws::meld::{Meld, Packed};
 use ulfm_model::call::{Call, comm_of, rank_of};
 use ulfm_model::event::Caller;
 use ulfm_model::limits::Limits;
+use ulfm_model::line::Why;
 use ulfm_model::refusal::Refusal;
 use ulfm_model::reply::Reply;
 use ulfm_numbers::numbers::Numbers;
 use ulfm_record::held::{HeldComm, take_in};
 use ulfm_record::leaves::settle;
 use ulfm_record::record::RankRecord;
-use ulfm_trace_model::line::Why;
 
 /// Whether a rank's call is answered so, at a point.
 fn answers_rank<P: Packed, A: Allocator + Copy + Drop>(

@@ -6,8 +6,8 @@ ghost use Rattle.ulfm_judge.specs.Kept.{AreCalls, traced_of, under_of};
 ghost use Rattle.ulfm_judge.specs.Telling.{TellsSome};
 ghost use Rattle.ulfm_numbers.specs.Telling.{TablesTell};
 ghost use Rattle.ulfm_judge.specs.Tests.{own_by_test};
-ghost use Rattle.ulfm_trace_model.specs.Traces.{Takes, Under, change_by, is_owned, with_event};
-ghost use Rattle.ulfm_trace_model.specs.declared.line.Line.{Line};
+ghost use Rattle.ulfm_model.specs.Traces.{Takes, Under, change_by, is_owned, with_event};
+ghost use Rattle.ulfm_model.specs.declared.line.Line.{Line};
 
 use crate::calls::{OpenCall, first_of, place_by, place_of_rank};
 use crate::own::may_own;
@@ -16,10 +16,10 @@ use ulfm_laws::meld::Meld;
 use ulfm_model::call::Call;
 use ulfm_model::event::{Caller, Entry, Event};
 use ulfm_model::limits::Limits;
+use ulfm_model::line::Why;
 use ulfm_numbers::allowed::may_follow;
 use ulfm_numbers::numbers::Numbers;
 use ulfm_record::record::RankRecord;
-use ulfm_trace_model::line::Why;
 
 /// Whether an event declares a rank.
 fn declares<P: Copy>(rank: u16, event: &Event<P>) -> bool

@@ -5,8 +5,8 @@ ghost use Rattle.ulfm_judge.specs.Telling.{TellsSome};
 ghost use Rattle.ulfm_numbers.specs.Telling.{TablesTell};
 ghost use Rattle.ulfm_model.specs.History.{History, first_ranks};
 ghost use Rattle.ulfm_model.specs.Words.{MayOpen};
-ghost use Rattle.ulfm_trace_model.specs.Traces.{Takes, Traced, Under, nothing};
-ghost use Rattle.ulfm_trace_model.specs.declared.line.Line.{Line};
+ghost use Rattle.ulfm_model.specs.Traces.{Takes, Traced, Under, nothing};
+ghost use Rattle.ulfm_model.specs.declared.line.Line.{Line};
 
 use crate::calls::{OpenCall, begin, look, place_by};
 use crate::closing::take_reply;
@@ -15,11 +15,11 @@ use std::alloc::{AllocError, Allocator};
 use ulfm_laws::meld::{Meld, Packed};
 use ulfm_model::event::{Caller, Event};
 use ulfm_model::limits::Limits;
+use ulfm_model::line::{Line, Why};
 use ulfm_model::reply::Reply;
 use ulfm_numbers::numbers::Numbers;
 use ulfm_record::fresh::new_records;
 use ulfm_record::record::RankRecord;
-use ulfm_trace_model::line::{Line, Why};
 
 /// Judges the lines of a trace one after another. Of what happened it keeps when, by what was said, and no history: what a line takes
 /// grows with the members of its communicator, with the communicators and with the failures, and not with the lines before it. For calls

@@ -4,11 +4,11 @@ ghost use Rattle.ulfm_record.specs.Kept.{record_of};
 ghost use Rattle.ulfm_judge.specs.Tests.{adds_test, arrives_test, makes_test, marks_test, own_test, poll_test, revokes_test, settles_test};
 
 use std::alloc::Allocator;
-use ulfm_history::reads::has_rank;
 use ulfm_model::call::{Call, Request, comm_of};
 use ulfm_model::event::Event;
 use ulfm_model::limits::Limits;
 use ulfm_record::held::{HeldComm, place_of, refusal_of};
+use ulfm_record::reads::has_rank;
 use ulfm_record::record::RankRecord;
 
 /// Whether an event marks, in this round, a member that the look found declared.

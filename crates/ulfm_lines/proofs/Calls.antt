@@ -2,9 +2,9 @@
 use Rattle.std.proofs.Common.{◌≡◌, ℕ, ◌&&◌, ◌||◌, Bool, true, false, not, List, [], ◌∷◌, ◌++◌, filter, find, Option, is_some, Some, None, refl, ap, sym, ◌∙◌, if◌then◌else◌}
 use Rattle.ulfm_model.specs.declared.{event.Caller.{Caller}, event.Event.{Event}, reply.Reply.{Reply}}
 use Rattle.ulfm_model.specs.Answers.{traits_of}
-use Rattle.ulfm_trace_model.specs.declared.line.Line.{Line}
-use Rattle.ulfm_trace_model.specs.{Follows.{AreOf, is_of}, Traces.{Told, Traced, Under, after, after_reply, call_by, caller_of, change_by, is_owned, said_by, same_caller, with_event}}
-use Rattle.ulfm_trace_model.proofs.Callers.{same_is}
+use Rattle.ulfm_model.specs.declared.line.Line.{Line}
+use Rattle.ulfm_model.specs.{Follows.{AreOf, is_of}, Traces.{Told, Traced, Under, after, after_reply, call_by, caller_of, change_by, is_owned, said_by, same_caller, with_event}}
+use Rattle.ulfm_model.proofs.Callers.{same_is}
 
 -- no call of this test is found behind those that fail it
 pub find_behind : {X : Type 0} (p : X → Bool) (xs : List X) (x : X) → p x ≡ false → find p (xs ++ x ∷ []) ≡ find p xs

@@ -2,7 +2,7 @@
 use Rattle.std.proofs.Common.{◌≡◌, ◌+◌, Bool, true, false, List, [], ◌∷◌, ◌++◌, length, filter, refl, ap, sym, ◌∙◌, append_assoc, length-append, if◌then◌else◌}
 use Rattle.std.specs.List.{AllByRecursion}
 use Rattle.ulfm_laws.specs.declared.flag_and.FlagAnd.{FlagAnd}
-use Rattle.ulfm_trace_model.specs.{Follows.{EndsInReply, steps_in, takes_step}, Traces.{Told}}
+use Rattle.ulfm_model.specs.{Follows.{EndsInReply, steps_in, takes_step}, Traces.{Told}}
 use Rattle.ulfm_lines.specs.LineTexts.{line_text, lines_text}
 
 -- the text of lines behind lines

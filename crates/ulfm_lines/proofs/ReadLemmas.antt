@@ -6,7 +6,7 @@ use Rattle.ulfm_script.specs.declared.line_kind.LineKind.{LineKind}
 use Rattle.ulfm_script.specs.{Printed.{ranks_text, reply_text, shrunk_text}, Spelling.{SpellsAs, spelled_text}}
 use Rattle.ulfm_script.proofs.Spelled.{spelled_as}
 use Rattle.ulfm_lines.specs.{Fields.{Field}, LineReading.{SomeReply, line_head, line_listing}, LineTexts.{TraceLine, caller_text, event_text, line_text}, Telling.{LineFits, ListsRanks, TextTells, TellsLine, TellsReply}}
-use Rattle.ulfm_trace_model.specs.declared.line.Line.TheVariants.{Called, Looked, Happened, Replied}
+use Rattle.ulfm_model.specs.declared.line.Line.TheVariants.{Called, Looked, Happened, Replied}
 use Rattle.ulfm_lines.proofs.{FieldLemmas.{same_field}, LineLemmas.{line_again, line_found}, RankLemmas.{ranks_few, ranks_once}}
 
 -- what was read is told

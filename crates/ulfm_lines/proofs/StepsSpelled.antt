@@ -5,7 +5,7 @@ use Rattle.std.proofs.lemmas.{Bool.{eqb-false, ne_eqb}, Slice.Eq.{bytes_eq-Decid
 use Rattle.ulfm_model.specs.declared.call.Call.TheVariants.{Fail, GetFailed, Ack, FailureAck, FailureGetAcked, Agree, Shrink, Barrier, Poll, Revoke, IsRevoked, Free}
 use Rattle.ulfm_model.specs.declared.step_name.StepName.{StepName}
 use Rattle.ulfm_model.specs.declared.step_name.StepName.TheVariants as name
-use Rattle.ulfm_trace_model.specs.declared.step_line.StepLine.TheVariants.{Called, Stepped, Before, Finished, Failed}
+use Rattle.ulfm_model.specs.declared.step_line.StepLine.TheVariants.{Called, Stepped, Before, Finished, Failed}
 use Rattle.ulfm_script.specs.declared.line_kind.LineKind.{LineKind}
 use Rattle.ulfm_script.specs.declared.line_kind.LineKind.TheVariants.{Number, Step, Verb, Words}
 use Rattle.ulfm_script.specs.{Calls.{ScriptCall, call_of}, Digits.{read_number, read_rank}, Spelling.{Spells, SpellsAs, is_padded}, Steps.{◌>>=◌}, Words.{one_of, two_of, first_word}}

@@ -2,7 +2,7 @@
 use Rattle.std.proofs.Common.{◌≡◌, ℕ, ◌≤◌, List, [], Some, refl, ap, sym, arith, append-nil, inl, inr}
 use Rattle.std.specs.Prelude.{◌⊎◌}
 use Rattle.ulfm_model.specs.declared.event.Caller.{Caller}
-use Rattle.ulfm_trace_model.specs.{Follows.{IsPiece, steps_in}, Traces.{IsOpen, said_by}}
+use Rattle.ulfm_model.specs.{Follows.{IsPiece, steps_in}, Traces.{IsOpen, said_by}}
 use Rattle.ulfm_lines.specs.declared.step_machine.{Reach.{Reach}, Taken.TheVariants.{Run}}
 use Rattle.ulfm_lines.specs.{StepLines.{ScriptStep}, Stepped.{TellsStep, TraceState}, Walked.{IsTaken, TellsSteps, to_the_end}}
 

@@ -13,7 +13,7 @@ use Rattle.ulfm_lines.specs.EventReading.{event_of}
 use Rattle.ulfm_lines.specs.Fields.{Field, both, caller_field, comm_field, error_field, flag_field, label_field, labelled, number_field, over}
 use Rattle.ulfm_lines.specs.Fields.{point_field, rank_field, whole}
 use Rattle.ulfm_lines.specs.LineTexts.{TraceLine}
-use Rattle.ulfm_trace_model.specs.declared.line.Line.TheVariants.{Called, Looked, Happened, Replied}
+use Rattle.ulfm_model.specs.declared.line.Line.TheVariants.{Called, Looked, Happened, Replied}
 
 -- a reply, or none where it tells a context id that no communicator has
 abbrev pub SomeReply : Type 0

@@ -6,8 +6,8 @@ use Rattle.ulfm_model.specs.declared.{contribution.Offer.{Offer}, contribution.O
 use Rattle.ulfm_model.specs.declared.{event.Caller.{Caller}, event.Caller.TheVariants.{Outside, Rank}}
 use Rattle.ulfm_model.specs.declared.{event.Event.{Event}, event.Event.TheVariants.{Fail, Settle, Mark, Arrive, Revoke, Spawn}, reply.Reply.{Reply}}
 use Rattle.ulfm_script.specs.{Digits.{flag_text}, Printed.{reply_text}, Spelling.{spelled_text}}
-use Rattle.ulfm_trace_model.specs.declared.{line.Line.{Line}, line.Line.TheVariants.{Called, Looked, Happened, Replied}}
-use Rattle.ulfm_trace_model.specs.Traces.{Told}
+use Rattle.ulfm_model.specs.declared.{line.Line.{Line}, line.Line.TheVariants.{Called, Looked, Happened, Replied}}
+use Rattle.ulfm_model.specs.Traces.{Told}
 
 -- an event of a call script's contributions
 abbrev pub TraceEvent : Type 0

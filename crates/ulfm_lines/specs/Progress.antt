@@ -1,7 +1,7 @@
 -- How far a machine takes the calls of its ranks.
 use Rattle.std.specs.Prelude.{◌≡◌, ◌⊎◌, ℕ, ◌+◌, ◌≤◌, ⊤, Option, Some, None}
 use Rattle.ulfm_model.specs.declared.step_name.StepName.{StepName}
-use Rattle.ulfm_trace_model.specs.declared.step_line.StepLine.TheVariants.{Before, Called, Finished, Stepped}
+use Rattle.ulfm_model.specs.declared.step_line.StepLine.TheVariants.{Before, Called, Finished, Stepped}
 use Rattle.ulfm_lines.specs.{StepLines.{ScriptStep}, Walked.{IsCountOf}}
 use Rattle.ulfm_lines.specs.declared.step_machine.Reach.{Reach}
 

@@ -3,8 +3,8 @@ use Rattle.std.specs.Prelude.{◌≡◌, ◌≢◌, ℕ, ◌<◌, List, ◌∷�
 use Rattle.std.specs.{Fmt.{decimal}, Str.{bytes_eq}}
 use Rattle.ulfm_laws.specs.declared.flag_and.FlagAnd.{FlagAnd}
 use Rattle.ulfm_model.specs.declared.call.Call.TheVariants as call
-use Rattle.ulfm_trace_model.specs.declared.step_line.StepLine.{StepLine}
-use Rattle.ulfm_trace_model.specs.declared.step_line.StepLine.TheVariants.{Called, Stepped, Before, Finished, Failed}
+use Rattle.ulfm_model.specs.declared.step_line.StepLine.{StepLine}
+use Rattle.ulfm_model.specs.declared.step_line.StepLine.TheVariants.{Called, Stepped, Before, Finished, Failed}
 use Rattle.ulfm_script.specs.declared.line_kind.LineKind.{LineKind}
 use Rattle.ulfm_script.specs.declared.line_kind.LineKind.TheVariants.{Number, Verb, Words}
 use Rattle.ulfm_script.specs.{Calls.{ScriptCall, call_of}, Digits.{read_number, read_rank}, Spelling.{SpellsAs, is_padded}, Steps.{◌>>=◌}}

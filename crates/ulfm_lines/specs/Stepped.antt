@@ -3,8 +3,8 @@ use Rattle.std.specs.Prelude.{◌≡◌, ℕ, Bool, List, [], ◌∷◌, ◌++�
 use Rattle.ulfm_laws.specs.{Flags.{flag_meld}, declared.flag_and.FlagAnd.{FlagAnd}}
 use Rattle.ulfm_model.specs.declared.call.Call.{Call}
 use Rattle.ulfm_model.specs.Answers.{traits_of}
-use Rattle.ulfm_trace_model.specs.declared.step_line.StepLine.TheVariants.{Called}
-use Rattle.ulfm_trace_model.specs.{Follows.{Runs}, Traces.{IsOpen, Told, Traced}}
+use Rattle.ulfm_model.specs.declared.step_line.StepLine.TheVariants.{Called}
+use Rattle.ulfm_model.specs.{Follows.{Runs}, Traces.{IsOpen, Told, Traced}}
 use Rattle.ulfm_lines.specs.{LineTexts.{lines_text}, StepLines.{ScriptStep, SpellsStep}}
 use Rattle.ulfm_lines.specs.declared.step_machine.Taken.{Taken}
 use Rattle.ulfm_lines.specs.declared.step_machine.Taken.TheVariants.{Open, Run}

@@ -9,7 +9,7 @@ use Rattle.ulfm_model.specs.declared.{refusal.Refusal.TheVariants.{OutOfMemory},
 use Rattle.ulfm_model.specs.declared.reply.Reply.TheVariants as reply
 use Rattle.ulfm_script.specs.{Printed.{ranks_text, reply_text, shrunk_text}, Spelling.{IsSpelledAs, SpellsAs}}
 use Rattle.ulfm_lines.specs.{LineReading.{SomeReply}, LineTexts.{TraceEvent, TraceLine, caller_text, event_text, mark_text, settle_text, two_text}}
-use Rattle.ulfm_trace_model.specs.declared.line.Line.TheVariants.{Called, Looked, Happened, Replied}
+use Rattle.ulfm_model.specs.declared.line.Line.TheVariants.{Called, Looked, Happened, Replied}
 
 -- the ranks that a line can name
 abbrev pub CallerFits : Caller → Type 0

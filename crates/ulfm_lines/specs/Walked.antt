@@ -2,7 +2,7 @@
 use Rattle.std.specs.Prelude.{◌≡◌, ◌⊎◌, ℕ, ◌≤◌, List, [], ◌++◌, length, Some, None}
 use Rattle.ulfm_laws.specs.{Flags.{flag_meld}, declared.flag_and.FlagAnd.{FlagAnd}}
 use Rattle.ulfm_model.specs.declared.{event.Caller.{Caller}, step_name.StepName.{StepName}}
-use Rattle.ulfm_trace_model.specs.{Follows.{AreOf, EndsInReply, NoneBy, steps_in}, Traces.{AreLegalAfter, IsOpen, Told, said_by}}
+use Rattle.ulfm_model.specs.{Follows.{AreOf, EndsInReply, NoneBy, steps_in}, Traces.{AreLegalAfter, IsOpen, Told, said_by}}
 use Rattle.ulfm_lines.specs.{LineTexts.{lines_text}, Stepped.{TraceState}}
 use Rattle.ulfm_lines.specs.declared.step_machine.Reach.{Reach}
 

@@ -6,12 +6,11 @@ ghost use Rattle.ulfm_lines.specs.LineTexts.{caller_text, event_text, given_text
 
 use std::alloc::{AllocError, Allocator};
 use ulfm_laws::FlagAnd;
-use ulfm_model::Reply;
 use ulfm_model::contribution::{Contribution, Offer};
 use ulfm_model::event::{Caller, Event};
+use ulfm_model::{Line, Reply};
 use ulfm_script::digits::flag_digits;
 use ulfm_script::{LastGroup, print_number, print_point, print_reply, print_spelled_call};
-use ulfm_trace_model::Line;
 
 /// Appends a line of a trace, without a newline.
 ///

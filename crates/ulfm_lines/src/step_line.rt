@@ -5,11 +5,11 @@ ghost use Rattle.ulfm_lines.specs.StepLines.{ScriptStep, SpellsStep, read_asked,
 
 use crate::step_name::read_step_name;
 use ulfm_laws::FlagAnd;
+use ulfm_model::StepLine;
 use ulfm_script::words::{
     LAST_RANK, is_word, one_word, read_number, read_number_to, split_word, two_words,
 };
 use ulfm_script::{LineKind, is_padded, read_call};
-use ulfm_trace_model::StepLine;
 
 /// What one line of a step script asks for, without its newline, or the first fault in it from `verb` on.
 ///

@@ -2,7 +2,7 @@
 ghost use Rattle.std.specs.Prelude.{◌≡◌, IfOk, OnOk};
 ghost use Rattle.ulfm_laws.specs.declared.flag_and.FlagAnd.{FlagAnd};
 ghost use Rattle.ulfm_model.specs.Words.{MayOpen};
-ghost use Rattle.ulfm_trace_model.specs.Traces.{Traced, nothing};
+ghost use Rattle.ulfm_model.specs.Traces.{Traced, nothing};
 ghost use Rattle.ulfm_lines.specs.Progress.{GoesAsSaid, GoesFar, Progress};
 ghost use Rattle.ulfm_lines.specs.Stepped.{IsSpelledStep, TellsStep};
 ghost use Rattle.ulfm_lines.specs.Walked.{IsCountOf, TellsSteps};
@@ -11,9 +11,8 @@ ghost use Rattle.std.specs.Prelude.{◌+◌};
 use crate::teller::Teller;
 use std::alloc::{AllocError, Allocator};
 use ulfm_laws::FlagAnd;
-use ulfm_model::Limits;
 use ulfm_model::step_name::StepName;
-use ulfm_trace_model::StepLine;
+use ulfm_model::{Limits, StepLine};
 
 /// What became of a line of a step script.
 #[derive(Clone, Copy, Debug, PartialEq, Eq)]

@@ -5,8 +5,8 @@ ghost use Rattle.ulfm_lines.specs.LineTexts.{line_text};
 use crate::printing::print_line;
 use std::alloc::{AllocError, Allocator};
 use ulfm_laws::FlagAnd;
+use ulfm_model::Line;
 use ulfm_script::LastGroup;
-use ulfm_trace_model::Line;
 
 /// The lines of a trace that were told and not yet written.
 #[derive(Drop)]

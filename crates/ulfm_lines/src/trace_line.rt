@@ -11,9 +11,8 @@ use crate::fields::{behind, caller_field, number_field, over, point_field, rank_
 use crate::replies::read_reply;
 use std::alloc::{AllocError, Allocator};
 use ulfm_laws::FlagAnd;
-use ulfm_model::Reply;
+use ulfm_model::{Line, Reply};
 use ulfm_script::{LineKind, is_padded, read_call};
-use ulfm_trace_model::Line;
 
 /// The most bytes that a line of a trace may have, without its newline.
 pub const LONGEST: usize = 8192;

@@ -42,3 +42,13 @@ pub mod StepsStarts
 pub mod Summed
 pub mod WordRows
 pub mod WordRules
+pub mod Answered
+pub mod Callers
+pub mod Kept
+pub mod Parts
+pub mod Reasons
+pub mod TraceRows
+pub mod RoundAnswers
+pub mod Telling
+pub mod Staying
+pub mod Refusing

@@ -7,3 +7,8 @@ pub mod Records
 pub mod Runs
 pub mod Terms
 pub mod Words
+pub mod Follows
+pub mod TraceLaws
+pub mod Traces
+pub mod Rounds
+pub mod Told

@@ -5,7 +5,7 @@ ghost use Rattle.ulfm_numbers.specs.Groups.{same_ranks};
 ghost use Rattle.ulfm_model.specs.History.{has};
 
 use std::alloc::{AllocError, Allocator};
-use ulfm_history::reads::has_rank;
+use ulfm_record::reads::has_rank;
 
 /// The group of a communicator.
 #[derive(Drop)]

@@ -4,7 +4,7 @@
 ghost use Rattle.std.specs.Prelude.{◌≡◌, ◌+◌, ◌++◌, ◌∷◌, [], ℕ, IfOk, IfSome, OnOk, Some, filter, filter_map, if◌then◌else◌, is_some, length, map, take, true};
 ghost use Rattle.std.specs.HashMap.{get};
 ghost use Rattle.std.specs.List.{cons_option, list_all};
-ghost use Rattle.ulfm_history.specs.Walked.{decision_of};
+ghost use Rattle.ulfm_record.specs.Walked.{decision_of};
 ghost use Rattle.std.specs.Option.{option_map};
 ghost use Rattle.ulfm_numbers.specs.Failed.{AreFailed, members_of};
 ghost use Rattle.ulfm_numbers.specs.Numbers.{TellsArrivals, TellsDeclared, TellsFailures, TellsRevocations, TellsSlots, TellsSpawns};
@@ -21,11 +21,11 @@ use crate::rounds::{Done, have_common, know_few};
 use std::alloc::{AllocError, Allocator};
 use std::collections::HashMap;
 use std::hash::{BuildHasherDefault, FoldHasher, Hash};
-use ulfm_history::decide::{Decided, decided_by};
-use ulfm_history::groups::{first_ranks, union_of, without};
 use ulfm_laws::meld::Meld;
 use ulfm_model::contribution::Slot;
 use ulfm_model::event::{Entry, Event};
+use ulfm_record::decide::{Decided, decided_by};
+use ulfm_record::groups::{first_ranks, union_of, without};
 
 /// A place in a round: a communicator, a round and a rank.
 pub type RoundKey = (u16, u16, u16);

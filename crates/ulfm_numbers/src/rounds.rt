@@ -4,10 +4,10 @@ ghost use Rattle.std.specs.List.{list_all, list_any};
 ghost use Rattle.ulfm_model.specs.History.{has, known_of};
 
 use std::alloc::Allocator;
-use ulfm_history::decide::Decided;
-use ulfm_history::reads::has_rank;
 use ulfm_laws::meld::Meld;
 use ulfm_model::contribution::Slot;
+use ulfm_record::decide::Decided;
+use ulfm_record::reads::has_rank;
 
 /// What a round decided.
 #[derive(Drop)]

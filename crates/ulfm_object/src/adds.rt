@@ -7,9 +7,6 @@ ghost use Rattle.ulfm_record.specs.Kept.{record_of};
 ghost use Rattle.ulfm_model.specs.declared.call.Request.TheVariants.{Shrink};
 
 use std::alloc::{AllocError, Allocator};
-use ulfm_history::decide::{decision, is_decided};
-use ulfm_history::groups::{count_failed, failed};
-use ulfm_history::reads::{count_made, has_arrived, has_rank, is_made, is_revoked, slot};
 use ulfm_laws::counts::{Acked, Known};
 use ulfm_laws::meld::Meld;
 use ulfm_laws::summary::Body;
@@ -17,8 +14,11 @@ use ulfm_model::call::{Call, Request};
 use ulfm_model::contribution::{Contribution, MarkCount, Offer};
 use ulfm_model::event::{Caller, Entry, Event};
 use ulfm_model::limits::Limits;
+use ulfm_record::decide::{decision, is_decided};
+use ulfm_record::groups::{count_failed, failed};
 use ulfm_record::held::HeldComm;
 use ulfm_record::ids::free_ids;
+use ulfm_record::reads::{count_made, has_arrived, has_rank, is_made, is_revoked, slot};
 use ulfm_record::record::RankRecord;
 
 /// A count of failures, at most 1024.

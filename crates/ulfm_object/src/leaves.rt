@@ -7,11 +7,11 @@ ghost use Rattle.ulfm_model.specs.declared.reply.Reply.TheVariants.{Started};
 ghost use Rattle.ulfm_record.specs.Kept.{FitsNext, record_of};
 
 use std::alloc::{AllocError, Allocator};
-use ulfm_history::groups::members;
 use ulfm_model::call::{Call, comm_of};
 use ulfm_model::event::Entry;
 use ulfm_model::limits::Limits;
 use ulfm_model::reply::Reply;
+use ulfm_record::groups::members;
 use ulfm_record::held::{HeldComm, take_in};
 use ulfm_record::leaves::settle;
 use ulfm_record::record::RankRecord;

@@ -18,8 +18,6 @@ use crate::leaves::leave;
 use crate::outcome::outcome_of;
 use std::alloc::{AllocError, Allocator};
 use std::marker::Model;
-use ulfm_history::groups::{failed, members};
-use ulfm_history::reads::{failures, is_declared};
 use ulfm_laws::meld::Meld;
 use ulfm_model::call::{Call, rank_of};
 use ulfm_model::event::{Caller, Entry, Event};
@@ -27,6 +25,8 @@ use ulfm_model::limits::{Limits, OpenFault};
 use ulfm_model::refusal::Refusal;
 use ulfm_model::reply::Reply;
 use ulfm_record::fresh::new_records;
+use ulfm_record::groups::{failed, members};
+use ulfm_record::reads::{failures, is_declared};
 use ulfm_record::record::RankRecord;
 
 /// The sequential object.

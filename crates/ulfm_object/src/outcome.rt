@@ -14,7 +14,6 @@ ghost use Rattle.ulfm_model.specs.declared.reply.Reply.TheVariants.{Refused};
 use crate::adds::{added, extended};
 use crate::replies::replied;
 use std::alloc::{AllocError, Allocator};
-use ulfm_history::reads::is_declared;
 use ulfm_laws::meld::Meld;
 use ulfm_model::call::{Call, comm_of};
 use ulfm_model::event::{Caller, Entry};
@@ -22,6 +21,7 @@ use ulfm_model::limits::Limits;
 use ulfm_model::refusal::Refusal;
 use ulfm_model::reply::Reply;
 use ulfm_record::held::{HeldComm, place_of, refusal_of};
+use ulfm_record::reads::is_declared;
 use ulfm_record::record::RankRecord;
 
 /// The history after a call, and its reply.

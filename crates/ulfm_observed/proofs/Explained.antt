@@ -3,7 +3,7 @@ use Rattle.std.proofs.Common.{List, None, Ok, Err, map, true}
 use Rattle.std.specs.Prelude.{Bool, IfOk, IsTrue, Result}
 use Rattle.std.specs.declared.alloc.AllocError.{AllocError}
 use Rattle.ulfm_laws.specs.Flags.{flag_meld}
-use Rattle.ulfm_trace_model.specs.Traces.{IsLegalTrace}
+use Rattle.ulfm_model.specs.Traces.{IsLegalTrace}
 use Rattle.ulfm_observed.specs.declared.{log.Log.{Log}, step.Step.{Step}}
 use Rattle.ulfm_observed.specs.{Explains.{AreAllHeard, AreWillsKept, Explains, all_logged}, LogTexts.{heard_in}, Stages.{aid_after, shown_of, told_of}}
 

@@ -3,7 +3,7 @@ use Rattle.std.proofs.Common.{◌≡◌, ◌<◌, ◌≤◌, ◌+◌, ℕ, List,
 use Rattle.std.specs.Prelude.{None, get_or}
 use Rattle.std.proofs.lemmas.List.{drop_all}
 use Rattle.ulfm_laws.specs.{Flags.{flag_meld}, declared.flag_and.FlagAnd.{FlagAnd}}
-use Rattle.ulfm_trace_model.specs.Traces.{AreLegalAfter, Takes, Told, Traced}
+use Rattle.ulfm_model.specs.Traces.{AreLegalAfter, Takes, Told, Traced}
 use Rattle.ulfm_observed.specs.declared.step.Step.{Step}
 use Rattle.ulfm_observed.specs.Stages.{told_of}
 use Rattle.ulfm_observed.proofs.Walks.{left_from}

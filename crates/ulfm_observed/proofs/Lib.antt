@@ -4,3 +4,10 @@ pub mod Ranked
 pub mod Same
 pub mod Showing
 pub mod Walks
+pub mod Answered
+pub mod Bounded
+pub mod Clash
+pub mod Kept
+pub mod Left
+pub mod Others
+pub mod Walked

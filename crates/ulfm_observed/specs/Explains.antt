@@ -6,9 +6,9 @@ use Rattle.ulfm_model.specs.declared.event.Caller.TheVariants as caller
 use Rattle.ulfm_model.specs.declared.reply.Reply.{Reply}
 use Rattle.ulfm_model.specs.declared.reply.Reply.TheVariants as reply
 use Rattle.ulfm_model.specs.Answers.{traits_of}
-use Rattle.ulfm_trace_model.specs.declared.line.Line.{Line}
-use Rattle.ulfm_trace_model.specs.declared.line.Line.TheVariants as line
-use Rattle.ulfm_trace_model.specs.Traces.{IsLegalTrace, same_caller}
+use Rattle.ulfm_model.specs.declared.line.Line.{Line}
+use Rattle.ulfm_model.specs.declared.line.Line.TheVariants as line
+use Rattle.ulfm_model.specs.Traces.{IsLegalTrace, same_caller}
 use Rattle.ulfm_observed.specs.declared.log.{Failures.{Failures}, Failures.TheVariants.{Any, Logged}, Item.{Item}}
 use Rattle.ulfm_observed.specs.declared.log.Item.TheVariants as item
 use Rattle.ulfm_observed.specs.declared.log.{Log.{Log}, Order.{Order}, Order.TheVariants.{Time, Ranks}, Seen.{Seen}, Seen.TheVariants.{Agreed, Shrunk, Whole}}

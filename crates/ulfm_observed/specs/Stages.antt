@@ -12,8 +12,8 @@ use Rattle.ulfm_model.specs.declared.refusal.Refusal.TheVariants as refusal
 use Rattle.ulfm_model.specs.declared.reply.Reply.{Reply}
 use Rattle.ulfm_model.specs.declared.reply.Reply.TheVariants as reply
 use Rattle.ulfm_model.specs.Answers.{traits_of}
-use Rattle.ulfm_trace_model.specs.declared.line.{Line.{Line}, Line.TheVariants.{Called, Looked, Happened, Replied}}
-use Rattle.ulfm_trace_model.specs.Traces.{Told, same_caller}
+use Rattle.ulfm_model.specs.declared.line.{Line.{Line}, Line.TheVariants.{Called, Looked, Happened, Replied}}
+use Rattle.ulfm_model.specs.Traces.{Told, same_caller}
 use Rattle.ulfm_observed.specs.declared.{stages.Aid.{Aid}, stages.Stage.{Stage}, step.Step.{Step}}
 use Rattle.ulfm_observed.specs.declared.stages.Stage.TheVariants.{Idle, Under, Acted, Begun, Ending, Gone, Wrong}
 

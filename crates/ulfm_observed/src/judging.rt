@@ -2,7 +2,7 @@
 ghost use Rattle.std.specs.Prelude.{IfOk, IsTrue, map};
 ghost use Rattle.ulfm_laws.specs.Flags.{flag_meld};
 ghost use Rattle.ulfm_model.specs.Words.{MayOpen};
-ghost use Rattle.ulfm_trace_model.specs.Traces.{IsLegalTrace};
+ghost use Rattle.ulfm_model.specs.Traces.{IsLegalTrace};
 ghost use Rattle.ulfm_observed.specs.Stages.{told_of};
 
 use crate::step::Step;

@@ -1,7 +1,7 @@
 //! Whether each rank's calls and replies are those of a log, in one walk through an explanation.
 ghost use Rattle.std.specs.Prelude.{◌≡◌, ℕ, ◌≤◌, ◌<◌, false, [], IfOk, IfSome, IsTrue, filter, get_or, map};
 ghost use Rattle.ulfm_model.specs.declared.event.Caller.TheVariants.{Rank};
-ghost use Rattle.ulfm_trace_model.specs.Traces.{same_caller};
+ghost use Rattle.ulfm_model.specs.Traces.{same_caller};
 ghost use Rattle.ulfm_observed.specs.declared.shows.Whose.TheVariants.{Of};
 ghost use Rattle.ulfm_observed.specs.Explains.{AreHeard, AreRanksHeard, is_heard_by, is_shown_by, is_told_by};
 ghost use Rattle.ulfm_observed.specs.LogTexts.{heard_of};
@@ -14,8 +14,7 @@ use crate::stages::caller_of;
 use crate::step::Step;
 use std::alloc::{AllocError, Allocator};
 use ulfm_laws::FlagAnd;
-use ulfm_model::Caller;
-use ulfm_trace_model::Line;
+use ulfm_model::{Caller, Line};
 
 /// One more than the greatest rank that a line can name.
 pub(crate) const RANKS: u16 = 1024;

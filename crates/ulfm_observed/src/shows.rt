@@ -1,6 +1,6 @@
 //! Whether the calls and replies of an explanation are those of a log.
 ghost use Rattle.std.specs.Prelude.{◌≡◌, ◌≤◌, ◌<◌, IsTrue, IfSome, length, map};
-ghost use Rattle.ulfm_trace_model.specs.declared.line.Line.{Line};
+ghost use Rattle.ulfm_model.specs.declared.line.Line.{Line};
 ghost use Rattle.ulfm_observed.specs.Explains.{AreCallersHeard, IsAs, IsHeard, IsSeen, is_among};
 ghost use Rattle.ulfm_observed.specs.Explains.{is_heard_by, is_shown_by, is_told_by};
 ghost use Rattle.ulfm_observed.specs.LogTexts.{heard_of};
@@ -12,8 +12,7 @@ use crate::stages::{caller_of, same_caller};
 use crate::step::Step;
 use std::alloc::Allocator;
 use ulfm_laws::FlagAnd;
-use ulfm_model::{Caller, Reply};
-use ulfm_trace_model::Line;
+use ulfm_model::{Caller, Line, Reply};
 
 /// Whose lines are compared.
 #[derive(Clone, Copy, Debug, PartialEq, Eq)]

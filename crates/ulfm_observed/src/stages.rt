@@ -2,7 +2,7 @@
 //! open start may have done.
 ghost use Rattle.std.specs.Prelude.{◌≡◌, None, map, true};
 ghost use Rattle.ulfm_model.specs.Answers.{traits_of};
-ghost use Rattle.ulfm_trace_model.specs.Traces.{same_caller};
+ghost use Rattle.ulfm_model.specs.Traces.{same_caller};
 ghost use Rattle.ulfm_observed.specs.Stages.{acted_stage, aid_after, asks_for, begun_or_gone, called_stage, declares};
 ghost use Rattle.ulfm_observed.specs.Stages.{ends, ends_refused, gone_or_wrong, hidden_call, hidden_reply, line_by};
 ghost use Rattle.ulfm_observed.specs.Stages.{may_help, may_stop, own_aid, own_stage, polls, replied_stage};
@@ -11,8 +11,7 @@ ghost use Rattle.ulfm_observed.specs.Stages.{says_started, shown_of, starts};
 use crate::step::Step;
 use std::alloc::Allocator;
 use ulfm_laws::FlagAnd;
-use ulfm_model::{Call, Caller, Event, Refusal, Reply};
-use ulfm_trace_model::Line;
+use ulfm_model::{Call, Caller, Event, Line, Refusal, Reply};
 
 /// How far a rank has come.
 #[derive(Clone, Copy, Debug, PartialEq, Eq)]

@@ -1,7 +1,7 @@
 //! The lines of an explanation.
 use std::alloc::Allocator;
 use ulfm_laws::FlagAnd;
-use ulfm_trace_model::Line;
+use ulfm_model::Line;
 
 /// A line of the trace that is to explain a log.
 #[derive(Drop)]

@@ -8,7 +8,7 @@ use Rattle.ulfm_model.specs.{History.{Exists, History, IsLegal, failures, first_
 use Rattle.ulfm_model.proofs.{Histories.{failures_begin, members_stay}, LeftFits.{held_fits}, Lists.{has_prefix}}
 use Rattle.ulfm_comm.specs.Counts.{Ranked, new_rank, records_of}
 use Rattle.ulfm_comm.proofs.Opening.{records_are}
-use Rattle.ulfm_rounds.proofs.Staying.{replies_last}
+use Rattle.ulfm_model.proofs.Staying.{replies_last}
 use Rattle.ulfm_race.specs.Races.{AreAnswered, EndsFor, IsAnswered, IsDeclared, IsEnded, IsGathered, IsGroup, IsHeard, IsNewRank, Numbered, StartIs, StopsFor, WasAnswered, WasTold, flag_of, is_refused, is_shrunk, limits_of}
 use Rattle.ulfm_race.specs.declared.{gather.Heard.{Heard}, plan.Plan.{Plan}, plan.RaceFault.{RaceFault}, plan.RaceFault.TheVariants.{Held as HeldBack, Memory}, plan.Turn.{Turn}}
 use Rattle.ulfm_race.proofs.Turns.{any_push, at_push}

@@ -12,8 +12,8 @@ use Rattle.ulfm_comm.specs.{Calls.{Calls, EndsBy, is_out_of_memory}, Polls.{poll
 use Rattle.ulfm_comm.specs.declared.calls.polled.Polled.{Polled}
 use Rattle.ulfm_comm.proofs.CallRuns.{called_run}
 use Rattle.ulfm_comm.specs.Local.{local}
-use Rattle.ulfm_rounds.specs.{Rounds.{AreAgreed, Gave, IsDecision, IsMadeOf, IsReason}, Told.{spread_in}}
-use Rattle.ulfm_rounds.proofs.{Refusing.{polls_refused, starts_refused}, Staying.{agreed_last, gave_lasts, replies_last}, Telling.{agree_opens, agree_tells, shrink_opens, shrink_tells}}
+use Rattle.ulfm_model.specs.{Rounds.{AreAgreed, Gave, IsDecision, IsMadeOf, IsReason}, Told.{spread_in}}
+use Rattle.ulfm_model.proofs.{Refusing.{polls_refused, starts_refused}, Staying.{agreed_last, gave_lasts, replies_last}, Telling.{agree_opens, agree_tells, shrink_opens, shrink_tells}}
 use Rattle.ulfm_wait.specs.Waits.{IsPolledOn}
 use Rattle.ulfm_wait.proofs.Waiting.{IsLast, answer_ends, goes_on, last_poll}
 use Rattle.ulfm_race.specs.Races.{IsAnswered, IsKeptReply, IsReady, SaysAgree, WasLet, flag_of, is_refused, is_shrunk, limits_of}

@@ -5,7 +5,7 @@ use Rattle.ulfm_laws.specs.{declared.flag_and.FlagAnd.{FlagAnd}, Flags.{flag_mel
 use Rattle.ulfm_model.specs.declared.{call.Call.{Call}, call.Call.TheVariants.{Agree, Shrink}, refusal.Refusal.{Refusal}, refusal.Refusal.TheVariants.{OutOfMemory}, reply.Reply.{Reply}, reply.Reply.TheVariants.{Started}}
 use Rattle.ulfm_words.specs.Steps.{Name, Sight}
 use Rattle.ulfm_comm.specs.declared.calls.polled.{Polled.{Polled}, Polled.TheVariants.{Pending as StillPending}}
-use Rattle.ulfm_member.specs.Members.{MemberCalls, MemberPolls, Membership, setting_of}
+use Rattle.ulfm_wait.specs.Members.{MemberCalls, MemberPolls, Membership, setting_of}
 use Rattle.ulfm_wait.specs.{Turns.{MemberPends}, Waits.{MemberAwaits, MemberPollsOn}}
 use Rattle.ulfm_race.specs.Races.{IsKeptReply, flag_of, flag_pack, is_stopped}
 use Rattle.ulfm_race.specs.Worked.{BreaksIn, TurnsBreakOff, Declares, HasPended, HasTurned, HasTurnedBy, TakesPart, TakesTurns, TurnIs, steps_of, turn_of}

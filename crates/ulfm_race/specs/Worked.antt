@@ -6,7 +6,7 @@ use Rattle.ulfm_model.specs.declared.{call.Call.{Call}, call.Call.TheVariants.{A
 use Rattle.ulfm_words.specs.Steps.{view_of, Name, Sight}
 use Rattle.ulfm_comm.specs.Fails.{Fails}
 use Rattle.ulfm_comm.specs.declared.calls.polled.Polled.{Polled}
-use Rattle.ulfm_member.specs.Members.{MemberCalls, Membership, setting_of}
+use Rattle.ulfm_wait.specs.Members.{MemberCalls, Membership, setting_of}
 use Rattle.ulfm_wait.specs.{Turns.{MemberPends}, Waits.{MemberAwaits}}
 use Rattle.ulfm_race.specs.Races.{IsKeptReply, flag_of, flag_pack, is_refused}
 use Rattle.ulfm_race.specs.declared.{plan.Plan.{Plan}, plan.RaceFault.{RaceFault}, worker.Report.{Report}}

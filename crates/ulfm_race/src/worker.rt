@@ -1,6 +1,6 @@
 // The part of one rank.
 ghost use Rattle.std.specs.Prelude.{◌≡◌, ◌<◌, Bool, List, [], ◌∷◌, ◌++◌, false, true, map, not, ⊤, IfErr, IfOk, IfSome, IsTrue, MatchBool, None, Ok, Err};
-ghost use Rattle.ulfm_member.specs.Members.{setting_of};
+ghost use Rattle.ulfm_wait.specs.Members.{setting_of};
 ghost use Rattle.std.specs.List.{AllByRecursion, list_any};
 ghost use mathlib.Core.List.{IsPrefix};
 ghost use Rattle.boxcar.specs.Table.{Shows};

@@ -2,3 +2,4 @@ pub mod Allowed
 pub mod Contexts
 pub mod Places
 pub mod Testing
+pub mod Walks

@@ -4,10 +4,10 @@ ghost use Rattle.ulfm_model.specs.History.{first_ranks};
 ghost use Rattle.ulfm_model.specs.Records.{new_record};
 ghost use Rattle.ulfm_record.specs.Kept.{record_of};
 
+use crate::groups::first_ranks;
 use crate::held::HeldComm;
 use crate::record::RankRecord;
 use std::alloc::{AllocError, Allocator};
-use ulfm_history::groups::first_ranks;
 use ulfm_model::limits::Limits;
 
 /// A new rank's record: it holds the world's communicator alone. Only memory can be refused.

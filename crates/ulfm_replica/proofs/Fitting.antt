@@ -10,7 +10,7 @@ use Rattle.ulfm_words.specs.Steps.{IsView, Name, Over, Sight, view_at, view_of}
 use Rattle.ulfm_words.proofs.Trails.{did_prefix, did_wait}
 use Rattle.ulfm_comm.specs.{Calls.{RepliedAs, wants_memory}, Ends.{IsRefusedAgain}, Local.{local}, Phase.{Answered, Idles, UnderWay, Waits}}
 use Rattle.ulfm_comm.proofs.AmongOthers.{did_among}
-use Rattle.ulfm_replay.specs.Replays.{Feeds}
+use Rattle.ulfm_replica.specs.Replays.{Feeds}
 use Rattle.ulfm_replica.specs.Replicas.{Calling, KeepsCall, Rules, SinceIn, StandsIn}
 
 module _ {P : Type 0} (meld : P → P → P) (name : Over P) (began own : Record) (before now : Sight P) where

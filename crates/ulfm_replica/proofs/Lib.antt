@@ -3,3 +3,7 @@ pub mod Opening
 pub mod Replaying
 pub mod Running
 pub mod Stepping
+pub mod Feeding
+pub mod Following
+pub mod ReplayedWords
+pub mod Wiring

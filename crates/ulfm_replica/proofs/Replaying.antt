@@ -4,7 +4,7 @@ use mathlib.Core.List.{IsPrefix}
 use Rattle.ulfm_model.specs.declared.{event.Entry.{Entry}, limits.Limits.{Limits}}
 use Rattle.ulfm_model.specs.History.{History}
 use Rattle.ulfm_model.proofs.Lists.{prefix_trans}
-use Rattle.ulfm_replay.specs.Replays.{Feeds}
+use Rattle.ulfm_replica.specs.Replays.{Feeds}
 use Rattle.ulfm_replica.specs.Replicas.{Replays, Rules, Takes}
 use Rattle.ulfm_replica.proofs.Fitting.{feeds_on}
 

@@ -1,1 +1,3 @@
 pub mod Replicas
+pub mod Replays
+pub mod Wire

@@ -8,7 +8,7 @@ use Rattle.ulfm_model.specs.{History.{History, MayFollow}, Records.{Record, new_
 use Rattle.ulfm_words.specs.Steps.{IsView, Name, Sight, View, view_of}
 use Rattle.ulfm_comm.specs.Phase.{Answered, MayStep, Stands, UnderWay, Waits, next_step}
 use Rattle.ulfm_comm.specs.{Counts.{Counted}, Local.{FitsView, local}, Proposals.{Proposes, proposes}, StepsLeft.{steps_left}, Wings.{WingsSettled}}
-use Rattle.ulfm_replay.specs.{Replays.{Feeds}, Wire.{IsReadAs, entry_bytes}}
+use Rattle.ulfm_replica.specs.{Replays.{Feeds}, Wire.{IsReadAs, entry_bytes}}
 use Rattle.ulfm_replica.specs.declared.answers.{Fed.{Fed}, FeedFault.{FeedFault}, FeedFault.TheVariants.{Gap, Lost as IsLost}, Lost.{Lost}, Ran.{Ran}}
 use Rattle.ulfm_replica.specs.declared.answers.Fed.TheVariants as fed
 use Rattle.ulfm_replica.specs.declared.answers.Ran.TheVariants as ran

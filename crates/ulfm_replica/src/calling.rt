@@ -5,10 +5,11 @@ ghost use Rattle.ulfm_model.specs.declared.event.Caller.TheVariants.{Rank as OfR
 ghost use Rattle.ulfm_words.specs.Steps.{IsView, view_of};
 ghost use Rattle.ulfm_comm.specs.{Local.{local}, Phase.{MayStep, next_step}, Wings.{WingsIn, WingsSettled}};
 ghost use Rattle.ulfm_numbers.specs.Telling.{TablesTell};
-ghost use Rattle.ulfm_replay.specs.Replays.{Feeds};
+ghost use Rattle.ulfm_replica.specs.Replays.{Feeds};
 ghost use Rattle.ulfm_replica.specs.Replicas.{Begins, ComesTo, IsBusy, IsCalling, IsWanted, KeepsCall, MakesWanted, StepsOn, is_settle, rules};
 
 use crate::answers::{Lost, Ran};
+use crate::feed;
 use std::alloc::Allocator;
 use std::marker::Model;
 use ulfm_comm::{Doing, Rank, World};
@@ -19,7 +20,6 @@ use ulfm_model::limits::{Limits, OpenFault};
 use ulfm_model::reply::Reply;
 use ulfm_model::step_name::StepName;
 use ulfm_numbers::Numbers;
-use ulfm_replay::feed;
 use ulfm_words::{PlainPass, PlainWords};
 
 /// A rank, its words, and its call. It is moved into what makes steps, and comes back where no memory was refused.

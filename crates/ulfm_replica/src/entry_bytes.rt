@@ -1,8 +1,8 @@
 //! An entry of a log, as it is stored.
 
-use ulfm_replay::ENTRY_BYTES;
+use crate::ENTRY_BYTES;
 
-/// An entry of a world's log, as it is stored: its kind, its caller, its numbers and its payload, in 24 bytes. `ulfm_replay::wire` has the layout.
+/// An entry of a world's log, as it is stored: its kind, its caller, its numbers and its payload, in 24 bytes. `ulfm_replica::wire` has the layout.
 #[repr(C)]
 #[derive(Clone, Copy)]
 pub struct EntryBytes {

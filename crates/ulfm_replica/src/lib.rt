@@ -6,7 +6,7 @@
 //! before it is left out, here as at every other rank; so entries may be repeated, late, or nobody's.
 //!
 //! Nothing here waits, and nothing knows where the log is kept. Two replicas that were fed with beginnings of one log have seen beginnings of one
-//! history (`machines_agree`).
+//! history (`machines_agree`). The words and tables that a log makes stand here too (`feed`), and an entry as bytes.
 #![tactic(auto)]
 
 pub mod answers;
@@ -15,9 +15,15 @@ pub mod entry_bytes;
 pub mod laws;
 pub mod log_so_far;
 mod machine;
+pub mod replay;
 pub mod replica;
+#[cfg(test)]
+mod tests;
+pub mod wire;
 
 pub use answers::{Fed, FeedFault, Lost, Ran};
 pub use entry_bytes::EntryBytes;
 pub use laws::machines_agree;
+pub use replay::feed;
 pub use replica::Replica;
+pub use wire::{ENTRY_BYTES, bytes_of, entry_of};

@@ -4,7 +4,7 @@ ghost use Rattle.std.specs.Bool.{Decides};
 ghost use Rattle.ulfm_model.specs.Answers.{traits_of};
 ghost use Rattle.ulfm_model.specs.declared.event.Caller.TheVariants.{Rank as OfRank};
 ghost use Rattle.ulfm_model.specs.declared.event.Entry.{Entry as EntryOf};
-ghost use Rattle.ulfm_replay.specs.Wire.{IsReadAs, entry_bytes};
+ghost use Rattle.ulfm_replica.specs.Wire.{IsReadAs, entry_bytes};
 ghost use Rattle.ulfm_replica.specs.Replicas.{Begins, IsBusy, IsFed, IsNewReplica, IsWanted, RunsOn, StepsOn, rules};
 ghost use Rattle.ulfm_replica.specs.declared.answers.Fed.TheVariants.{LeftOut as IsLeftOut, Own as IsOwn, Taken as IsTaken};
 
@@ -12,6 +12,7 @@ use crate::answers::{Fed, Lost, Ran};
 use crate::calling::CallingRank;
 use crate::entry_bytes::EntryBytes;
 use crate::log_so_far::LogSoFar;
+use crate::{bytes_of, entry_of};
 use std::alloc::{AllocError, Allocator};
 use std::marker::Model;
 use ulfm_laws::meld::Packed;
@@ -19,7 +20,6 @@ use ulfm_model::call::Call;
 use ulfm_model::event::Entry;
 use ulfm_model::limits::{Limits, OpenFault};
 use ulfm_numbers::{Numbers, may_follow};
-use ulfm_replay::{bytes_of, entry_of};
 
 /// A rank that replays a log: it, and what is known of the log so far.
 #[derive(Drop)]

@@ -1,6 +1,6 @@
 // The machine that answers a script's calls by ranks over plain words, those of one thread.
+use crate::Job;
 use std::alloc::{AllocError, Allocator};
-use ulfm_job::Job;
 use ulfm_laws::FlagAnd;
 use ulfm_model::{Call, Limits, Reply};
 use ulfm_script::Machine;

@@ -1,14 +1,13 @@
 // Scripts of calls and of steps, run from a reader to a writer: what a user of this crate calls.
 ghost use Rattle.std.specs.Prelude.{◌<◌, IfOk};
 ghost use Rattle.ulfm_script.specs.{Ends.{EndsAlone, ended}, Runs.{RunsBuffered}};
-ghost use Rattle.ulfm_step_script.specs.{FailingScripts.{RunsFailing, failing_scripts}, StepScripts.{RunsSteps}};
+ghost use Rattle.ulfm_run.specs.{FailingScripts.{RunsFailing, failing_scripts}, StepScripts.{RunsSteps}};
 
 use crate::over_words::WordsMachine;
+use crate::{Failing, StepTable, run_failing_script, run_step_script};
 use std::alloc::Allocator;
 use std::io::{Read, Write};
 use ulfm_script::{RunFault, run_script};
-use ulfm_seats::StepTable;
-use ulfm_step_script::{Failing, run_failing_script, run_step_script};
 
 /// Runs the call script that the reader gives over the words of a new world, writes a line for each call, and flushes the writer once.
 ///

@@ -1,7 +1,16 @@
-//! The tests of running scripts: what scripts print and which faults end them, over words and over the sequential object, and devices that fail.
+//! The tests of running scripts: what scripts print and which faults end them, over words and over the sequential object, and devices that fail;
+//! what the lines of step scripts tell, line by line; and step scripts in which a rank is declared failed after each step in turn.
 #![tactic(auto)]
 
 #[cfg(test)]
 mod devices;
 #[cfg(test)]
+mod failing_positions;
+#[cfg(test)]
+mod failing_scripts;
+#[cfg(test)]
+mod judged;
+#[cfg(test)]
 mod scripts;
+#[cfg(test)]
+mod step_lines;

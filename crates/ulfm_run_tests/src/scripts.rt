@@ -4,7 +4,7 @@ ghost use Rattle.std.specs.Prelude.{◌<◌};
 use linked_list_allocator::LocalHeap;
 use std::io::{self, Write};
 use std::test::Fail;
-use ulfm_compare::run_over_object;
+use ulfm_object::run_over_object;
 use ulfm_run::{WordsMachine, run_calls};
 use ulfm_script::{Input, LineKind, RunFault, run_script_through};
 

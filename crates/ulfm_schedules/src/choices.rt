@@ -3,8 +3,8 @@ use crate::engine::{Engine, Turn};
 use crate::few::{Few, has_bit};
 use crate::rounds::failed_members;
 use crate::state::{Open, Phase, State, is_of_wing};
+use crate::{Ask, Fate, May};
 use std::alloc::{AllocError, Allocator};
-use ulfm_programs::{Ask, Fate, May};
 
 /// Who makes a step, or is declared.
 #[derive(Clone, Copy, Debug, PartialEq, Eq)]

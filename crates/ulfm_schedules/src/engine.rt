@@ -5,10 +5,10 @@ use crate::rounds::{
     Offer, Word, barrier_order, blocks_of, failed_members, member_of, silent, together,
 };
 use crate::state::{Comm, Open, Phase, Seat, State, fresh};
+use crate::{Ask, Fate, May, Move, Op, Place, Program, most_moves, move_at};
 use std::alloc::{AllocError, Allocator};
 use ulfm_laws::FlagAnd;
 use ulfm_model::{Call, Refusal, Reply};
-use ulfm_programs::{Ask, Fate, May, Move, Op, Place, Program, most_moves, move_at};
 
 /// A rank's call under way.
 #[derive(Clone, Copy)]

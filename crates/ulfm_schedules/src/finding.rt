@@ -1,12 +1,12 @@
 //! The search: state by state, breadth first, until no new one is found.
 ghost use Rattle.std.specs.Prelude.{◌≡◌, ◌≤◌, IfOk, true};
 
+use crate::Fate;
 use crate::choices::{Act, can_act, is_settled, take_act};
 use crate::engine::Engine;
 use crate::state::State;
 use crate::table::Table;
 use std::alloc::{AllocError, Allocator};
-use ulfm_programs::Fate;
 
 /// What a rank's part of an outcome is: its fate, and the number of its notes.
 #[derive(Clone, Copy, Debug, PartialEq, Eq)]

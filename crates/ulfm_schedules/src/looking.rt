@@ -1,11 +1,11 @@
 //! What a call does once its look has ended.
+use crate::Ask;
 use crate::answers::{Answer, plain, refused};
 use crate::engine::{Next, Turn};
 use crate::rounds::failed_members;
 use crate::state::{Open, Phase, Seat, State};
 use std::alloc::Allocator;
 use ulfm_model::{Refusal, Reply};
-use ulfm_programs::Ask;
 
 /// Where the look has ended, the call is answered, or stands before its next step.
 pub(crate) fn after_look<A: Allocator + Copy + Drop>(

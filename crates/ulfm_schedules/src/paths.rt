@@ -5,9 +5,8 @@ use crate::finding::{Found, Part, parts_of};
 use crate::state::{Phase, State};
 use std::alloc::{AllocError, Allocator};
 use ulfm_laws::FlagAnd;
-use ulfm_model::Call;
 use ulfm_model::step_name::StepName;
-use ulfm_trace_model::StepLine;
+use ulfm_model::{Call, StepLine};
 
 /// The outside, as the caller of a declaration.
 pub(crate) const OUTSIDE: u8 = 255;

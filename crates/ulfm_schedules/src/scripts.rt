@@ -2,9 +2,8 @@
 use std::alloc::{AllocError, Allocator};
 use ulfm_laws::FlagAnd;
 use ulfm_lines::step_word;
-use ulfm_model::Limits;
+use ulfm_model::{Limits, StepLine};
 use ulfm_script::{HeaderKind, print_header, print_number, print_spelled_call};
-use ulfm_trace_model::StepLine;
 
 /// A word, and the number of a rank.
 fn print_rank<A: Allocator>(

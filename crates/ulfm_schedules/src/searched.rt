@@ -8,8 +8,8 @@ use crate::finding::{Found, Part, find_all};
 use crate::paths::{path_to, take_path};
 use crate::scripts::script_text;
 use crate::shorten::shortest;
+use crate::{Program, Row};
 use std::alloc::{AllocError, Allocator};
-use ulfm_programs::{Program, Row};
 
 /// A script that is to show an outcome, and the outcome that it is to show.
 #[derive(Drop)]

@@ -1,9 +1,9 @@
 //! A state: the shared words, and of each rank its place in the program and how far its call has come. Millions are kept, so it is a row of bytes.
+use crate::Fate;
 use crate::few::{Few, has_bit, with_bit};
 use crate::layout::Layout;
 use std::alloc::{AllocError, Allocator};
 use ulfm_model::Limits;
-use ulfm_programs::Fate;
 
 /// How far a rank's call has come: the step that is next.
 #[derive(Clone, Copy, Debug, PartialEq, Eq)]

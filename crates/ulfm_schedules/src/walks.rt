@@ -1,5 +1,6 @@
 //! Walks for the tests: acts drawn at random, each atomic step an act and a line of a script of its own, so that the model and the step engine go
 //! along step by step.
+use crate::Program;
 use crate::choices::{Act, act_of, can_act};
 use crate::engine::Engine;
 use crate::finding::parts_of;
@@ -9,8 +10,7 @@ use crate::searched::{Script, rows_of};
 use crate::state::{Phase, State};
 use std::alloc::{AllocError, Allocator};
 use ulfm_laws::FlagAnd;
-use ulfm_programs::Program;
-use ulfm_trace_model::StepLine;
+use ulfm_model::StepLine;
 
 /// The next number that is drawn.
 fn draw(seed: u64) -> u64 {

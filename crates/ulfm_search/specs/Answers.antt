@@ -2,7 +2,7 @@
 use Rattle.std.specs.Prelude.{◌≡◌, ◌++◌, ℕ, ⊤, Bool, true, List, codes, if◌then◌else◌}
 use Rattle.ulfm_observed.specs.declared.log.Log.{Log}
 use Rattle.ulfm_observed.specs.{Explains.{Explains}, LogTexts.{log_text}}
-use Rattle.ulfm_refuted.specs.Refuted.{IsRefuted}
+use Rattle.ulfm_observed.specs.Refuted.{IsRefuted}
 use Rattle.ulfm_search.specs.declared.answer.Answer.{Answer}
 use Rattle.ulfm_search.specs.declared.answer.Answer.TheVariants.{Explained, Nothing, Unknown}
 

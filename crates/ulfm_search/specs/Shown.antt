@@ -6,7 +6,7 @@ use Rattle.ulfm_script.specs.{Ends.{IsTextOf, KnownText}, Headers.{header_text}}
 use Rattle.ulfm_lines.specs.LineTexts.{lines_text}
 use Rattle.ulfm_observed.specs.declared.{log.Log.{Log}, step.Step.{Step}}
 use Rattle.ulfm_observed.specs.{Explains.{Explains}, LogTexts.{log_text}, Stages.{shown_of}}
-use Rattle.ulfm_refuted.specs.Refuted.{IsRefuted}
+use Rattle.ulfm_observed.specs.Refuted.{IsRefuted}
 use Rattle.ulfm_search.specs.Answers.{IsNothing}
 use Rattle.ulfm_search.specs.declared.observing.Shown.{Shown}
 

@@ -2,7 +2,7 @@
 ghost use Rattle.std.specs.Prelude.{◌≡◌, IfOk, IsTrue};
 ghost use Rattle.ulfm_observed.specs.LogTexts.{log_text};
 ghost use Rattle.ulfm_model.specs.Words.{MayOpen};
-ghost use Rattle.ulfm_refuted.specs.Refuted.{IsRefuted};
+ghost use Rattle.ulfm_observed.specs.Refuted.{IsRefuted};
 ghost use Rattle.ulfm_search.specs.Answers.{Answers, AnswersLog, SaysNothing, rests_on};
 
 use crate::certain::{Hint, hint_of};
@@ -16,8 +16,7 @@ use crate::telling::say_lines;
 use crate::why::Why;
 use std::alloc::{AllocError, Allocator};
 use ulfm_model::Limits;
-use ulfm_observed::{Log, LogLine, Step, confirm, print_log};
-use ulfm_refuted::refutes;
+use ulfm_observed::{Log, LogLine, Step, confirm, print_log, refutes};
 use ulfm_script::{LastGroup, LineKind, RunFault};
 
 /// How much a search may cost, in nodes: some seconds.

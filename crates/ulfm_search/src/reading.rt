@@ -1,11 +1,10 @@
 //! The text of a log, read. Nothing of it is trusted: what was read is printed and compared with the text.
 use std::alloc::{AllocError, Allocator};
 use ulfm_lines::read_line;
-use ulfm_model::{Limits, Reply};
+use ulfm_model::{Limits, Line, Reply};
 use ulfm_observed::{Failures, Item, Log, LogLine, Order, Seen};
 use ulfm_script::words::{LAST_RANK, next_word, read_number, read_number_to, split_word};
 use ulfm_script::{LineKind, RunFault, is_padded, read_call};
-use ulfm_trace_model::Line;
 
 /// The most bytes of a line, without its newline.
 const LONGEST: usize = 8192;

@@ -9,9 +9,8 @@ use ulfm_laws::counts::{Acked, Known};
 use ulfm_laws::{CtxMask, FlagAnd};
 use ulfm_model::contribution::{Contribution, MarkCount, Offer};
 use ulfm_model::event::{Caller, Event};
-use ulfm_model::{Call, Refusal, Reply};
+use ulfm_model::{Call, Line, Refusal, Reply};
 use ulfm_observed::{Item, LogLine, Seen, Step};
-use ulfm_trace_model::Line;
 
 /// What is written of a trace.
 #[derive(Drop)]

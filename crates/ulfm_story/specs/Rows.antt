@@ -3,7 +3,7 @@ use Rattle.std.specs.Prelude.{◌≡◌, ℕ, ◌+◌, min, Option, Some, None}
 use Rattle.ulfm_laws.specs.declared.flag_and.FlagAnd.{FlagAnd}
 use Rattle.ulfm_model.specs.Answers.{traits_of}
 use Rattle.ulfm_model.specs.declared.event.{Caller.{Caller}, Event.{Event}}
-use Rattle.ulfm_trace_model.specs.declared.line.Line.{Line}
+use Rattle.ulfm_model.specs.declared.line.Line.{Line}
 use Rattle.ulfm_story.specs.declared.rows.Row.{Row}
 
 -- the lane of a rank: that of rank 0 is 1

@@ -4,7 +4,7 @@ use Rattle.std.specs.{List.{cons_option}, Option.{option_map}}
 use Rattle.ulfm_laws.specs.{Flags.{flag_meld}, declared.flag_and.FlagAnd.{FlagAnd}}
 use Rattle.ulfm_model.specs.History.{History, decision, is_decided, says}
 use Rattle.ulfm_model.specs.declared.{contribution.Slot.{Slot}, event.Entry.{Entry}}
-use Rattle.ulfm_trace_model.specs.declared.line.Line.{Line}
+use Rattle.ulfm_model.specs.declared.line.Line.{Line}
 use Rattle.ulfm_story.specs.declared.rows.{Note.{Note}, Row.{Row}}
 use Rattle.ulfm_story.specs.Decisions.{decided_text}
 

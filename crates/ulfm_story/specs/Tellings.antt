@@ -4,7 +4,7 @@ use Rattle.ulfm_laws.specs.declared.flag_and.FlagAnd.{FlagAnd}
 use Rattle.ulfm_model.specs.declared.limits.Limits.{Limits}
 use Rattle.ulfm_script.specs.Buffers.{HasNoNewline}
 use Rattle.ulfm_lines.specs.Telling.{TextTells}
-use Rattle.ulfm_trace_model.specs.declared.line.Line.{Line}
+use Rattle.ulfm_model.specs.declared.line.Line.{Line}
 use Rattle.ulfm_story.specs.declared.{rows.Row.{Row}, telling.Telling.{Telling}}
 use Rattle.ulfm_story.specs.{Rounds.{TellRounds}, Rows.{IsRow}, Stories.{TellDecisions, events_of}}
 

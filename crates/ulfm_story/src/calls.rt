@@ -1,7 +1,7 @@
 //! What is kept of calls, lanes and arrivals while the lines of a trace are told.
 ghost use Rattle.std.specs.Prelude.{◌≡◌, IfOk, None, Some};
 ghost use Rattle.ulfm_story.specs.Rows.{IsRow};
-ghost use Rattle.ulfm_trace_model.specs.declared.line.Line.{Line};
+ghost use Rattle.ulfm_model.specs.declared.line.Line.{Line};
 
 use crate::bars::{Bar, Tone, is_of_round, tone_of};
 use crate::rows::{OUTSIDE, Row, caller_of, lane_of, lane_of_rank, round_of, short, target_of};
@@ -9,10 +9,10 @@ use std::alloc::{AllocError, Allocator};
 use std::collections::HashMap;
 use std::hash::{BuildHasherDefault, FoldHasher};
 use ulfm_laws::FlagAnd;
+use ulfm_model::Line;
 use ulfm_model::call::{Call, comm_of, rank_of};
 use ulfm_model::event::{Caller, Event};
 use ulfm_model::reply::Reply;
-use ulfm_trace_model::Line;
 
 /// A number for each pair of numbers.
 type Table<A> = HashMap<(u16, u16), u16, BuildHasherDefault<FoldHasher>, A>;

@@ -5,9 +5,9 @@ ghost use Rattle.ulfm_story.specs.Rows.{caller_lane, event_target, rank_lane};
 
 use std::alloc::Allocator;
 use ulfm_laws::FlagAnd;
+use ulfm_model::Line;
 use ulfm_model::call::{Call, rank_of};
 use ulfm_model::event::{Caller, Event};
-use ulfm_trace_model::Line;
 
 /// The lane of the outside. That of a rank is its number and one more.
 pub const OUTSIDE: u16 = 0;

@@ -14,9 +14,9 @@ use crate::rounds::{Rounds, place_settled};
 use crate::rows::{Note, Row, lane_of_rank, short};
 use std::alloc::{AllocError, Allocator};
 use ulfm_laws::FlagAnd;
+use ulfm_model::Line;
 use ulfm_model::event::{Entry, Event};
 use ulfm_model::limits::Limits;
-use ulfm_trace_model::Line;
 
 /// What is told of a trace so far.
 #[derive(Drop)]

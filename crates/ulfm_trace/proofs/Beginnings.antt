@@ -5,9 +5,9 @@ use Rattle.std.proofs.Math.Seq.{take-append_seam}
 use Rattle.ulfm_laws.specs.{Flags.{flag_meld}}
 use Rattle.ulfm_model.specs.declared.limits.Limits.{Limits}
 use Rattle.ulfm_script.specs.Scripts.{lines_from, rest_from}
-use Rattle.ulfm_trace_model.specs.declared.line.{Why.{Why}, Why.TheVariants.{Text}}
-use Rattle.ulfm_trace_model.specs.Traces.{IsLegalTrace, nothing, said_by}
-use Rattle.ulfm_trace_model.proofs.Parts.{legal_parts}
+use Rattle.ulfm_model.specs.declared.line.{Why.{Why}, Why.TheVariants.{Text}}
+use Rattle.ulfm_model.specs.Traces.{IsLegalTrace, nothing, said_by}
+use Rattle.ulfm_model.proofs.Parts.{legal_parts}
 use Rattle.ulfm_trace.specs.Texts.{AreTold, BreaksOff, IsBadNext, IsFirstBad, IsLegalText, LacksHeader, Tell, TraceLines, first_lines}
 use Rattle.ulfm_trace.specs.Laws.{TextsHaveOneVerdict}
 use Rattle.ulfm_trace.proofs.Verdicts.{has_header, legal_stays, never_text, one_verdict, some_bad}

@@ -11,9 +11,9 @@ use Rattle.ulfm_script.specs.declared.line_kind.LineKind.{LineKind}
 use Rattle.ulfm_script.specs.{Buffers.{HasNoNewline, IsOfLine}, Headers.{header_text}, Ends.{Claim, IsTextOf, KnownText, TakesUpTo}, Scripts.{lines_from, rest_from}}
 use Rattle.ulfm_script.proofs.{ByteLemmas.{consumes_keeps, consumes_start, consumes_then, end_behind, taken_of_reader}, RunLemmas.{takes_first, whole_text}}
 use Rattle.ulfm_lines.specs.{LineTexts.{TraceLine}, Stepped.{TraceState}, Telling.{TextTells}}
-use Rattle.ulfm_trace_model.specs.declared.line.{Why.{Why}, Why.TheVariants.{Text}}
-use Rattle.ulfm_trace_model.specs.Traces.{IsLegalTrace, Takes, Told, nothing, said_by}
-use Rattle.ulfm_trace_model.proofs.Parts.{legal_append, said_append}
+use Rattle.ulfm_model.specs.declared.line.{Why.{Why}, Why.TheVariants.{Text}}
+use Rattle.ulfm_model.specs.Traces.{IsLegalTrace, Takes, Told, nothing, said_by}
+use Rattle.ulfm_model.proofs.Parts.{legal_append, said_append}
 use Rattle.ulfm_trace.specs.declared.verdict.{CheckFault.{CheckFault}, CheckFault.TheVariants.{Memory, Read}, Verdict.TheVariants.{Legal, Illegal}}
 use Rattle.ulfm_trace.specs.Texts.{AreTold, BreaksOff, IsBadLine, IsBadNext, IsHeader, IsLegalText, IsLine, LacksHeader, Tell, TellsTold, TraceLines}
 use Rattle.ulfm_trace.specs.Checks.{Checks, CheckEnd, ChecksThrough, IsJudgeOpened, JudgesLine, OpensJudge, StopsInTrace, TakesText}

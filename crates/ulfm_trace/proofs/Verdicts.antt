@@ -7,9 +7,9 @@ use Rattle.ulfm_script.specs.{Headers.{header_of}, Scripts.{lines_from, rest_fro
 use Rattle.ulfm_script.proofs.HeaderLemmas.{header_again}
 use Rattle.ulfm_lines.specs.{LineTexts.{TraceLine}, Stepped.{TraceState}}
 use Rattle.ulfm_lines.proofs.ReadLemmas.{one_line}
-use Rattle.ulfm_trace_model.specs.declared.line.{Line.TheVariants.{Called, Looked, Happened, Replied}, Why.{Why}, Why.TheVariants.{Text}}
-use Rattle.ulfm_trace_model.specs.Traces.{AreLegalAfter, IsBad, MayCome, Told, after, nothing, said_by}
-use Rattle.ulfm_trace_model.proofs.Reasons.{one_reason}
+use Rattle.ulfm_model.specs.declared.line.{Line.TheVariants.{Called, Looked, Happened, Replied}, Why.{Why}, Why.TheVariants.{Text}}
+use Rattle.ulfm_model.specs.Traces.{AreLegalAfter, IsBad, MayCome, Told, after, nothing, said_by}
+use Rattle.ulfm_model.proofs.Reasons.{one_reason}
 use Rattle.ulfm_trace.specs.Texts.{AreTold, BreaksOff, IsBadLine, IsBadNext, IsFirstBad, IsHeader, IsLine, LacksHeader, Tell, TellsTold, TraceLines}
 
 -- what a line of the grammar tells is never bad for its text

@@ -7,8 +7,8 @@ use Rattle.ulfm_script.specs.declared.fault.RunFault.TheVariants as fault
 use Rattle.ulfm_script.specs.declared.buffers.LineEnd.{LineEnd}
 use Rattle.ulfm_script.specs.{Buffers.{HasNoNewline, IsOfLine, TakesLine}, Ends.{Claim, IsTextOf, KnownText, TakesUpTo}, Scripts.{lines_from}}
 use Rattle.ulfm_lines.specs.Stepped.{TraceState}
-use Rattle.ulfm_trace_model.specs.declared.line.Why.{Why}
-use Rattle.ulfm_trace_model.specs.Traces.{MayCome, Told, after, nothing}
+use Rattle.ulfm_model.specs.declared.line.Why.{Why}
+use Rattle.ulfm_model.specs.Traces.{MayCome, Told, after, nothing}
 use Rattle.ulfm_trace.specs.declared.verdict.{CheckFault.{CheckFault}, CheckFault.TheVariants.{Memory, Read}}
 use Rattle.ulfm_trace.specs.declared.verdict.{Verdict.{Verdict}, Verdict.TheVariants.{Legal, Illegal}}
 use Rattle.ulfm_trace.specs.Texts.{IsBadLine, IsFirstBad, IsHeader, IsLegalText, IsLine, LacksHeader}

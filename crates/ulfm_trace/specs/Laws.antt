@@ -2,8 +2,8 @@
 use Rattle.std.specs.Prelude.{◌≡◌, ◌⊎◌, ℕ, ◌-◌, ◌<◌, List}
 use Rattle.ulfm_laws.specs.{Flags.{flag_meld}}
 use Rattle.ulfm_lines.specs.{LineTexts.{TraceLine}, Stepped.{TraceState}}
-use Rattle.ulfm_trace_model.specs.declared.line.{Why.{Why}, Why.TheVariants.{Text}}
-use Rattle.ulfm_trace_model.specs.Traces.{IsBad}
+use Rattle.ulfm_model.specs.declared.line.{Why.{Why}, Why.TheVariants.{Text}}
+use Rattle.ulfm_model.specs.Traces.{IsBad}
 use Rattle.ulfm_trace.specs.Texts.{IsFirstBad, IsLegalText, first_lines}
 
 -- A legal text is bad at no line, one that isn't legal isn't without such a line, and none is bad at two lines or for two reasons. The lines before

@@ -5,8 +5,8 @@ use Rattle.ulfm_model.specs.{Words.{MayOpen}, declared.limits.Limits.{Limits}}
 use Rattle.ulfm_script.specs.declared.header_kind.HeaderKind.TheVariants.{Trace}
 use Rattle.ulfm_script.specs.{Headers.{header_text}, Scripts.{lines_from, rest_from}}
 use Rattle.ulfm_lines.specs.{Stepped.{TraceState}, Telling.{TextTells}}
-use Rattle.ulfm_trace_model.specs.declared.line.{Why.{Why}, Why.TheVariants.{Text}}
-use Rattle.ulfm_trace_model.specs.Traces.{IsBad, IsLegalTrace, Told, nothing, said_by}
+use Rattle.ulfm_model.specs.declared.line.{Why.{Why}, Why.TheVariants.{Text}}
+use Rattle.ulfm_model.specs.Traces.{IsBad, IsLegalTrace, Told, nothing, said_by}
 
 -- the lines of a trace, typed
 abbrev pub TraceLines : Type 0

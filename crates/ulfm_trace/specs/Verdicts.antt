@@ -1,7 +1,7 @@
 -- The line that a verdict is printed as.
 use Rattle.std.specs.Prelude.{ℕ, List, [], ◌∷◌, ◌++◌, codes}
 use Rattle.std.specs.Fmt.{decimal}
-use Rattle.ulfm_trace_model.specs.declared.line.{Why.{Why}, Why.TheVariants.{Text, Call, Look, Event, Own, Reply}}
+use Rattle.ulfm_model.specs.declared.line.{Why.{Why}, Why.TheVariants.{Text, Call, Look, Event, Own, Reply}}
 use Rattle.ulfm_trace.specs.declared.verdict.{Verdict.{Verdict}, Verdict.TheVariants.{Legal, Illegal}}
 
 -- the word of a reason

@@ -9,8 +9,7 @@ use std::alloc::{AllocError, Allocator};
 use std::io::Read;
 use ulfm_judge::Judge;
 use ulfm_laws::FlagAnd;
-use ulfm_model::Limits;
-use ulfm_trace_model::{Line, Why};
+use ulfm_model::{Limits, Line, Why};
 
 impl<A: Allocator + Copy + Drop> LineJudge<A> for Judge<FlagAnd, A> {
     ghost Stands = { λ judge now. JudgeStands judge now };

@@ -9,8 +9,8 @@ use crate::verdict::{CheckFault, Verdict};
 use std::alloc::{AllocError, Allocator};
 use std::io::Read;
 use ulfm_lines::read_line;
+use ulfm_model::Why;
 use ulfm_script::{HeaderKind, Input, LineEnd, RunFault, read_header};
-use ulfm_trace_model::Why;
 
 /// The most bytes that a line may have, without its newline.
 const LONGEST: usize = 8192;

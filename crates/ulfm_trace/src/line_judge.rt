@@ -2,12 +2,11 @@
 ghost use Rattle.std.specs.Prelude.{IfOk};
 ghost use Rattle.ulfm_laws.specs.{declared.flag_and.FlagAnd.{FlagAnd}, Flags.{flag_meld}};
 ghost use Rattle.ulfm_model.specs.Words.{MayOpen};
-ghost use Rattle.ulfm_trace_model.specs.Traces.{Takes, Traced, nothing};
+ghost use Rattle.ulfm_model.specs.Traces.{Takes, Traced, nothing};
 
 use std::alloc::{AllocError, Allocator};
 use ulfm_laws::FlagAnd;
-use ulfm_model::Limits;
-use ulfm_trace_model::{Line, Why};
+use ulfm_model::{Limits, Line, Why};
 
 /// Whatever judges the lines of a trace, one after another.
 pub trait LineJudge<A: Allocator>: Drop {

@@ -4,8 +4,8 @@ ghost use Rattle.ulfm_trace.specs.Verdicts.{verdict_text, why_text};
 
 use crate::verdict::Verdict;
 use std::alloc::{AllocError, Allocator};
+use ulfm_model::Why;
 use ulfm_script::print_point;
-use ulfm_trace_model::Why;
 
 /// The line of a verdict, with its newline: `legal`, or `illegal line N WHY`, where N is the line's number, counted from 1, and WHY is
 /// `text`, `call`, `look`, `event`, `own` or `reply`. Only memory can be refused.

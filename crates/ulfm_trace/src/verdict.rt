@@ -4,7 +4,7 @@ ghost use Rattle.ulfm_trace.specs.declared.verdict.CheckFault.TheVariants.{Memor
 
 use std::alloc::AllocError;
 use thiserror::Error;
-use ulfm_trace_model::Why;
+use ulfm_model::Why;
 
 /// What was found of a trace's text.
 #[derive(Clone, Copy, Debug, PartialEq, Eq)]

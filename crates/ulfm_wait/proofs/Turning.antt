@@ -11,9 +11,9 @@ use Rattle.ulfm_words.specs.Steps.{Sight, over}
 use Rattle.ulfm_comm.specs.{Counts.{Ranked}, Polls.{IsNotPending}}
 use Rattle.ulfm_comm.specs.declared.calls.polled.{Polled.{Polled}, Polled.TheVariants.{Pending as StillPending}}
 use Rattle.ulfm_comm.proofs.CallRuns.{called_run}
-use Rattle.ulfm_member.specs.Members.{IsMember, MemberCalls, MemberPolls, Membership, setting_of}
-use Rattle.ulfm_rounds.specs.Rounds.{Gave}
-use Rattle.ulfm_rounds.proofs.{Staying.{gave_lasts}, Telling.{agree_opened, find_change, pending_holds}}
+use Rattle.ulfm_wait.specs.Members.{IsMember, MemberCalls, MemberPolls, Membership, setting_of}
+use Rattle.ulfm_model.specs.Rounds.{Gave}
+use Rattle.ulfm_model.proofs.{Staying.{gave_lasts}, Telling.{agree_opened, find_change, pending_holds}}
 use Rattle.ulfm_wait.specs.{Turns.{AgreeGives, AgreeState, Agreeing, BeginsAgree, FutureEnds, FutureGives, HasOpenAgree, HasPolled, FutureHolds, MemberPends, Pends, PendsTimes, StartsAndPolls, TakesAgreeTurn, member_of}, Waits.{MemberPollsOn}}
 use Rattle.ulfm_wait.proofs.Waiting.{goes_on, is_answer, member_answered, member_pends, member_refused, member_waits, poll_member, same_words, started_on}
 

@@ -12,9 +12,9 @@ use Rattle.ulfm_comm.specs.{Calls.{Calls}, Polls.{IsNotPending, PollIs, polled}}
 use Rattle.ulfm_comm.specs.declared.calls.polled.{Polled.{Polled}, Polled.TheVariants.{Agreed, Done, Pending as StillPending, Shrunk}}
 use Rattle.ulfm_comm.proofs.CallRuns.{called_run}
 use Rattle.ulfm_comm.specs.Local.{local}
-use Rattle.ulfm_member.specs.Members.{IsMember, MemberCalls, MemberPolls, Membership, setting_of}
-use Rattle.ulfm_rounds.specs.{Rounds.{IsMadeOf}, Told.{IsFinalReply}}
-use Rattle.ulfm_rounds.proofs.{Answered.{answered_on}, Staying.{gave_lasts}, Telling.{agree_opened, agree_tells, find_change, pending_holds, shrink_opened, shrink_tells}}
+use Rattle.ulfm_wait.specs.Members.{IsMember, MemberCalls, MemberPolls, Membership, setting_of}
+use Rattle.ulfm_model.specs.{Rounds.{IsMadeOf}, Told.{IsFinalReply}}
+use Rattle.ulfm_model.proofs.{RoundAnswers.{answered_on}, Staying.{gave_lasts}, Telling.{agree_opened, agree_tells, find_change, pending_holds, shrink_opened, shrink_tells}}
 use Rattle.ulfm_wait.specs.Waits.{IsPolledOn, MemberAwaits, MemberPollsOn, MemberPollsUntil, MemberRuns, MemberWaits, PollsUntil, TellsAgree, TellsShrink}
 
 -- an answer ends its request

@@ -5,8 +5,8 @@ use Rattle.ulfm_model.specs.Records.{Held, held_at}
 use Rattle.ulfm_words.specs.Steps.{Name, Sight}
 use Rattle.ulfm_comm.specs.{Counts.{Ranked}, Polls.{IsNotPending}}
 use Rattle.ulfm_comm.specs.declared.calls.polled.Polled.{Polled}
-use Rattle.ulfm_member.specs.Members.{IsMember, MemberCalls, MemberPolls, Membership, viewing, Setting}
-use Rattle.ulfm_rounds.specs.Rounds.{Gave}
+use Rattle.ulfm_wait.specs.Members.{IsMember, MemberCalls, MemberPolls, Membership, viewing, Setting}
+use Rattle.ulfm_model.specs.Rounds.{Gave}
 use Rattle.ulfm_wait.specs.Waits.{MemberPollsOn, MemberWaits}
 
 -- an agree: on which communicator, on which flag, and whether it has started

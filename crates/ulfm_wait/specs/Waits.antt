@@ -6,8 +6,8 @@ use Rattle.ulfm_words.specs.Steps.{view_at, Sight, View}
 use Rattle.ulfm_comm.specs.{Calls.{Calls}, Polls.{IsNotPending, PollIs, polled}}
 use Rattle.ulfm_comm.specs.declared.calls.polled.Polled.{Polled}
 use Rattle.ulfm_comm.specs.Local.{Local, local}
-use Rattle.ulfm_member.specs.Members.{IsMember, MemberCalls, MemberPolls, Membership, Setting}
-use Rattle.ulfm_rounds.specs.Rounds.{Gave, IsDecision, IsMadeOf}
+use Rattle.ulfm_wait.specs.Members.{IsMember, MemberCalls, MemberPolls, Membership, Setting}
+use Rattle.ulfm_model.specs.Rounds.{Gave, IsDecision, IsMadeOf}
 
 -- polls of communicator c by a rank, from what it goes by: so many are pending, and then one is answered
 abbrev pub PollsUntil : {P : Type 0} → (P → P → P) → Bool → ℕ → ℕ → Local P → Result (Polled P) Refusal → Local P → Type 0

@@ -1,15 +1,15 @@
 // Calls that start a request and poll until it is answered.
 ghost use Rattle.std.specs.Prelude.{IfOk};
-ghost use Rattle.ulfm_member.specs.Members.{setting_of};
+ghost use Rattle.ulfm_wait.specs.Members.{setting_of};
 ghost use Rattle.ulfm_model.specs.declared.call.Call.TheVariants.{Agree, Shrink, Barrier};
 ghost use Rattle.ulfm_wait.specs.Waits.{MemberPollsOn, MemberWaits, TellsAgree, TellsShrink};
 
+use crate::Member;
 use std::alloc::Allocator;
 use std::sync::Wait;
 use std::thread;
 use ulfm_comm::Polled;
 use ulfm_laws::meld::Packed;
-use ulfm_member::Member;
 use ulfm_model::refusal::Refusal;
 use ulfm_words::Words;
 

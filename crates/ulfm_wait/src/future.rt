@@ -1,6 +1,6 @@
 // An agree as a future.
 ghost use Rattle.std.specs.Prelude.{◌≡◌, true, false, IfOk, None, Some, Ok};
-ghost use Rattle.ulfm_member.specs.Members.{setting_of};
+ghost use Rattle.ulfm_wait.specs.Members.{setting_of};
 ghost use Rattle.futures.specs.Task.{Covers, Keeps};
 ghost use Rattle.futures.specs.Poll.{IfReady, OnPending};
 ghost use Rattle.ulfm_model.specs.declared.call.Call.TheVariants.{Agree};

@@ -11,9 +11,8 @@ use std::test::Fail;
 use ulfm_book::BookWords;
 use ulfm_comm::Polled;
 use ulfm_laws::FlagAnd;
-use ulfm_member::Member;
 use ulfm_model::Limits;
-use ulfm_wait::AgreeFuture;
+use ulfm_wait::{AgreeFuture, Member};
 use ulfm_words::{PlainWords, Words};
 
 /// The limits of a world of so many ranks.
@@ -53,7 +52,7 @@ where
 #[test]
 fn future_agrees(rt: HostRuntime) -> Result<(), Fail> {
     let words: BookWords<FlagAnd> = BookWords::open(rt.alloc(), limits(1))?;
-    let (_, members) = ulfm_member::open(rt.alloc(), words)?;
+    let (_, members) = ulfm_wait::open(rt.alloc(), words)?;
     for member in members {
         agree_alone(&rt, member)?;
     }
@@ -63,7 +62,7 @@ fn future_agrees(rt: HostRuntime) -> Result<(), Fail> {
 #[test]
 fn future_agrees_over_plain_words(rt: HostRuntime) -> Result<(), Fail> {
     let words: PlainWords<FlagAnd> = PlainWords::open(limits(1))?;
-    let (_, members) = ulfm_member::open(rt.alloc(), words)?;
+    let (_, members) = ulfm_wait::open(rt.alloc(), words)?;
     for member in members {
         agree_alone(&rt, member)?;
     }
@@ -90,7 +89,7 @@ fn agree_in_turn<R: Wait + RandomSource + AllocGlobal + Abort>(
 #[test]
 fn futures_wake(rt: HostRuntime) -> Result<(), Fail> {
     let words: BookWords<FlagAnd> = BookWords::open(rt.alloc(), limits(2))?;
-    let (_, mut members) = ulfm_member::open(rt.alloc(), words)?;
+    let (_, mut members) = ulfm_wait::open(rt.alloc(), words)?;
     let (Some(other), Some(one)) = (members.pop(), members.pop()) else {
         return Ok(());
     };
@@ -131,7 +130,7 @@ fn contribute_at_once<R: Wait + RandomSource + AllocGlobal + Abort>(
 #[test]
 fn future_contributes_at_once(rt: HostRuntime) -> Result<(), Fail> {
     let words: BookWords<FlagAnd> = BookWords::open(rt.alloc(), limits(2))?;
-    let (_, mut members) = ulfm_member::open(rt.alloc(), words)?;
+    let (_, mut members) = ulfm_wait::open(rt.alloc(), words)?;
     let (Some(other), Some(one)) = (members.pop(), members.pop()) else {
         return Ok(());
     };
@@ -141,7 +140,7 @@ fn future_contributes_at_once(rt: HostRuntime) -> Result<(), Fail> {
 #[test]
 fn future_pends_twice(rt: HostRuntime) -> Result<(), Fail> {
     let words: BookWords<FlagAnd> = BookWords::open(rt.alloc(), limits(2))?;
-    let (_, mut members) = ulfm_member::open(rt.alloc(), words)?;
+    let (_, mut members) = ulfm_wait::open(rt.alloc(), words)?;
     if let Some(member) = members.pop() {
         let (world, rank, pass) = member.into_parts();
         let mut future = AgreeFuture::new(&world, pass, rank, 0, FlagAnd { bits: 0xff });
@@ -172,7 +171,7 @@ fn agree_after_drop<R: Wait + RandomSource + AllocGlobal>(
 fn future_is_dropped(rt: HostRuntime) -> Result<(), Fail> {
     for is_polled in [false, true] {
         let words: BookWords<FlagAnd> = BookWords::open(rt.alloc(), limits(2))?;
-        let (_, mut members) = ulfm_member::open(rt.alloc(), words)?;
+        let (_, mut members) = ulfm_wait::open(rt.alloc(), words)?;
         let (Some(other), Some(one)) = (members.pop(), members.pop()) else {
             return Ok(());
         };

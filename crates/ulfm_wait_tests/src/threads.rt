@@ -9,7 +9,7 @@ use ulfm_laws::FlagAnd;
 use ulfm_model::{Limits, OpenFault, Refusal};
 use ulfm_wait::{agree, barrier, shrink};
 
-type Member = ulfm_member::Member<BookWords<FlagAnd>, FlagAnd, Global>;
+type Member = ulfm_wait::Member<BookWords<FlagAnd>, FlagAnd, Global>;
 
 type Reply = Result<Polled<FlagAnd>, Refusal>;
 
@@ -24,7 +24,7 @@ fn four_members(alloc: Global) -> Result<Vec<Member>, OpenFault> {
         rounds: 2,
     };
     let words = BookWords::open(alloc, limits)?;
-    let (_, members) = ulfm_member::open(alloc, words)?;
+    let (_, members) = ulfm_wait::open(alloc, words)?;
     Ok(members)
 }
 

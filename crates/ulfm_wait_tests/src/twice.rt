@@ -2,7 +2,7 @@
 ghost use Rattle.std.specs.Prelude.{◌≡◌, true, false, Some};
 ghost use Rattle.ulfm_laws.specs.Flags.{flag_meld};
 ghost use Rattle.ulfm_laws.specs.declared.flag_and.FlagAnd.{FlagAnd as Flag};
-ghost use Rattle.ulfm_member.specs.Members.{Membership, setting_of};
+ghost use Rattle.ulfm_wait.specs.Members.{Membership, setting_of};
 ghost use Rattle.ulfm_wait.specs.Turns.{HasPolled};
 
 use futures::Future;

@@ -48,6 +48,5 @@ pub use ulfm_book::{BookPass, BookTold, BookWords};
 pub use ulfm_comm::{Polled, Rank, World};
 pub use ulfm_contributions::{FlagOr, Greatest, Least};
 pub use ulfm_laws::{FlagAnd, Meld, Packed};
-pub use ulfm_member::poll_in_turn;
 pub use ulfm_model::{Limits, OpenFault, Refusal};
-pub use ulfm_wait::{AgreeFuture, agree, barrier, shrink};
+pub use ulfm_wait::{AgreeFuture, agree, barrier, poll_in_turn, shrink};

@@ -8,12 +8,12 @@ use ulfm_book::BookWords;
 use ulfm_laws::{FlagAnd, Packed};
 use ulfm_model::{Limits, OpenFault};
 
-/// A rank of a world whose words threads share: all that the rank's thread needs. Its calls are those of `ulfm_member::Member`. It contributes
+/// A rank of a world whose words threads share: all that the rank's thread needs. Its calls are those of `ulfm_wait::Member`. It contributes
 /// flags of 64 bits, and takes memory from the global allocator, unless a program says otherwise.
-pub type Member<P = FlagAnd, A = Global> = ulfm_member::Member<BookWords<P, A>, P, A>;
+pub type Member<P = FlagAnd, A = Global> = ulfm_wait::Member<BookWords<P, A>, P, A>;
 
-/// The outside of such a world: the handle by which a failure detector declares ranks failed. Its calls are those of `ulfm_member::Outside`.
-pub type Outside<P = FlagAnd, A = Global> = ulfm_member::Outside<BookWords<P, A>, P, A>;
+/// The outside of such a world: the handle by which a failure detector declares ranks failed. Its calls are those of `ulfm_wait::Outside`.
+pub type Outside<P = FlagAnd, A = Global> = ulfm_wait::Outside<BookWords<P, A>, P, A>;
 
 /// Opens a world whose words threads share. It gives the world's outside, and a member for each rank, in order. Each has a pass (a local
 /// view) of its own, which has seen nothing; whatever one does, the others' calls see. Nothing has happened in a new world: each rank holds
@@ -37,5 +37,5 @@ pub fn open<P: Packed, A: Allocator + Copy>(
     ensures fault { IfErr result (IsFault limits) }
 {
     let words: BookWords<P, A> = BookWords::open(alloc, limits)?;
-    ulfm_member::open(alloc, words)
+    ulfm_wait::open(alloc, words)
 }

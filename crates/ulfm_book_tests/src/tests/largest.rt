@@ -39,7 +39,7 @@ fn poll_some(rt: &impl Abort, members: &mut [Member<FlagAnd>], ranks: &[u16]) ->
 #[test]
 fn largest_world_agrees(rt: HostRuntime) -> Result<(), Fail> {
     let words: BookWords<FlagAnd> = BookWords::open(rt.alloc(), limits(1024, 2047))?;
-    let opened = ulfm_member::open(rt.alloc(), words)?;
+    let opened = ulfm_wait::open(rt.alloc(), words)?;
     let (mut outside, mut members): (Outside<FlagAnd>, Members) = opened;
     assert_eq!(rt; members.len(), 1024);
     assert_eq!(rt; outside.fail(1023), Ok(true));

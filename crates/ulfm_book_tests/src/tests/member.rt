@@ -8,13 +8,13 @@ use ulfm_laws::{FlagAnd, Packed};
 use ulfm_model::{Limits, OpenFault, Refusal};
 
 /// A member that may go to a thread.
-pub(crate) type Member<P> = ulfm_member::Member<BookWords<P>, P, Global>;
+pub(crate) type Member<P> = ulfm_wait::Member<BookWords<P>, P, Global>;
 
 /// Several of them, whose contributions are flags.
 pub(crate) type Members = Vec<Member<FlagAnd>>;
 
 /// The outside of such a world.
-pub(crate) type Outside<P> = ulfm_member::Outside<BookWords<P>, P, Global>;
+pub(crate) type Outside<P> = ulfm_wait::Outside<BookWords<P>, P, Global>;
 
 /// A new world of four communicators and three rounds: its outside and its members.
 pub(crate) fn open<P: Packed>(
@@ -29,7 +29,7 @@ pub(crate) fn open<P: Packed>(
         rounds: 3,
     };
     let words = BookWords::open(alloc, limits)?;
-    let (outside, members) = ulfm_member::open(alloc, words)?;
+    let (outside, members) = ulfm_wait::open(alloc, words)?;
     Ok((outside, members))
 }
 

@@ -7,14 +7,14 @@ use std::process::Abort;
 use std::test::Fail;
 use ulfm_comm::Polled;
 use ulfm_intruder::Intruder;
-use ulfm_job::Job;
 use ulfm_laws::flag_and::FlagAnd;
-use ulfm_member::Member;
 use ulfm_model::call::Call;
 use ulfm_model::event::{Caller, Entry, Event};
 use ulfm_model::limits::Limits;
 use ulfm_model::refusal::Refusal;
 use ulfm_model::reply::Reply;
+use ulfm_run::Job;
+use ulfm_wait::Member;
 use ulfm_words::{OpenWords, PlainWords};
 
 const FOUR: Limits = Limits {

@@ -8,10 +8,8 @@ use std::process::Abort;
 use std::test::Fail;
 use ulfm_comm::{Polled, World};
 use ulfm_intruder::Intruder;
-use ulfm_job::Job;
 use ulfm_laws::counts::{Acked, Known};
 use ulfm_laws::flag_and::FlagAnd;
-use ulfm_member::Member;
 use ulfm_model::call::Call;
 use ulfm_model::contribution::{Contribution, Offer};
 use ulfm_model::event::{Caller, Entry, Event};
@@ -19,6 +17,8 @@ use ulfm_model::limits::Limits;
 use ulfm_model::place::Place;
 use ulfm_model::refusal::Refusal;
 use ulfm_model::reply::Reply;
+use ulfm_run::Job;
+use ulfm_wait::Member;
 use ulfm_words::{PlainWords, Step};
 
 pub(crate) fn agreed(bits: u64, failed: u16, raised: bool) -> Reply<FlagAnd> {

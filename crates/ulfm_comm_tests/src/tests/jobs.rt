@@ -5,13 +5,13 @@ use std::alloc::{AllocError, Allocator, Global};
 use std::process::Abort;
 use std::test::Fail;
 use ulfm_intruder::Intruder;
-use ulfm_job::Job;
 use ulfm_laws::flag_and::FlagAnd;
 use ulfm_model::call::Call;
 use ulfm_model::event::{Caller, Entry, Event};
 use ulfm_model::limits::{Limits, OpenFault};
 use ulfm_model::place::Place;
 use ulfm_model::reply::Reply;
+use ulfm_run::Job;
 use ulfm_words::{PlainWords, Step, Words};
 
 const FOUR: Limits = Limits {

@@ -5,11 +5,11 @@ use crate::tests::play::{Play, Verb, call_of};
 use std::alloc::Global;
 use std::process::Abort;
 use std::test::Fail;
-use ulfm_job::Job;
 use ulfm_laws::flag_and::FlagAnd;
 use ulfm_model::call::Call;
 use ulfm_model::limits::Limits;
 use ulfm_model::reply::Reply;
+use ulfm_run::Job;
 use ulfm_words::PlainWords;
 
 /// A move, and how many steps the rank's last call has made then.

@@ -6,7 +6,6 @@ use std::alloc::{AllocError, Global};
 use std::process::Abort;
 use std::test::Fail;
 use ulfm_intruder::Intruder;
-use ulfm_job::Job;
 use ulfm_laws::flag_and::FlagAnd;
 use ulfm_model::call::Call;
 use ulfm_model::event::{Caller, Entry, Event};
@@ -17,6 +16,7 @@ use ulfm_model::step_name::StepName::{
     self, Arrival, Arrive, Block, Cache, Comm, List, Mark, Revocation, Revoke, Settle, Slot, Spawn,
     Wing,
 };
+use ulfm_run::Job;
 use ulfm_words::{PlainWords, Words};
 
 type Plain = Play<PlainWords<FlagAnd>, FlagAnd, Global>;

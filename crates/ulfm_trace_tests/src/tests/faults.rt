@@ -6,8 +6,8 @@ use linked_list_allocator::LocalHeap;
 use std::alloc::Global;
 use std::test::Fail;
 use ulfm_devices::Pieces;
+use ulfm_model::Why;
 use ulfm_trace::{CheckFault, Verdict, check_by};
-use ulfm_trace_model::Why;
 
 /// What a text gives that comes in pieces of so many bytes, where a call fails, and how many calls there were.
 fn pieced(

@@ -9,8 +9,7 @@ use crate::tests::past::{
 use std::alloc::{AllocError, Allocator};
 use ulfm_laws::FlagAnd;
 use ulfm_laws::summary::Body;
-use ulfm_model::{Call, Caller, Entry, Event, Limits, Refusal, Reply};
-use ulfm_trace_model::{Line, Why};
+use ulfm_model::{Call, Caller, Entry, Event, Limits, Line, Refusal, Reply, Why};
 
 /// A call under way.
 #[derive(Drop)]

@@ -3,8 +3,8 @@ use crate::tests::rows::illegal;
 use crate::tests::tested::check;
 use crate::tests::traces::text_of;
 use std::test::Fail;
+use ulfm_model::Why;
 use ulfm_trace::Verdict;
-use ulfm_trace_model::Why;
 
 /// The header of the world that the bad traces are of.
 const HEADER: &str = "ulfm-trace 1 2 1 2";

@@ -6,8 +6,8 @@ use crate::tests::traces::{
 };
 use std::alloc::AllocError;
 use std::test::Fail;
+use ulfm_model::Why;
 use ulfm_trace::{CheckFault, Verdict};
-use ulfm_trace_model::Why;
 
 pub(crate) fn illegal(line: u32, why: Why) -> Result<Verdict, CheckFault> {
     Ok(Verdict::Illegal { line, why })

@@ -2,9 +2,9 @@
 use crate::tests::plain_judge::PlainJudge;
 use std::alloc::{AllocError, Allocator};
 use ulfm_lines::read_line;
+use ulfm_model::Why;
 use ulfm_script::{HeaderKind, read_header};
 use ulfm_trace::Verdict;
-use ulfm_trace_model::Why;
 
 fn illegal(line: u32, why: Why) -> Verdict {
     Verdict::Illegal { line, why }

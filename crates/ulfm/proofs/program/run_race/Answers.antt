@@ -1,5 +1,5 @@
 use Rattle.std.proofs.Common.{rules, ◌≡◌, ◌∙◌, ap₂}
-use Rattle.ulfm_race_text.specs.Lines.{as_lists, race_text}
+use Rattle.ulfm_filters.specs.RaceLines.{as_lists, race_text}
 use Rattle.ulfm.specs.Races.{plan_of}
 use Rattle.ulfm.proofs.Ends.{raced}
 use Rattle.ulfm.proofs.program.run_race.Goals as goal

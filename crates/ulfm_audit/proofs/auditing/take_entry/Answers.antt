@@ -4,7 +4,7 @@ use Rattle.ulfm_model.specs.declared.limits.Limits.{Limits}
 use Rattle.ulfm_laws.specs.declared.flag_and.FlagAnd.{FlagAnd}
 use Rattle.ulfm_numbers.specs.{Seen.{Seen}, Telling.{seen_at}}
 use Rattle.ulfm_numbers.proofs.Seeing.{seen_now}
-use Rattle.ulfm_replay.specs.Replays.{Feeds}
+use Rattle.ulfm_replica.specs.Replays.{Feeds}
 use Rattle.ulfm_audit.specs.Audits.{Takes}
 use Rattle.ulfm_audit.specs.Texts.{entry_line, settled_lines}
 use Rattle.ulfm_audit.proofs.Telling.{joined, takes_one}

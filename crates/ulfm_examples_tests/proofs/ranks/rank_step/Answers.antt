@@ -1,7 +1,7 @@
 use Rattle.std.proofs.Common.{◌≡◌, refl, subst, sym}
 use Rattle.std.specs.Arc.{arc_value}
 use Rattle.ulfm_laws.specs.{Flags.{flag_meld}, declared.flag_and.FlagAnd.{FlagAnd}}
-use Rattle.ulfm_member.specs.Members.{IsMember}
+use Rattle.ulfm_wait.specs.Members.{IsMember}
 use Rattle.ulfm_examples_tests.proofs.Begun.{stands_begun}
 use Rattle.ulfm_examples_tests.proofs.ranks.rank_step.Goals as goal
 

@@ -1,7 +1,7 @@
 use Rattle.std.proofs.Common.{List, Some, length, refl, arith, sym, ap, subst, ◌∙◌}
 use Rattle.std.proofs.lemmas.List.{set-get_or}
 use Rattle.ulfm_model.specs.declared.event.Caller.{Caller}
-use Rattle.ulfm_trace_model.specs.{declared.line.{Line.{Line}, Why.{Why}}, Traces.{Takes, Under}}
+use Rattle.ulfm_model.specs.{declared.line.{Line.{Line}, Why.{Why}}, Traces.{Takes, Under}}
 use Rattle.ulfm_judge.specs.{declared.calls.OpenCall.{OpenCall}, Kept.{GoesWith, traced_of}}
 use Rattle.ulfm_judge.proofs.Seating.{is_open_at}
 use Rattle.ulfm_judge.proofs.Taking.{inexact, looks, no_call, undue}

@@ -1,5 +1,5 @@
 use Rattle.std.proofs.Common.{◌≡◌, ◌≤◌, List, length, max}
-use Rattle.ulfm_trace_model.specs.Traces.{Under}
+use Rattle.ulfm_model.specs.Traces.{Under}
 use Rattle.ulfm_judge.specs.Kept.{AreCalls}
 use Rattle.ulfm_judge.proofs.calls.make_room.Given as goal
 

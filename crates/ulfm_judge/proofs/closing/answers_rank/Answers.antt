@@ -4,7 +4,7 @@ use Rattle.ulfm_model.specs.declared.{event.Event.{Event}, refusal.Refusal.{Refu
 use Rattle.ulfm_model.specs.{History.{failures}, Records.{Record}}
 use Rattle.ulfm_record.specs.{declared.record.RankRecord.{RankRecord}, Kept.{record_of}}
 use Rattle.ulfm_record.proofs.Places.{find_no_place, find_place}
-use Rattle.ulfm_trace_model.specs.Traces.{record_in, view_at}
+use Rattle.ulfm_model.specs.Traces.{record_in, view_at}
 use Rattle.ulfm_judge.proofs.{Answering.{started_fits}, Leaving.{may_leave, no_record, on_test}}
 use Rattle.ulfm_numbers.proofs.Seeing.{seen_same}
 use Rattle.ulfm_judge.specs.CallsAt.{CallAt, call_of}

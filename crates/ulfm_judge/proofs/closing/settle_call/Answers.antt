@@ -6,7 +6,7 @@ use Rattle.ulfm_model.specs.{Answers.{left_by}, History.{failures}, Records.{Rec
 use Rattle.ulfm_model.proofs.Ranks.{ranks_distinct}
 use Rattle.ulfm_record.specs.{declared.record.RankRecord.{RankRecord}, Kept.{record_of}}
 use Rattle.ulfm_record.proofs.Places.{find_no_place, find_place}
-use Rattle.ulfm_trace_model.specs.Traces.{taken_in}
+use Rattle.ulfm_model.specs.Traces.{taken_in}
 use Rattle.ulfm_judge.specs.Kept.{traced_of, under_of}
 use Rattle.ulfm_numbers.proofs.Lasting.{no_value}
 use Rattle.ulfm_judge.proofs.Leaving.{none_changed, on_ok, one_changed}

@@ -1,5 +1,5 @@
 use Rattle.std.proofs.Common.{get_or, not, filter, refl, sym, ◌∙◌}
-use Rattle.ulfm_trace_model.specs.Traces.{caller_of, same_caller}
+use Rattle.ulfm_model.specs.Traces.{caller_of, same_caller}
 use Rattle.ulfm_judge.specs.Kept.{under_of}
 use Rattle.ulfm_numbers.proofs.Lasting.{no_value}
 use Rattle.ulfm_judge.proofs.Leaving.{no_call_replied, not_answered, packs_apart, taken}

@@ -1,7 +1,7 @@
 use Rattle.std.proofs.Common.{List, slice_index_or, sym, subst, ap, ◌∙◌}
 use Rattle.ulfm_model.specs.declared.event.Event.{Event}
 use Rattle.ulfm_judge.specs.Kept.{AreCalls, under_of}
-use Rattle.ulfm_trace_model.specs.Traces.{Under, with_event}
+use Rattle.ulfm_model.specs.Traces.{Under, with_event}
 use Rattle.ulfm_judge.proofs.Seating.{changed_at, is_open_at, kept_nowhere}
 use Rattle.ulfm_judge.proofs.Taking.{change_nobody, event_keeps, owned, unowned}
 use Rattle.ulfm_judge.proofs.events.add_own.Goals as goal

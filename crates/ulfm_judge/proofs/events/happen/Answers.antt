@@ -1,6 +1,6 @@
 use Rattle.std.proofs.Common.{◌≡◌, ◌∷◌, ◌++◌, [], true, false, subst, sym, ◌∙◌}
 use Rattle.ulfm_model.specs.declared.event.Entry.{Entry}
-use Rattle.ulfm_trace_model.specs.Traces.{change_by, with_event}
+use Rattle.ulfm_model.specs.Traces.{change_by, with_event}
 use Rattle.ulfm_numbers.specs.{Seen.{Seen}, Tests.{follow_test}}
 use Rattle.ulfm_numbers.proofs.Seeing.{seen_now}
 use Rattle.ulfm_judge.proofs.Taking.{bad_event, bad_own, happens}

@@ -1,6 +1,6 @@
 use Rattle.std.proofs.Common.{List, sym, subst, ◌∙◌}
 use Rattle.std.specs.Prelude.{IfOk}
-use Rattle.ulfm_trace_model.specs.{declared.line.Line.{Line}, Traces.{Takes, Under}}
+use Rattle.ulfm_model.specs.{declared.line.Line.{Line}, Traces.{Takes, Under}}
 use Rattle.ulfm_judge.specs.{declared.calls.OpenCall.{OpenCall}, Kept.{GoesWith, traced_of}, Telling.{TellsSome}}
 use Rattle.ulfm_judge.proofs.Leaving.{goes_on}
 use Rattle.ulfm_numbers.proofs.Lasting.{written}

@@ -1,8 +1,8 @@
 use Rattle.std.proofs.Common.{◌<◌, length, List, ℕ, None, arith, subst}
 use Rattle.std.specs.Prelude.{Option}
 use Rattle.ulfm_laws.specs.Flags.{flag_meld}
-use Rattle.ulfm_trace_model.specs.declared.line.Why.{Why}
-use Rattle.ulfm_trace_model.specs.Traces.{Takes, nothing}
+use Rattle.ulfm_model.specs.declared.line.Why.{Why}
+use Rattle.ulfm_model.specs.Traces.{Takes, nothing}
 use Rattle.ulfm_observed.proofs.Judged.{all_judged, legal_goes_on}
 use Rattle.ulfm_observed.proofs.judging.is_legal.Goals as goal
 

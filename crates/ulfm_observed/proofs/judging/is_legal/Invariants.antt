@@ -2,7 +2,7 @@ use Rattle.std.proofs.Common.{drop}
 use Rattle.std.specs.Prelude.{map}
 use Rattle.ulfm_laws.specs.{Flags.{flag_meld}, declared.flag_and.FlagAnd.{FlagAnd}}
 use Rattle.ulfm_judge.specs.Standing.{JudgeStands}
-use Rattle.ulfm_trace_model.specs.Traces.{AreLegalAfter, IsLegalTrace, Traced}
+use Rattle.ulfm_model.specs.Traces.{AreLegalAfter, IsLegalTrace, Traced}
 use Rattle.ulfm_observed.specs.Stages.{told_of}
 use Rattle.ulfm_observed.proofs.judging.is_legal.Given as goal
 

@@ -1,6 +1,6 @@
 use Rattle.std.proofs.Common.{IsTrue, subst, sym}
 use Rattle.ulfm_laws.specs.declared.flag_and.FlagAnd.{FlagAnd}
-use Rattle.ulfm_trace_model.specs.declared.line.Line.{Line}
+use Rattle.ulfm_model.specs.declared.line.Line.{Line}
 use Rattle.ulfm_observed.specs.declared.log.{Item.{Item}, Item.TheVariants.{Called}}
 use Rattle.ulfm_observed.specs.Explains.{IsHeard}
 use Rattle.ulfm_observed.proofs.Same.{same_call}

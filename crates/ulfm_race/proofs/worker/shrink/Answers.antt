@@ -1,7 +1,7 @@
 use Rattle.std.proofs.Common.{false, refl, inl, arith}
 use Rattle.ulfm_laws.specs.Flags.{flag_meld}
 use Rattle.ulfm_model.specs.declared.{call.Call.TheVariants.{Shrink}, reply.Reply.TheVariants.{Refused, Started}}
-use Rattle.ulfm_member.specs.Members.{MemberCalls, setting_of}
+use Rattle.ulfm_wait.specs.Members.{MemberCalls, setting_of}
 use Rattle.ulfm_wait.specs.Turns.{member_of}
 use Rattle.ulfm_race.specs.Races.{IsKeptReply, flag_pack, flag_words}
 use Rattle.ulfm_race.proofs.{Turns.{if_ok, shrink_answered, shrink_refused}, Working.{turn_answered, turn_held}}

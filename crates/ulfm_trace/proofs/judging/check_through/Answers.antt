@@ -1,5 +1,5 @@
 use Rattle.ulfm_script.specs.Buffers.{pending, unread}
-use Rattle.ulfm_trace_model.specs.Traces.{nothing, said_by}
+use Rattle.ulfm_model.specs.Traces.{nothing, said_by}
 use Rattle.ulfm_trace.specs.declared.verdict.CheckFault.TheVariants.{Memory}
 use Rattle.ulfm_trace.proofs.Checking.{ended_bad, ended_by_line, ended_by_read, ended_cut, ended_done, goes_first, goes_on, handed_on}
 use Rattle.ulfm_trace.proofs.judging.check_through.Goals as goal

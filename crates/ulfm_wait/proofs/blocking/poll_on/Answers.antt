@@ -1,5 +1,5 @@
 use Rattle.std.proofs.Common.{Ok, Err, subst}
-use Rattle.ulfm_member.specs.Members.{MemberPolls, setting_of}
+use Rattle.ulfm_wait.specs.Members.{MemberPolls, setting_of}
 use Rattle.ulfm_wait.proofs.Waiting.{is_answer, member_answered, member_pends}
 use Rattle.ulfm_wait.proofs.blocking.poll_on.Goals as goal
 

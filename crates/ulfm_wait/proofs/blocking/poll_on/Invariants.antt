@@ -1,7 +1,7 @@
 use Rattle.std.proofs.Common.{Result}
 use Rattle.ulfm_model.specs.declared.refusal.Refusal.{Refusal}
 use Rattle.ulfm_comm.specs.declared.calls.polled.Polled.{Polled}
-use Rattle.ulfm_member.specs.Members.{Membership, setting_of}
+use Rattle.ulfm_wait.specs.Members.{Membership, setting_of}
 use Rattle.ulfm_wait.specs.Waits.{MemberPollsOn}
 use Rattle.ulfm_wait.proofs.blocking.poll_on.Given as goal
 

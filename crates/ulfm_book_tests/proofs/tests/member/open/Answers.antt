@@ -1,6 +1,6 @@
 use Rattle.std.proofs.Common.{◌≡◌, sym, ◌∙◌}
 use Rattle.ulfm_model.proofs.Lists.{each_from}
-use Rattle.ulfm_member.specs.Members.{IsNewMember}
+use Rattle.ulfm_wait.specs.Members.{IsNewMember}
 use Rattle.ulfm_book_tests.proofs.tests.member.open.Goals as goal
 
 pub returns : goal.returns

@@ -1,7 +1,7 @@
 use Rattle.std.proofs.Common.{sym, subst}
 use Rattle.ulfm_words.specs.Steps.{IsView, Name, view_of}
 use Rattle.ulfm_numbers.specs.Telling.{TablesTell}
-use Rattle.ulfm_replay.specs.Replays.{AreReplayed}
+use Rattle.ulfm_replica.specs.Replays.{AreReplayed}
 use Rattle.ulfm_replica.specs.Replicas.{Calling, KeepsCall, rules, way_in}
 use Rattle.ulfm_replica.proofs.Fitting.{feeds_on, keeps_on, stands_on}
 use Rattle.ulfm_replica.proofs.calling.CallingRank.taking.Goals as goal

@@ -1,0 +1,5 @@
+use Rattle.ulfm_filters.proofs.Whole.{failing_ended_legal}
+use Rattle.ulfm_filters.proofs.written_laws.failing_ends_are_legal.Goals as goal
+
+pub returns : goal.returns
+returns c = failing_ended_legal

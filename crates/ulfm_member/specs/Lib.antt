@@ -1,3 +1,0 @@
-pub mod Outsides
-pub mod Members
-pub mod InTurn

@@ -1,3 +1,0 @@
-pub mod Acknowledging
-pub mod Migrating
-pub mod Reading

@@ -1,5 +1,0 @@
-use Rattle.ulfm_migrate.proofs.Acknowledging.{all_acknowledged}
-use Rattle.ulfm_migrate.proofs.laws.acknowledging_most_is_acknowledging_all.Goals as goal
-
-pub returns : goal.returns
-returns c = λ state new r comm count reply sound wide many. all_acknowledged state sound wide r comm count many new reply

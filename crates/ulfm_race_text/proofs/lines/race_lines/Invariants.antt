@@ -1,6 +1,0 @@
-use Rattle.std.proofs.Common.{◌≡◌}
-use Rattle.ulfm_race_text.specs.Lines.{as_lists, rounds_text}
-use Rattle.ulfm_race_text.proofs.lines.race_lines.Given as goal
-
-abbrev pub invariant-loop-round : goal.invariant-loop-round
-invariant-loop-round g l = l.text.items ≡ rounds_text l.round (as_lists l.replies)

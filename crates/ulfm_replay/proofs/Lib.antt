@@ -1,4 +1,0 @@
-pub mod Feeding
-pub mod Following
-pub mod Replaying
-pub mod Wiring

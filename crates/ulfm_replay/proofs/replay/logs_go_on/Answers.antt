@@ -1,5 +1,0 @@
-use Rattle.ulfm_replay.proofs.Replaying.{goes_on}
-use Rattle.ulfm_replay.proofs.replay.logs_go_on.Goals as goal
-
-pub returns : goal.returns
-returns g c = λ limits h mid new log e taken p q. goes_on g.P.Meld.meld limits log e taken h mid new p q

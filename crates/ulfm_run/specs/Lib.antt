@@ -1,0 +1,10 @@
+pub mod Jobs
+pub mod Events
+pub mod Failing
+pub mod Seats
+pub mod Stepping
+pub mod StepLines
+pub mod Table
+pub mod Walks
+pub mod FailingScripts
+pub mod StepScripts

@@ -1,3 +1,0 @@
-pub mod FailLemmas
-pub mod TraceLemmas
-pub mod Far

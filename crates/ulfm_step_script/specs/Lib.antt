@@ -1,2 +1,0 @@
-pub mod FailingScripts
-pub mod StepScripts

@@ -1,5 +1,0 @@
-use Rattle.ulfm_stepping.proofs.Newly.{sits_new}
-use Rattle.ulfm_stepping.proofs.laws.seats_begin.Goals as goal
-
-pub returns : goal.returns
-returns g c = sits_new g.P.Meld.meld

@@ -1,5 +1,0 @@
-use Rattle.ulfm_stepping.proofs.Others.{sits_lasts}
-use Rattle.ulfm_stepping.proofs.laws.seats_last.Goals as goal
-
-pub returns : goal.returns
-returns g c = sits_lasts g.P.Meld.meld

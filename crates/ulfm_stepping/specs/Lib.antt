@@ -1,4 +1,0 @@
-pub mod Events
-pub mod Failing
-pub mod Seats
-pub mod Stepping

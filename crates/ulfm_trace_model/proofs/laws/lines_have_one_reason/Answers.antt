@@ -1,5 +1,0 @@
-use Rattle.ulfm_trace_model.proofs.Reasons.{one_reason}
-use Rattle.ulfm_trace_model.proofs.laws.lines_have_one_reason.Goals as goal
-
-pub returns : goal.returns
-returns g c = λ now group line. one_reason g.P.Meld.meld now group line

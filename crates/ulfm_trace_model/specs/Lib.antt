@@ -1,3 +1,0 @@
-pub mod Follows
-pub mod Laws
-pub mod Traces

@@ -1,7 +1,0 @@
-mod Counts
-mod Following
-mod Lasting
-mod Short
-mod Sizes
-mod Tellable
-mod Whole

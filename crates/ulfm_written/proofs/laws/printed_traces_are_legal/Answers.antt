@@ -1,5 +1,0 @@
-use Rattle.ulfm_written.proofs.Whole.{printed_legal}
-use Rattle.ulfm_written.proofs.laws.printed_traces_are_legal.Goals as goal
-
-pub returns : goal.returns
-returns c = printed_legal

@@ -1,5 +1,0 @@
-use Rattle.ulfm_written.proofs.Whole.{written_legal}
-use Rattle.ulfm_written.proofs.laws.written_traces_are_legal.Goals as goal
-
-pub returns : goal.returns
-returns c = written_legal
