@@ -16,14 +16,14 @@ sys.dont_write_bytecode = True
 from crates import read  # noqa: E402
 
 HERE = os.path.dirname(os.path.dirname(os.path.abspath(__file__)))
-CRATES = ("ulfm_comm", "ulfm_job", "ulfm_member", "ulfm_book", "ulfm_wait", "vukrasp", "ulfm_race")
+CRATES = ("ulfm_comm", "ulfm_book", "ulfm_wait", "vukrasp", "ulfm_race")
 # of these crates only the functions of these tests
 SOME = {
     "ulfm_draw": {"drawing_draw"},
     "ulfm_laws": {"meld_all_meld_all"},
     "ulfm_model": {"limits_check", "limits_size", "refusal_name", "refusal_refusal_number"},
     "ulfm_object": {"object_apply", "object_failed", "object_history", "object_members", "object_open", "object_records"},
-    "ulfm_run": {"running_run_calls", "running_run_steps"},
+    "ulfm_run": {"job_open", "job_pass", "job_rank", "job_apply", "running_run_calls", "running_run_steps"},
     "ulfm_script": {"calls_read_call"},
     "ulfm_trace": {"judged_check"},
     "ulfm_words": {"plain_pass_nth", "plain_words_open", "summaries_read_slot", "summaries_slot_words"},

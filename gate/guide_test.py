@@ -96,8 +96,8 @@ def names_refusals(page, source):
 def has_calls(name, page):
     """Whether each call that a page shows is one of the library."""
     files = {
-        "member": ("ulfm_member/src/member",),
-        "outside": ("ulfm_member/src/outside",),
+        "member": ("ulfm_wait/src/member",),
+        "outside": ("ulfm_wait/src/outside",),
         "vukrasp": ("vukrasp/src/opening", "ulfm_wait/src/blocking"),
     }
     shown, known = set(CALLED.findall(page)), set()

@@ -1,7 +1,7 @@
 #!/usr/bin/env python3
 """Writes the judge of logs and the crates below it as plain Rust, so that the search can be tried in seconds.
 
-as_rust.py FOLDER: writes FOLDER/src. Then `rustc --edition 2021 -C opt-level=2 -C overflow-checks=on -o FOLDER/observe FOLDER/src/main.rs`.
+as_rust.py FOLDER: writes FOLDER/src. Then `rustc --edition 2024 -C opt-level=2 -C overflow-checks=on -o FOLDER/observe FOLDER/src/main.rs`.
 The program reads logs, each with a line `=` behind it, and prints each answer with a line `=` behind it; with any argument it prints
 witnesses too. FOLDER/src/checks.rs, compiled so, judges traces, each with a line `=` behind it, and prints a line for each. Contracts are left out, and memory is never refused: rstd.rs has the vectors and maps that stand in for the proved ones.
 """
@@ -14,8 +14,8 @@ import sys
 HERE = os.path.dirname(os.path.abspath(__file__))
 SRC = HERE + "/../../crates"
 OUT = sys.argv[1] + "/src"
-CR='ulfm_laws ulfm_model ulfm_history ulfm_record ulfm_trace_model ulfm_numbers ulfm_judge ulfm_script ulfm_lines ulfm_observed ulfm_refuted ulfm_search'.split()
-SKIP={'ulfm_laws':{'meanings'},'ulfm_model':{'laws'},'ulfm_trace_model':{'laws'},'ulfm_script':{'laws','call_script','engine','interpreter','machine','buffers','header_kind_'},'ulfm_lines':{'laws','step_machine','teller'},'ulfm_search':{'observing'},'ulfm_history':{'says_'}}
+CR='ulfm_laws ulfm_model ulfm_record ulfm_numbers ulfm_judge ulfm_script ulfm_lines ulfm_observed ulfm_search'.split()
+SKIP={'ulfm_laws':{'meanings'},'ulfm_model':{'laws','trace_laws','rounds'},'ulfm_script':{'laws','call_script','engine','interpreter','machine','buffers','header_kind_'},'ulfm_lines':{'laws','step_machine','teller'},'ulfm_search':{'observing'},'ulfm_record':{'says_'}}
 OP='{([';CL='})]'
 def balanced(s,i):
     # i at opening brace; skip comments

@@ -1,6 +1,6 @@
 #![allow(warnings)]
 mod rstd;
-mod ulfm_laws; mod ulfm_model; mod ulfm_history; mod ulfm_record; mod ulfm_trace_model; mod ulfm_numbers; mod ulfm_judge; mod ulfm_script; mod ulfm_lines; mod ulfm_observed; mod ulfm_refuted; mod ulfm_search;
+mod ulfm_laws; mod ulfm_model; mod ulfm_record; mod ulfm_numbers; mod ulfm_judge; mod ulfm_script; mod ulfm_lines; mod ulfm_observed; mod ulfm_search;
 use std::io::Read;
 use ulfm_script::{LastGroup, RunFault};
 use ulfm_search::{Answer, BUDGET, explain};

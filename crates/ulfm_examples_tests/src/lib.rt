@@ -1,4 +1,4 @@
-//! The examples of the public calls of `ulfm_comm`, `ulfm_job`, `ulfm_member`, `ulfm_book`, `ulfm_wait`, `vukrasp` and `ulfm_race`, and
+//! The examples of the public calls of `ulfm_comm`, `ulfm_book`, `ulfm_wait`, `vukrasp` and `ulfm_race`, and
 //! of what users meet of the crates below and beside them, each run as a test.
 //!
 //! A test has the name of the type, or of the module, and of the call. What stands in it between two empty lines is, word for
