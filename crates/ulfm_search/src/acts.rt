@@ -37,15 +37,12 @@ pub(crate) enum Standing {
 pub(crate) struct Act {
     /// Whose call it is; the outside's where `kind` is `Fail`, and then the rank that it is to declare.
     pub(crate) rank: u16,
-    /// What it calls.
     pub(crate) kind: Kind,
-    /// The communicator that it names.
     pub(crate) comm: u16,
     /// The flag of an agree, or the count of an acknowledgement.
     pub(crate) number: u64,
-    /// The line of the call: a place in the log, from 0.
+    /// The line of the call, and that of its reply: places in the log, from 0.
     pub(crate) call: u32,
-    /// The line of its reply; none where it has none.
     pub(crate) reply: u32,
     /// The round of a start, or of what is polled: its place among the rounds of its sort.
     pub(crate) round: u32,
@@ -53,9 +50,7 @@ pub(crate) struct Act {
     pub(crate) start: u32,
     /// How many failures its rank had acknowledged on the communicator.
     pub(crate) acked: u16,
-    /// What became of it.
     pub(crate) standing: Standing,
-    /// What its reply told, if it has one.
     pub(crate) seen: Option<Seen>,
     /// Whether a start was answered by its poll's reply.
     pub(crate) blocking: bool,

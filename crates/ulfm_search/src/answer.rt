@@ -12,7 +12,7 @@ use crate::reducing::reduce;
 use crate::search::{Outcome, cost_of, search};
 use crate::study::Study;
 use crate::tables::{NONE, at, put};
-use crate::telling::say_lines;
+use crate::telling::{choose_cycle, say_lines, say_why};
 use crate::why::Why;
 use std::alloc::{AllocError, Allocator};
 use ulfm_model::Limits;
@@ -165,7 +165,6 @@ fn is_text<A: Allocator + Copy, B: Allocator>(
 /// What a search gave.
 #[derive(Drop)]
 enum Sought<A: Allocator> {
-    /// A trace that explains the log, confirmed.
     Found(Vec<Step<A>, A>),
     /// Why there is none, and whose lines may show it.
     Nothing {
@@ -225,12 +224,12 @@ fn tell<A: Allocator + Copy, B: Allocator>(
     cycle: &[u32],
 ) -> Result<Vec<u8, A>, AllocError> {
     let mut text = Vec::new(study.alloc);
-    study.say_why(&mut text, why, cycle)?;
+    say_why(&mut text, study, why, cycle)?;
     text.push(b'\n')?;
     let mut chosen = vec![in study.alloc; 0; lines.len()]?;
     choose_lines(study, why, &mut chosen);
     if why == Why::Cycle {
-        study.choose_cycle(cycle, &mut chosen)?;
+        choose_cycle(study, cycle, &mut chosen)?;
     }
     say_lines(&mut text, study.alloc, lines, &chosen)?;
     Ok(text)

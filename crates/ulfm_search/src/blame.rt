@@ -1,5 +1,5 @@
 //! Which of the choices a circle rests on: where it rests on none of the last ones, other ways of those are of no use.
-use crate::choice::{Choice, Fork};
+use crate::choice::{Choice, Fork, rank_at};
 use crate::deals::Deals;
 use crate::plan::Plan;
 use crate::study::Study;
@@ -9,15 +9,16 @@ use std::alloc::{AllocError, Allocator};
 /// How many of the choices a circle needs: up to the last one that put an edge of it in.
 pub(crate) fn needed<A: Allocator + Copy>(
     plan: &Plan<A>,
-    deals: &Deals<'_, A>,
+    study: &Study<A>,
+    deals: &Deals<A>,
     choices: &[Choice],
     cycle: &[u32],
 ) -> Result<usize, AllocError> {
-    let mut met = vec![in deals.study.alloc; 0; plan.graph.nodes]?;
+    let mut met = vec![in study.alloc; 0; plan.graph.nodes]?;
     mark(&mut met, cycle);
     let mut needed = 0;
     for (i, choice) in choices.iter().enumerate() {
-        if is_in(plan, deals, &met, *choice) {
+        if is_in(plan, study, deals, &met, *choice) {
             needed = i.wrapping_add(1);
         }
     }
@@ -34,38 +35,56 @@ fn mark(met: &mut [u32], cycle: &[u32]) {
 /// Whether a choice may have put in an edge between nodes that are marked.
 fn is_in<A: Allocator + Copy>(
     plan: &Plan<A>,
-    deals: &Deals<'_, A>,
+    study: &Study<A>,
+    deals: &Deals<A>,
     met: &[u32],
     choice: Choice,
 ) -> bool {
-    let study = deals.study;
-    let rank = choice.rank(study.ranks);
     match choice.fork {
         Fork::Open { act, .. } => {
             choice.counts_start() && (has(met, plan.look(act)) || has(met, plan.settle(act)))
         }
         Fork::Revoker { comm } => has(met, plan.revocation(comm)),
         Fork::Maker { comm } => has(met, plan.spawn(comm)) || has(met, plan.decision(choice.way)),
-        Fork::Knew { round, count, .. } => {
-            let start = deals.contribution(round, rank);
+        Fork::Knew {
+            round,
+            count,
+            first,
+        } => {
+            let rank = rank_at(first, choice.way, study.ranks);
+            let start = deals.contribution(study, round, rank);
             start != NONE && has(met, plan.failure(count)) && has(met, plan.look(start))
         }
-        Fork::Missing { act, .. } => {
+        Fork::Missing { act, first } => {
+            let rank = rank_at(first, choice.way, study.ranks);
             let (call, round) = polled(study, act);
-            let start = deals.contribution(round, rank);
+            let start = deals.contribution(study, round, rank);
             start != NONE && has(met, call) && has(met, plan.settle(start))
         }
-        Fork::Failed { act, .. } | Fork::Absent { act, .. } => {
-            let (_, round) = polled(study, act);
-            let start = deals.arrival(round, rank);
-            start != NONE && has(met, plan.point(act)) && has(met, plan.settle(start))
+        Fork::Failed { act, first } | Fork::Absent { act, first } => {
+            let rank = rank_at(first, choice.way, study.ranks);
+            arrives(plan, study, deals, met, act, rank)
         }
-        Fork::Seen { act, .. } => {
+        Fork::Seen { act, rank } => {
             let (_, round) = polled(study, act);
-            let start = deals.arrival(round, rank);
+            let start = deals.arrival(study, round, rank as usize);
             start != NONE && (has(met, plan.look(start)) || has(met, plan.settle(start)))
         }
     }
+}
+
+/// Whether a barrier's point and a rank's arrival are marked.
+fn arrives<A: Allocator + Copy>(
+    plan: &Plan<A>,
+    study: &Study<A>,
+    deals: &Deals<A>,
+    met: &[u32],
+    act: u32,
+    rank: usize,
+) -> bool {
+    let (_, round) = polled(study, act);
+    let start = deals.arrival(study, round, rank);
+    start != NONE && has(met, plan.point(act)) && has(met, plan.settle(start))
 }
 
 /// The line of a poll's call, and its round.

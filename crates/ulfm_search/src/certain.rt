@@ -8,11 +8,8 @@ use ulfm_observed::Seen;
 /// Two ranks and a round of the world's communicator, of which their lines may tell what can't stand together.
 #[derive(Clone, Copy)]
 pub(crate) struct Hint {
-    /// A rank.
     pub(crate) one: u16,
-    /// Another rank.
     pub(crate) other: u16,
-    /// The round that they tell of.
     pub(crate) round: u16,
 }
 

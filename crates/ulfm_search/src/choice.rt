@@ -24,9 +24,7 @@ pub(crate) enum Fork {
 /// One way of a fork, by its number.
 #[derive(Clone, Copy)]
 pub(crate) struct Choice {
-    /// The fork.
     pub(crate) fork: Fork,
-    /// The number of the way, from 0.
     pub(crate) way: u32,
 }
 
@@ -36,18 +34,6 @@ impl Choice {
         match self.fork {
             Fork::Open { counted, .. } => (self.way == 0) == counted,
             _ => false,
-        }
-    }
-
-    /// The rank that it is, of so many, where its fork is among ranks.
-    pub(crate) fn rank(&self, ranks: usize) -> usize {
-        match self.fork {
-            Fork::Knew { first, .. }
-            | Fork::Missing { first, .. }
-            | Fork::Failed { first, .. }
-            | Fork::Absent { first, .. } => rank_at(first, self.way, ranks),
-            Fork::Seen { rank, .. } => rank as usize,
-            _ => 0,
         }
     }
 }

@@ -12,23 +12,19 @@ use ulfm_observed::Seen;
 pub(crate) struct Deal {
     /// Whether it was decided.
     pub(crate) decided: bool,
-    /// The call that told so first.
+    /// The call that told so first, and the one that told the count first.
     pub(crate) told: u32,
-    /// The call that told the count first.
     pub(crate) counted_by: u32,
     /// The size of its failed group; none where nothing tells it.
     pub(crate) count: u32,
     /// 1 where an error was told, 0 where none was.
     pub(crate) raised: u32,
-    /// The flags of those who are known to have contributed, combined.
+    /// The flags of those who are known to have contributed, combined; and of all that do.
     pub(crate) sure: u64,
-    /// The flags of all that contribute, combined.
     pub(crate) value: u64,
     /// The least that a contributor had acknowledged.
     pub(crate) acked: u32,
-    /// Whether an agree contributed.
     pub(crate) agrees: bool,
-    /// Whether a shrink contributed.
     pub(crate) shrinks: bool,
 }
 
@@ -52,10 +48,7 @@ impl Deal {
 
 /// What is known of all rounds of agreement.
 #[derive(Drop)]
-pub(crate) struct Deals<'a, A: Allocator> {
-    /// What is known of the log.
-    pub(crate) study: &'a Study<A>,
-    /// What is known of each round.
+pub(crate) struct Deals<A: Allocator> {
     pub(crate) list: Vec<Deal, A>,
     /// For each call, 1 where it is an open start that took effect.
     pub(crate) counted: Vec<u32, A>,
@@ -63,25 +56,23 @@ pub(crate) struct Deals<'a, A: Allocator> {
     pub(crate) done: Vec<u32, A>,
 }
 
-impl<'a, A: Allocator + Copy> Deals<'a, A> {
+impl<A: Allocator + Copy> Deals<A> {
     /// What the replies tell.
-    pub(crate) fn new(study: &'a Study<A>) -> Result<Deals<'a, A>, AllocError> {
+    pub(crate) fn new(study: &Study<A>) -> Result<Deals<A>, AllocError> {
         let alloc = study.alloc;
         let mut deals = Deals {
-            study,
             list: vec![in alloc; Deal::new(); study.agreements.list.len()]?,
             counted: vec![in alloc; 0; study.acts.len()]?,
             done: vec![in alloc; 0; study.barriers.list.len()]?,
         };
         for (i, act) in study.acts.iter().enumerate() {
-            deals.note(act, number(i));
+            deals.note(study, act, number(i));
         }
         Ok(deals)
     }
 
     /// Takes in that a poll was answered by a decision.
-    fn note(&mut self, act: &Act, place: u32) {
-        let study = self.study;
+    fn note(&mut self, study: &Study<A>, act: &Act, place: u32) {
         if !study.counts(act) || !tells_end(study, act) {
             return;
         }
@@ -128,9 +119,9 @@ impl<'a, A: Allocator + Copy> Deals<'a, A> {
     }
 
     /// The call by which a rank contributed to a round; none where it didn't.
-    pub(crate) fn contribution(&self, round: u32, rank: usize) -> u32 {
-        let start = self.study.agreements.start(round, rank);
-        match self.study.act(start) {
+    pub(crate) fn contribution(&self, study: &Study<A>, round: u32, rank: usize) -> u32 {
+        let start = study.agreements.start(round, rank);
+        match study.act(start) {
             Some(act) => {
                 if act.standing != Standing::Open || at(&self.counted, start as usize) == 1 {
                     start
@@ -143,9 +134,9 @@ impl<'a, A: Allocator + Copy> Deals<'a, A> {
     }
 
     /// The call by which a rank arrived in a barrier's round; none where it didn't.
-    pub(crate) fn arrival(&self, round: u32, rank: usize) -> u32 {
-        let start = self.study.barriers.start(round, rank);
-        match self.study.act(start) {
+    pub(crate) fn arrival(&self, study: &Study<A>, round: u32, rank: usize) -> u32 {
+        let start = study.barriers.start(round, rank);
+        match study.act(start) {
             Some(act) => {
                 let chosen = at(&self.counted, start as usize) == 1;
                 let done = at(&self.done, round as usize) == 1;
@@ -160,21 +151,20 @@ impl<'a, A: Allocator + Copy> Deals<'a, A> {
     }
 
     /// Combines what the contributors of each decided round gave.
-    pub(crate) fn combine_all(&mut self) {
+    pub(crate) fn combine_all(&mut self, study: &Study<A>) {
         for round in 0..self.list.len() {
             if self.is_decided(number(round)) {
-                self.combine(number(round));
+                self.combine(study, number(round));
             }
         }
     }
 
     /// Combines what the contributors of a decided round gave.
-    fn combine(&mut self, round: u32) {
-        let study = self.study;
+    fn combine(&mut self, study: &Study<A>, round: u32) {
         let comm = study.agreements.round(round as usize).comm;
         let mut deal = self.deal(round);
         for rank in 0..study.ranks {
-            let start = self.contribution(round, rank);
+            let start = self.contribution(study, round, rank);
             if !study.is_member(comm, rank) {
                 continue;
             }
@@ -201,8 +191,7 @@ impl<'a, A: Allocator + Copy> Deals<'a, A> {
     }
 
     /// Why a reply can't be, by what was contributed and told, if it can't.
-    pub(crate) fn fault(&self, act: &Act, place: u32) -> Option<Why> {
-        let study = self.study;
+    pub(crate) fn fault(&self, study: &Study<A>, act: &Act, place: u32) -> Option<Why> {
         if !study.counts(act) || !tells_end(study, act) || study.asked_by(act) == Kind::Barrier {
             return None;
         }
@@ -222,12 +211,12 @@ impl<'a, A: Allocator + Copy> Deals<'a, A> {
                 return Some(Why::Value { act: place });
             }
         }
-        self.fault_of_count(act, place, deal)
+        self.fault_of_count(study, act, place, deal)
     }
 
     /// Why the count or the error that a reply tells can't be, if it can't.
-    fn fault_of_count(&self, act: &Act, place: u32, deal: Deal) -> Option<Why> {
-        let count = told_count(self.study, act);
+    fn fault_of_count(&self, study: &Study<A>, act: &Act, place: u32, deal: Deal) -> Option<Why> {
+        let count = told_count(study, act);
         if count != NONE && deal.count != NONE && count != deal.count {
             return Some(Why::TwoDecisions {
                 one: deal.counted_by,

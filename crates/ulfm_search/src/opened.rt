@@ -14,11 +14,11 @@ use ulfm_observed::Seen;
 pub(crate) fn opened<A: Allocator + Copy>(study: &Study<A>) -> Result<Vec<Fork, A>, AllocError> {
     let mut forks = Vec::new(study.alloc);
     let mut deals = Deals::new(study)?;
-    deals.combine_all();
+    deals.combine_all(study);
     makers(study, &mut forks)?;
     let failures = told_failures(study);
     let named = named(study);
-    starts(&deals, failures, named, &mut forks)?;
+    starts(study, &deals, failures, named, &mut forks)?;
     let owned = owned(study)?;
     revokers(study, owned, &mut forks)?;
     Ok(forks)
@@ -42,12 +42,12 @@ fn makers<A: Allocator + Copy>(
 /// Adds a fork for each open start that may have taken effect: of a decided round, or of any where a communicator was made of which nobody
 /// was told.
 fn starts<A: Allocator + Copy>(
-    deals: &Deals<'_, A>,
+    study: &Study<A>,
+    deals: &Deals<A>,
     failures: u32,
     named: u32,
     forks: &mut Vec<Fork, A>,
 ) -> Result<(), AllocError> {
-    let study = deals.study;
     let untold = !forks.is_empty();
     for (i, act) in study.acts.iter().enumerate() {
         let agreement = act.is(Kind::Agree) || act.is(Kind::Shrink);

@@ -7,53 +7,42 @@ use std::alloc::{AllocError, Allocator};
 /// A rank, and a node: one comes before the other.
 #[derive(Clone, Copy)]
 pub(crate) struct Tie {
-    /// The rank.
     pub(crate) rank: u16,
-    /// The node.
     pub(crate) node: u32,
 }
 
 /// Two ranks of which one stands before the other in the line of failures, if that fails.
 #[derive(Clone, Copy)]
 pub(crate) struct Pair {
-    /// The one that stands before.
     pub(crate) first: u16,
-    /// The one behind it.
     pub(crate) then: u16,
 }
 
 /// What is asked.
 #[derive(Drop)]
 pub(crate) struct Plan<A: Allocator> {
-    /// The nodes, and which comes before which.
     pub(crate) graph: Graph<A>,
-    /// How many lines, ranks, calls, rounds and communicators there are.
     lines: usize,
     ranks: usize,
     acts: usize,
     rounds: usize,
     comms: usize,
-    /// Nodes before the failure of a rank.
+    /// Nodes before the failure of a rank, and nodes behind it.
     pub(crate) alive: Vec<Tie, A>,
-    /// Nodes behind the failure of a rank.
     pub(crate) shows: Vec<Tie, A>,
     /// Ranks that must have failed, and ranks that may only fail behind them.
     pub(crate) pairs: Vec<Pair, A>,
-    /// The first place where each rank may stand.
+    /// The first and the last place where each rank may stand, and the lines by which it may not be before or behind it.
     pub(crate) least: Vec<u32, A>,
-    /// The line by which each may not stand before it.
     pub(crate) least_by: Vec<u32, A>,
-    /// The last place where each rank may stand.
     pub(crate) most: Vec<u32, A>,
-    /// The line by which each may not stand behind it.
     pub(crate) most_by: Vec<u32, A>,
     /// 1 where a rank must have failed.
     pub(crate) must: Vec<u32, A>,
     /// So many failures must there be.
     pub(crate) need: u32,
-    /// The place of each rank in the line, from 1.
+    /// The place of each rank in the line, from 1, and the rank at each place.
     pub(crate) place: Vec<u32, A>,
-    /// The rank at each place.
     pub(crate) ranked: Vec<u32, A>,
 }
 
@@ -235,20 +224,12 @@ impl<A: Allocator + Copy> Plan<A> {
 /// What a node is.
 #[derive(Clone, Copy)]
 pub(crate) enum Part {
-    /// A line of the log.
     Line(u32),
-    /// The declaration of a number, from 1.
     Failure(u32),
-    /// The look of a call.
     Look(u32),
-    /// A call's contribution or arrival.
     Settle(u32),
-    /// The point of a call's reply, or the look of its poll.
     Point(u32),
-    /// The decision of a round of agreement.
     Decision(u32),
-    /// The making of a communicator.
     Spawn(u16),
-    /// The revocation of a communicator.
     Revocation(u16),
 }

@@ -1,13 +1,15 @@
 //! One judgement: what was chosen, and whether an order and a trace come of it.
 use crate::acts::Standing;
 use crate::blame::needed;
+use crate::broken::broken;
 use crate::choice::{Choice, Fork};
 use crate::deals::Deals;
 use crate::plan::Plan;
 use crate::study::Study;
 use crate::tables::{NONE, at, count_up, greatest, number, put, small};
+use crate::ways::choose;
 use crate::why::Why;
-use crate::witness::{Source, Writer};
+use crate::witness::{Source, Writer, write};
 use crate::{places, rules};
 use std::alloc::{AllocError, Allocator};
 use ulfm_model::Refusal;
@@ -26,22 +28,18 @@ pub(crate) enum Judgement<A: Allocator> {
 
 /// What is decided and made, with these choices.
 #[derive(Drop)]
-pub(crate) struct Settled<'a, A: Allocator> {
-    /// What is known of the rounds.
-    pub(crate) deals: Deals<'a, A>,
-    /// The call that revoked each communicator.
+pub(crate) struct Settled<A: Allocator> {
+    pub(crate) deals: Deals<A>,
     pub(crate) revokers: Vec<u32, A>,
-    /// The round that made each communicator.
     pub(crate) makers: Vec<u32, A>,
-    /// The greatest number of a communicator that must have been made.
     pub(crate) top: u32,
 }
 
 /// What is decided and made, with these choices.
-pub(crate) fn settle<'a, A: Allocator + Copy>(
-    study: &'a Study<A>,
+pub(crate) fn settle<A: Allocator + Copy>(
+    study: &Study<A>,
     choices: &[Choice],
-) -> Result<Settled<'a, A>, AllocError> {
+) -> Result<Settled<A>, AllocError> {
     let mut settled = Settled {
         deals: Deals::new(study)?,
         revokers: vec![in study.alloc; NONE; study.comms]?,
@@ -49,15 +47,14 @@ pub(crate) fn settle<'a, A: Allocator + Copy>(
         top: top(study),
     };
     for choice in choices {
-        take_choice(&mut settled, *choice);
+        take_choice(&mut settled, study, *choice);
     }
-    settled.deals.combine_all();
+    settled.deals.combine_all(study);
     Ok(settled)
 }
 
 /// Takes in what a choice decides or makes.
-fn take_choice<A: Allocator + Copy>(settled: &mut Settled<'_, A>, choice: Choice) {
-    let study = settled.deals.study;
+fn take_choice<A: Allocator + Copy>(settled: &mut Settled<A>, study: &Study<A>, choice: Choice) {
     match choice.fork {
         Fork::Open { act, .. } => {
             let counted = if choice.counts_start() { 1 } else { 0 };
@@ -111,21 +108,21 @@ pub(crate) fn judge<A: Allocator + Copy, B: Allocator>(
 ) -> Result<Judgement<A>, AllocError> {
     let none = Vec::new(study.alloc);
     let mut settled = settle(study, choices)?;
-    if let Some(why) = fault(&settled.deals) {
+    if let Some(why) = fault(study, &settled.deals) {
         return Ok(Judgement::Failed(why, none, choices.len()));
     }
     let mut plan = Plan::new(study)?;
-    if let Some(why) = fill(&mut plan, &mut settled, lines)? {
+    if let Some(why) = fill(&mut plan, study, &mut settled, lines)? {
         return Ok(Judgement::Failed(why, none, choices.len()));
     }
     for choice in choices {
-        if !plan.choose(&settled.deals, *choice)? {
+        if !choose(&mut plan, study, &settled.deals, *choice)? {
             return Ok(Judgement::Failed(Why::Choices, none, choices.len()));
         }
     }
     if !plan.graph.sort()? {
         let cycle = plan.graph.cycle()?;
-        let needed = needed(&plan, &settled.deals, choices, &cycle)?;
+        let needed = needed(&plan, study, &settled.deals, choices, &cycle)?;
         return Ok(Judgement::Failed(Why::Cycle, cycle, needed));
     }
     if let Some(why) = places::put_places(&mut plan, study)? {
@@ -135,17 +132,17 @@ pub(crate) fn judge<A: Allocator + Copy, B: Allocator>(
         let cycle = plan.graph.cycle()?;
         return Ok(Judgement::Failed(Why::Cycle, cycle, choices.len()));
     }
-    finish(lines, &plan, &settled, choices.len())
+    finish(study, lines, &plan, &settled, choices.len())
 }
 
 /// Writes the trace, and looks for what it breaks.
 fn finish<A: Allocator + Copy, B: Allocator>(
+    study: &Study<A>,
     lines: &[LogLine<B>],
     plan: &Plan<A>,
-    settled: &Settled<'_, A>,
+    settled: &Settled<A>,
     choices: usize,
 ) -> Result<Judgement<A>, AllocError> {
-    let study = settled.deals.study;
     let source = Source {
         study,
         plan,
@@ -154,56 +151,56 @@ fn finish<A: Allocator + Copy, B: Allocator>(
         revokers: &settled.revokers,
         makers: &settled.makers,
     };
-    let writer = source.write()?;
+    let writer = write(&source)?;
     let none = Vec::new(study.alloc);
     if writer.wrong != NONE {
         let act = writer.wrong;
         return Ok(Judgement::Failed(Why::Context { act }, none, choices));
     }
-    match source.broken(&writer) {
+    match broken(&writer, &source) {
         Some(fork) => Ok(Judgement::Broken(fork)),
         None => Ok(Judgement::Found(writer)),
     }
 }
 
 /// The first reply that can't be, by what was contributed and told.
-fn fault<A: Allocator + Copy>(deals: &Deals<'_, A>) -> Option<Why> {
-    for (i, act) in deals.study.acts.iter().enumerate() {
-        if let Some(why) = deals.fault(act, number(i)) {
+fn fault<A: Allocator + Copy>(study: &Study<A>, deals: &Deals<A>) -> Option<Why> {
+    for (i, act) in study.acts.iter().enumerate() {
+        if let Some(why) = deals.fault(study, act, number(i)) {
             return Some(why);
         }
     }
-    rules::missing(deals.study)
+    rules::missing(study)
 }
 
 /// Puts in all that is asked.
 fn fill<A: Allocator + Copy, B: Allocator>(
     plan: &mut Plan<A>,
-    settled: &mut Settled<'_, A>,
+    study: &Study<A>,
+    settled: &mut Settled<A>,
     lines: &[LogLine<B>],
 ) -> Result<Option<Why>, AllocError> {
-    let study = settled.deals.study;
-    plan.put_lines(study)?;
-    plan.put_failures(study)?;
-    plan.put_calls(&settled.deals, lines)?;
-    plan.put_rounds(&settled.deals)?;
-    plan.put_roomless(&settled.deals)?;
-    plan.put_groups(study, settled.top)?;
-    if !makers(plan, settled)? {
+    rules::lines(plan, study)?;
+    rules::failures(plan, study)?;
+    rules::calls(plan, study, &settled.deals, lines)?;
+    rules::rounds(plan, study, &settled.deals)?;
+    rules::roomless(plan, study, &settled.deals)?;
+    rules::groups(plan, study, settled.top)?;
+    if !makers(plan, study, settled)? {
         return Ok(Some(Why::Choices));
     }
     if study.logged {
         open_declarations(plan, study)?;
     }
-    plan.put_revocations(study, &mut settled.revokers)
+    rules::revocations(plan, study, &mut settled.revokers)
 }
 
 /// A communicator that nobody was told of comes after the round that makes it; false where one round makes two.
 fn makers<A: Allocator + Copy>(
     plan: &mut Plan<A>,
-    settled: &Settled<'_, A>,
+    study: &Study<A>,
+    settled: &Settled<A>,
 ) -> Result<bool, AllocError> {
-    let study = settled.deals.study;
     let mut made = vec![in study.alloc; 0; study.agreements.list.len()]?;
     for comm in 1..study.comms {
         let round = at(&settled.makers, comm);

@@ -1,15 +1,13 @@
 //! What a log says of its calls, its rounds and its communicators, before any search.
 use crate::acts::{Act, Kind};
-use crate::tables::{NONE, at, number, put, small};
+use crate::tables::{NONE, at, number, put};
 use std::alloc::{AllocError, Allocator};
 use ulfm_model::Limits;
 
 /// A round: its communicator, and its number there.
 #[derive(Clone, Copy)]
 pub(crate) struct Round {
-    /// Its communicator.
     pub(crate) comm: u16,
-    /// Its number there.
     pub(crate) round: u16,
 }
 
@@ -19,7 +17,6 @@ pub(crate) struct Rounds<A: Allocator> {
     ranks: usize,
     rounds: usize,
     places: Vec<u32, A>,
-    /// The rounds, in the order in which they were begun.
     pub(crate) list: Vec<Round, A>,
     starts: Vec<u32, A>,
 }
@@ -40,7 +37,7 @@ impl<A: Allocator + Copy> Rounds<A> {
     }
 
     /// The place of a round, which is made where it is new.
-    fn place(&mut self, comm: u16, round: u16) -> Result<u32, AllocError> {
+    pub(crate) fn place(&mut self, comm: u16, round: u16) -> Result<u32, AllocError> {
         let cell = (comm as usize)
             .wrapping_mul(self.rounds)
             .wrapping_add(round as usize);
@@ -65,14 +62,12 @@ impl<A: Allocator + Copy> Rounds<A> {
         )
     }
 
-    /// Writes down that a call at a place began its communicator's round of this number, and gives the round's place.
-    pub(crate) fn begin(&mut self, act: &Act, round: u32, call: u32) -> Result<u32, AllocError> {
-        let place = self.place(act.comm, small(round))?;
+    /// Writes it down.
+    pub(crate) fn begin(&mut self, place: u32, rank: u16, act: u32) {
         let cell = (place as usize)
             .wrapping_mul(self.ranks)
-            .wrapping_add(act.rank as usize);
-        put(&mut self.starts, cell, call);
-        Ok(place)
+            .wrapping_add(rank as usize);
+        put(&mut self.starts, cell, act);
     }
 
     /// The round at a place.
@@ -87,39 +82,27 @@ impl<A: Allocator + Copy> Rounds<A> {
 /// What is known of a log.
 #[derive(Drop)]
 pub(crate) struct Study<A: Allocator> {
-    /// Whence the tables take memory.
     pub(crate) alloc: A,
-    /// The limits in the log's header.
     pub(crate) limits: Limits,
-    /// How many ranks there are.
     pub(crate) ranks: usize,
-    /// How many communicators there may be.
     pub(crate) comms: usize,
     /// How many lines the log has.
     pub(crate) lines: usize,
-    /// Whether the order of lines is one in time.
+    /// Whether the order of lines is one in time, and whether all declarations are logged.
     pub(crate) timed: bool,
-    /// Whether all declarations are logged.
     pub(crate) logged: bool,
     /// Whether the end of some rank's lines was lost.
     pub(crate) lost: bool,
-    /// The calls.
     pub(crate) acts: Vec<Act, A>,
-    /// The call of each line.
+    /// The call of each line; and for each line the one before it of the same caller.
     pub(crate) act_at: Vec<u32, A>,
-    /// For each line the line before it of the same caller.
     pub(crate) before: Vec<u32, A>,
-    /// The rounds of agreement.
     pub(crate) agreements: Rounds<A>,
-    /// The rounds of barriers.
     pub(crate) barriers: Rounds<A>,
-    /// For each communicator the round that made it.
+    /// For each communicator: the round that made it; how many ranks it lacks; the first line that told of it; and, for each rank, whether it has it.
     pub(crate) made_by: Vec<u32, A>,
-    /// For each communicator how many ranks it lacks.
     pub(crate) lacks: Vec<u32, A>,
-    /// For each communicator the first line that told of it.
     pub(crate) told_at: Vec<u32, A>,
-    /// For each communicator and rank, 1 where the rank is a member.
     pub(crate) members: Vec<u32, A>,
     /// The communicator that each round of agreement made; none where nobody was told.
     pub(crate) makes: Vec<u32, A>,

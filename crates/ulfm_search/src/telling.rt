@@ -11,184 +11,6 @@ use ulfm_laws::FlagAnd;
 use ulfm_observed::{LogLine, Seen};
 use ulfm_script::{flag_digits, print_number, print_point};
 
-impl<A: Allocator + Copy> Study<A> {
-    /// Appends a round and its communicator.
-    fn say_round(&self, text: &mut Vec<u8, A>, words: &str, round: u32) -> Result<(), AllocError> {
-        let named = self.agreements.round(round as usize);
-        say_number(text, words, u32::from(named.round))?;
-        say_number(text, " of communicator ", u32::from(named.comm))
-    }
-
-    /// Appends why, in words.
-    pub(crate) fn say_why(
-        &self,
-        text: &mut Vec<u8, A>,
-        why: Why,
-        cycle: &[u32],
-    ) -> Result<(), AllocError> {
-        match why {
-            Why::Banned { ban, .. } => say(text, ban_words(ban)),
-            Why::TwoDecisions { one, other } => self.say_two(text, one, other),
-            Why::Value { act } => self.say_value(text, act),
-            Why::Error { act } | Why::Mixed { act } | Why::Context { act } => {
-                self.say_told(text, act, told_words(why))
-            }
-            Why::Pending { act } => self.say_pending(text, act),
-            Why::Unknown { round } => self.say_round(text, UNKNOWN, round),
-            Why::Undeclared { rank, .. } => {
-                say_number(text, "rank ", u32::from(rank))?;
-                say(text, " must have been declared failed, and no call did so")
-            }
-            Why::Place { .. } => say_place(text, why),
-            Why::Count { .. } => {
-                say(text, ONE_LIST)?;
-                say(text, ", and these replies fit none")
-            }
-            Why::Cycle => self.say_cycle(text, cycle),
-            Why::Revoked { .. } => say(text, "a communicator was revoked twice, or by nobody"),
-            Why::Missing { .. } => say(text, "a barrier was done that a member never began"),
-            Why::Choices => say(text, "no choice of what is left open explains these"),
-        }
-    }
-
-    /// Appends that two ranks were told two decisions.
-    fn say_two(&self, text: &mut Vec<u8, A>, one: u32, other: u32) -> Result<(), AllocError> {
-        if let Some(act) = self.act(one) {
-            say_number(text, "rank ", u32::from(act.rank))?;
-        }
-        if let Some(act) = self.act(other) {
-            say_number(text, " and rank ", u32::from(act.rank))?;
-            self.say_round(text, " were told two decisions of round ", act.round)?;
-        }
-        Ok(())
-    }
-
-    /// Appends what a rank was told.
-    fn say_told(&self, text: &mut Vec<u8, A>, act: u32, words: &str) -> Result<(), AllocError> {
-        if let Some(act) = self.act(act) {
-            say_number(text, "rank ", u32::from(act.rank))?;
-        }
-        say(text, words)
-    }
-
-    /// Appends that a poll was pending, though nobody was missing.
-    fn say_pending(&self, text: &mut Vec<u8, A>, act: u32) -> Result<(), AllocError> {
-        if let Some(act) = self.act(act) {
-            self.say_round(
-                text,
-                "pending, though all had taken part in round ",
-                act.round,
-            )?;
-        }
-        say(text, " when the poll began")
-    }
-
-    /// Appends a value that was told, and those that were given.
-    fn say_value(&self, text: &mut Vec<u8, A>, act: u32) -> Result<(), AllocError> {
-        let Some(act) = self.act(act) else {
-            return Ok(());
-        };
-        say_number(text, "rank ", u32::from(act.rank))?;
-        if let Some(
-            Seen::Agreed {
-                value: Some(value),
-                ..
-            },
-        ) = act.seen
-        {
-            say_flag(text, " was told ", value.bits)?;
-        }
-        self.say_round(text, " of round ", act.round)?;
-        self.say_given(text, &act)
-    }
-
-    /// Appends the values that were given to a round, and what they are together.
-    fn say_given(&self, text: &mut Vec<u8, A>, told: &Act) -> Result<(), AllocError> {
-        let deals = Deals::new(self)?;
-        let mut some = false;
-        let mut value = u64::MAX;
-        for rank in 0..self.ranks {
-            let start = deals.contribution(told.round, rank);
-            if let Some(act) = self.act(start) {
-                if self.is_member(act.comm, rank) {
-                    say_flag(text, joint(some), act.number)?;
-                    say_number(text, " by ", number(rank))?;
-                    some = true;
-                    value &= act.number;
-                }
-            }
-        }
-        say_flag(text, " is ", value)
-    }
-
-    /// Appends what goes round in a circle, from the greatest line on.
-    fn say_cycle(&self, text: &mut Vec<u8, A>, cycle: &[u32]) -> Result<(), AllocError> {
-        say(
-            text,
-            "each of these comes before the next, and the last before the first: ",
-        )?;
-        let plan = Plan::new(self)?;
-        let first = start_of(&plan, cycle);
-        let mut words = "";
-        for i in 0..cycle.len() {
-            let turned = i.wrapping_add(first);
-            let place = if turned < cycle.len() {
-                turned
-            } else {
-                turned.wrapping_sub(cycle.len())
-            };
-            say(text, words)?;
-            self.say_node(text, &plan, crate::tables::at(cycle, place))?;
-            words = "; ";
-        }
-        if tells_failure(&plan, cycle) {
-            say(text, "; ")?;
-            say(text, ONE_LIST)?;
-        }
-        Ok(())
-    }
-
-    /// Appends what a node is.
-    fn say_node(&self, text: &mut Vec<u8, A>, plan: &Plan<A>, node: u32) -> Result<(), AllocError> {
-        match plan.part(node) {
-            Part::Line(line) => say_number(text, "line ", line_number(line)),
-            Part::Failure(count) => {
-                say_number(text, "the ", count)?;
-                say(text, ". failure is declared")
-            }
-            Part::Look(act) => self.say_act(text, "the look of rank ", act),
-            Part::Settle(act) => self.say_act(text, "what was given in rank ", act),
-            Part::Point(act) => self.say_act(text, "the point of rank ", act),
-            Part::Decision(round) => self.say_round(text, "the decision of round ", round),
-            Part::Spawn(comm) => say_number(text, "the making of communicator ", u32::from(comm)),
-            Part::Revocation(comm) => {
-                say_number(text, "the revocation of communicator ", u32::from(comm))
-            }
-        }
-    }
-
-    /// Appends whose call it is, and in which line.
-    fn say_act(&self, text: &mut Vec<u8, A>, words: &str, act: u32) -> Result<(), AllocError> {
-        say(text, words)?;
-        if let Some(act) = self.act(act) {
-            print_number(text, act.rank)?;
-            say_number(text, "'s call in line ", line_number(act.call))?;
-        }
-        Ok(())
-    }
-
-    /// Chooses the lines of a cycle.
-    pub(crate) fn choose_cycle(&self, cycle: &[u32], chosen: &mut [u32]) -> Result<(), AllocError> {
-        let plan = Plan::new(self)?;
-        for node in cycle {
-            if let Part::Line(line) = plan.part(*node) {
-                crate::tables::put(chosen, line as usize, 1);
-            }
-        }
-        Ok(())
-    }
-}
-
 /// Appends a text.
 fn say<A: Allocator>(text: &mut Vec<u8, A>, words: &str) -> Result<(), AllocError> {
     text.extend_from_slice(words.as_bytes())
@@ -214,6 +36,50 @@ fn say_flag<A: Allocator>(text: &mut Vec<u8, A>, words: &str, bits: u64) -> Resu
 /// The number of a line in the text: the header is line 1.
 fn line_number(line: u32) -> u32 {
     if line < 0xffff_fff0 { line + 2 } else { 0 }
+}
+
+/// Appends a round and its communicator.
+fn say_round<A: Allocator + Copy>(
+    text: &mut Vec<u8, A>,
+    study: &Study<A>,
+    words: &str,
+    round: u32,
+) -> Result<(), AllocError> {
+    let named = study.agreements.round(round as usize);
+    say_number(text, words, u32::from(named.round))?;
+    say_number(text, " of communicator ", u32::from(named.comm))
+}
+
+/// Appends why, in words.
+pub(crate) fn say_why<A: Allocator + Copy>(
+    text: &mut Vec<u8, A>,
+    study: &Study<A>,
+    why: Why,
+    cycle: &[u32],
+) -> Result<(), AllocError> {
+    match why {
+        Why::Banned { ban, .. } => say(text, ban_words(ban)),
+        Why::TwoDecisions { one, other } => say_two(text, study, one, other),
+        Why::Value { act } => say_value(text, study, act),
+        Why::Error { act } | Why::Mixed { act } | Why::Context { act } => {
+            say_told(text, study, act, told_words(why))
+        }
+        Why::Pending { act } => say_pending(text, study, act),
+        Why::Unknown { round } => say_round(text, study, UNKNOWN, round),
+        Why::Undeclared { rank, .. } => {
+            say_number(text, "rank ", u32::from(rank))?;
+            say(text, " must have been declared failed, and no call did so")
+        }
+        Why::Place { .. } => say_place(text, why),
+        Why::Count { .. } => {
+            say(text, ONE_LIST)?;
+            say(text, ", and these replies fit none")
+        }
+        Why::Cycle => say_cycle(text, study, cycle),
+        Why::Revoked { .. } => say(text, "a communicator was revoked twice, or by nobody"),
+        Why::Missing { .. } => say(text, "a barrier was done that a member never began"),
+        Why::Choices => say(text, "no choice of what is left open explains these"),
+    }
 }
 
 /// The rule by which this profile is stricter than the text of ULFM, where it is the one that is broken.
@@ -280,9 +146,133 @@ fn ban_words(ban: Ban) -> &'static str {
     }
 }
 
+/// Appends that two ranks were told two decisions.
+fn say_two<A: Allocator + Copy>(
+    text: &mut Vec<u8, A>,
+    study: &Study<A>,
+    one: u32,
+    other: u32,
+) -> Result<(), AllocError> {
+    if let Some(act) = study.act(one) {
+        say_number(text, "rank ", u32::from(act.rank))?;
+    }
+    if let Some(act) = study.act(other) {
+        say_number(text, " and rank ", u32::from(act.rank))?;
+        say_round(text, study, " were told two decisions of round ", act.round)?;
+    }
+    Ok(())
+}
+
+/// Appends what a rank was told.
+fn say_told<A: Allocator + Copy>(
+    text: &mut Vec<u8, A>,
+    study: &Study<A>,
+    act: u32,
+    words: &str,
+) -> Result<(), AllocError> {
+    if let Some(act) = study.act(act) {
+        say_number(text, "rank ", u32::from(act.rank))?;
+    }
+    say(text, words)
+}
+
+/// Appends that a poll was pending, though nobody was missing.
+fn say_pending<A: Allocator + Copy>(
+    text: &mut Vec<u8, A>,
+    study: &Study<A>,
+    act: u32,
+) -> Result<(), AllocError> {
+    if let Some(act) = study.act(act) {
+        say_round(
+            text,
+            study,
+            "pending, though all had taken part in round ",
+            act.round,
+        )?;
+    }
+    say(text, " when the poll began")
+}
+
+/// Appends a value that was told, and those that were given.
+fn say_value<A: Allocator + Copy>(
+    text: &mut Vec<u8, A>,
+    study: &Study<A>,
+    act: u32,
+) -> Result<(), AllocError> {
+    let Some(act) = study.act(act) else {
+        return Ok(());
+    };
+    say_number(text, "rank ", u32::from(act.rank))?;
+    if let Some(
+        Seen::Agreed {
+            value: Some(value),
+            ..
+        },
+    ) = act.seen
+    {
+        say_flag(text, " was told ", value.bits)?;
+    }
+    say_round(text, study, " of round ", act.round)?;
+    say_given(text, study, &act)
+}
+
 /// What stands before a value that was given: behind others, or as the first.
 fn joint(others: bool) -> &'static str {
     if others { ", " } else { ", but the AND of " }
+}
+
+/// Appends the values that were given to a round, and what they are together.
+fn say_given<A: Allocator + Copy>(
+    text: &mut Vec<u8, A>,
+    study: &Study<A>,
+    told: &Act,
+) -> Result<(), AllocError> {
+    let deals = Deals::new(study)?;
+    let mut some = false;
+    let mut value = u64::MAX;
+    for rank in 0..study.ranks {
+        let start = deals.contribution(study, told.round, rank);
+        if let Some(act) = study.act(start) {
+            if study.is_member(act.comm, rank) {
+                say_flag(text, joint(some), act.number)?;
+                say_number(text, " by ", number(rank))?;
+                some = true;
+                value &= act.number;
+            }
+        }
+    }
+    say_flag(text, " is ", value)
+}
+
+/// Appends what goes round in a circle, from the greatest line on.
+fn say_cycle<A: Allocator + Copy>(
+    text: &mut Vec<u8, A>,
+    study: &Study<A>,
+    cycle: &[u32],
+) -> Result<(), AllocError> {
+    say(
+        text,
+        "each of these comes before the next, and the last before the first: ",
+    )?;
+    let plan = Plan::new(study)?;
+    let first = start_of(&plan, cycle);
+    let mut words = "";
+    for i in 0..cycle.len() {
+        let turned = i.wrapping_add(first);
+        let place = if turned < cycle.len() {
+            turned
+        } else {
+            turned.wrapping_sub(cycle.len())
+        };
+        say(text, words)?;
+        say_node(text, study, &plan, crate::tables::at(cycle, place))?;
+        words = "; ";
+    }
+    if tells_failure(&plan, cycle) {
+        say(text, "; ")?;
+        say(text, ONE_LIST)?;
+    }
+    Ok(())
 }
 
 /// Whether a declaration is in a cycle.
@@ -310,6 +300,45 @@ fn start_of<A: Allocator + Copy>(plan: &Plan<A>, cycle: &[u32]) -> usize {
     place
 }
 
+/// Appends what a node is.
+fn say_node<A: Allocator + Copy>(
+    text: &mut Vec<u8, A>,
+    study: &Study<A>,
+    plan: &Plan<A>,
+    node: u32,
+) -> Result<(), AllocError> {
+    match plan.part(node) {
+        Part::Line(line) => say_number(text, "line ", line_number(line)),
+        Part::Failure(count) => {
+            say_number(text, "the ", count)?;
+            say(text, ". failure is declared")
+        }
+        Part::Look(act) => say_act(text, study, "the look of rank ", act),
+        Part::Settle(act) => say_act(text, study, "what was given in rank ", act),
+        Part::Point(act) => say_act(text, study, "the point of rank ", act),
+        Part::Decision(round) => say_round(text, study, "the decision of round ", round),
+        Part::Spawn(comm) => say_number(text, "the making of communicator ", u32::from(comm)),
+        Part::Revocation(comm) => {
+            say_number(text, "the revocation of communicator ", u32::from(comm))
+        }
+    }
+}
+
+/// Appends whose call it is, and in which line.
+fn say_act<A: Allocator + Copy>(
+    text: &mut Vec<u8, A>,
+    study: &Study<A>,
+    words: &str,
+    act: u32,
+) -> Result<(), AllocError> {
+    say(text, words)?;
+    if let Some(act) = study.act(act) {
+        print_number(text, act.rank)?;
+        say_number(text, "'s call in line ", line_number(act.call))?;
+    }
+    Ok(())
+}
+
 /// Appends lines of a log, each with its number.
 pub(crate) fn say_lines<A: Allocator + Copy, B: Allocator>(
     text: &mut Vec<u8, A>,
@@ -324,6 +353,21 @@ pub(crate) fn say_lines<A: Allocator + Copy, B: Allocator>(
             say(text, ": ")?;
             ulfm_observed::printing::print_item(text, &mut last, &line.item, &line.group)?;
             say(text, "\n")?;
+        }
+    }
+    Ok(())
+}
+
+/// Chooses the lines of a cycle.
+pub(crate) fn choose_cycle<A: Allocator + Copy>(
+    study: &Study<A>,
+    cycle: &[u32],
+    chosen: &mut [u32],
+) -> Result<(), AllocError> {
+    let plan = Plan::new(study)?;
+    for node in cycle {
+        if let Part::Line(line) = plan.part(*node) {
+            crate::tables::put(chosen, line as usize, 1);
         }
     }
     Ok(())

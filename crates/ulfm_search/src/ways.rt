@@ -1,5 +1,5 @@
 //! The ways of each fork, and what each asks of an order.
-use crate::acts::{Act, Kind, Standing};
+use crate::acts::{Kind, Standing};
 use crate::choice::{Choice, Fork, rank_at};
 use crate::deals::Deals;
 use crate::plan::Plan;
@@ -7,102 +7,146 @@ use crate::study::Study;
 use crate::tables::{NONE, number, small};
 use std::alloc::{AllocError, Allocator};
 
-impl<A: Allocator + Copy> Plan<A> {
-    /// Puts in what a choice asks; false where it can't be.
-    pub(crate) fn choose(
-        &mut self,
-        deals: &Deals<'_, A>,
-        choice: Choice,
-    ) -> Result<bool, AllocError> {
-        match choice.fork {
-            Fork::Open { .. } | Fork::Revoker { .. } => Ok(true),
-            Fork::Maker { .. } => Ok(may_make(deals, choice.way)),
-            Fork::Knew { round, count, .. } => self.choose_knew(deals, choice, round, count),
-            Fork::Missing { act, .. }
-            | Fork::Failed { act, .. }
-            | Fork::Absent { act, .. }
-            | Fork::Seen { act, .. } => match deals.study.act(act) {
-                Some(poll) => self.choose_polled(deals, choice, &poll, act),
-                None => Ok(false),
-            },
+/// Puts in what a choice asks; false where it can't be.
+pub(crate) fn choose<A: Allocator + Copy>(
+    plan: &mut Plan<A>,
+    study: &Study<A>,
+    deals: &Deals<A>,
+    choice: Choice,
+) -> Result<bool, AllocError> {
+    match choice.fork {
+        Fork::Knew {
+            round,
+            count,
+            first,
+        } => {
+            let rank = rank_at(first, choice.way, study.ranks);
+            choose_knew(plan, study, deals, round, count, rank)?;
+            Ok(true)
         }
-    }
-
-    /// A rank knew the last failure of a round's group.
-    fn choose_knew(
-        &mut self,
-        deals: &Deals<'_, A>,
-        choice: Choice,
-        round: u32,
-        count: u32,
-    ) -> Result<bool, AllocError> {
-        let rank = choice.rank(deals.study.ranks);
-        let start = deals.contribution(round, rank);
-        if start == NONE {
-            self.not_before(small(number(rank)), count, NONE);
-        } else {
-            let look = self.look(start);
-            self.after_failures(count, look)?;
+        Fork::Missing { act, first } => {
+            let rank = rank_at(first, choice.way, study.ranks);
+            choose_missing(plan, study, deals, act, rank)
         }
-        Ok(true)
-    }
-
-    /// Puts in what a choice about a poll asks; false where it can't be.
-    fn choose_polled(
-        &mut self,
-        deals: &Deals<'_, A>,
-        choice: Choice,
-        poll: &Act,
-        act: u32,
-    ) -> Result<bool, AllocError> {
-        let rank = choice.rank(deals.study.ranks);
-        let point = self.point(act);
-        match choice.fork {
-            // the rank was missing in its round when the poll began
-            Fork::Missing { .. } => {
-                self.alive(small(number(rank)), poll.call)?;
-                let start = deals.contribution(poll.round, rank);
-                self.settles_behind(poll.call, start)?;
-            }
-            // its arrival was missing at the barrier's point, and it had failed
-            Fork::Failed { .. } => {
-                self.shows(small(number(rank)), point)?;
-                self.settles_behind(point, deals.arrival(poll.round, rank))?;
-            }
-            // its arrival was missing where the barrier's poll was pending
-            Fork::Absent { .. } => {
-                self.alive(small(number(rank)), poll.call)?;
-                self.settles_behind(point, deals.arrival(poll.round, rank))?;
-            }
-            // it wasn't seen failed
-            _ if choice.way == 0 => self.alive(small(number(rank)), poll.call)?,
-            // or it had arrived
-            _ => {
-                let start = deals.arrival(poll.round, rank);
-                if start == NONE {
-                    return Ok(false);
-                }
-                let settle = self.settle(start);
-                self.edge(settle, point)?;
-            }
+        Fork::Failed { act, first } => {
+            let rank = rank_at(first, choice.way, study.ranks);
+            let point = plan.point(act);
+            plan.shows(small(number(rank)), point)?;
+            late_arrival(plan, study, deals, act, rank)
         }
-        Ok(true)
-    }
-
-    /// A start's contribution or arrival comes behind a node, if there is one.
-    fn settles_behind(&mut self, node: u32, start: u32) -> Result<(), AllocError> {
-        if start != NONE {
-            let settle = self.settle(start);
-            self.edge(node, settle)?;
+        Fork::Absent { act, first } => {
+            let rank = rank_at(first, choice.way, study.ranks);
+            choose_absent(plan, study, deals, act, rank)
         }
-        Ok(())
+        Fork::Seen { act, rank } => choose_seen(plan, study, deals, act, rank, choice.way),
+        Fork::Maker { .. } => Ok(may_make(study, deals, choice.way)),
+        _ => Ok(true),
     }
 }
 
 /// Whether a round may have made a communicator that nobody was told of: by shrinks alone, and nobody was told how it ended.
-fn may_make<A: Allocator + Copy>(deals: &Deals<'_, A>, round: u32) -> bool {
+fn may_make<A: Allocator + Copy>(study: &Study<A>, deals: &Deals<A>, round: u32) -> bool {
     let deal = deals.deal(round);
-    deals.study.made(round) == NONE && deal.told == NONE && deal.shrinks && !deal.agrees
+    study.made(round) == NONE && deal.told == NONE && deal.shrinks && !deal.agrees
+}
+
+/// A rank knew the last failure of a round's group.
+fn choose_knew<A: Allocator + Copy>(
+    plan: &mut Plan<A>,
+    study: &Study<A>,
+    deals: &Deals<A>,
+    round: u32,
+    count: u32,
+    rank: usize,
+) -> Result<(), AllocError> {
+    let start = deals.contribution(study, round, rank);
+    if start == NONE {
+        plan.not_before(small(number(rank)), count, NONE);
+        return Ok(());
+    }
+    let look = plan.look(start);
+    plan.after_failures(count, look)
+}
+
+/// A rank was missing in a round when a poll began.
+fn choose_missing<A: Allocator + Copy>(
+    plan: &mut Plan<A>,
+    study: &Study<A>,
+    deals: &Deals<A>,
+    act: u32,
+    rank: usize,
+) -> Result<bool, AllocError> {
+    let Some(poll) = study.act(act) else {
+        return Ok(false);
+    };
+    plan.alive(small(number(rank)), poll.call)?;
+    let start = deals.contribution(study, poll.round, rank);
+    if start != NONE {
+        let settle = plan.settle(start);
+        plan.edge(poll.call, settle)?;
+    }
+    Ok(true)
+}
+
+/// A rank's arrival was missing where a barrier's poll was pending.
+fn choose_absent<A: Allocator + Copy>(
+    plan: &mut Plan<A>,
+    study: &Study<A>,
+    deals: &Deals<A>,
+    act: u32,
+    rank: usize,
+) -> Result<bool, AllocError> {
+    let Some(poll) = study.act(act) else {
+        return Ok(false);
+    };
+    plan.alive(small(number(rank)), poll.call)?;
+    late_arrival(plan, study, deals, act, rank)
+}
+
+/// An arrival comes behind a barrier's point.
+fn late_arrival<A: Allocator + Copy>(
+    plan: &mut Plan<A>,
+    study: &Study<A>,
+    deals: &Deals<A>,
+    act: u32,
+    rank: usize,
+) -> Result<bool, AllocError> {
+    let Some(poll) = study.act(act) else {
+        return Ok(false);
+    };
+    let start = deals.arrival(study, poll.round, rank);
+    if start != NONE {
+        let point = plan.point(act);
+        let settle = plan.settle(start);
+        plan.edge(point, settle)?;
+    }
+    Ok(true)
+}
+
+/// A member that a pending barrier lacks wasn't seen failed, or it had arrived.
+fn choose_seen<A: Allocator + Copy>(
+    plan: &mut Plan<A>,
+    study: &Study<A>,
+    deals: &Deals<A>,
+    act: u32,
+    rank: u16,
+    way: u32,
+) -> Result<bool, AllocError> {
+    let Some(poll) = study.act(act) else {
+        return Ok(false);
+    };
+    if way == 0 {
+        plan.alive(rank, poll.call)?;
+        return Ok(true);
+    }
+    let start = deals.arrival(study, poll.round, rank as usize);
+    if start == NONE {
+        return Ok(false);
+    }
+    let point = plan.point(act);
+    let settle = plan.settle(start);
+    plan.edge(settle, point)?;
+    Ok(true)
 }
 
 /// The next way of a fork from a number on that may be chosen; none where all were tried.

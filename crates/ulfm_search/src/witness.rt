@@ -16,29 +16,22 @@ use ulfm_observed::{Item, LogLine, Seen, Step};
 #[derive(Drop)]
 pub(crate) struct Writer<A: Allocator> {
     alloc: A,
-    /// The lines.
     pub(crate) steps: Vec<Step<A>, A>,
-    /// How many events there were.
+    /// How many events there were, and how many failures.
     events: u32,
-    /// How many failures there were.
     failures: u32,
-    /// For each call how many events there were when it began.
+    /// For each call how many events there were when it began, and how many failures its look found.
     begun: Vec<u32, A>,
-    /// For each call how many failures its look found.
     looked: Vec<u32, A>,
     /// How many events there were at a barrier's point.
     pointed: Vec<u32, A>,
-    /// For each rank the context ids that it doesn't hold.
+    /// For each rank the context ids that it doesn't hold; for each communicator its id.
     free: Vec<u64, A>,
-    /// The context id of each communicator.
     contexts: Vec<u32, A>,
-    /// For each round the flags of its contributors, combined.
+    /// For each round the value, the size of its failed group, whether it has an error, and the ids free at all.
     value: Vec<u64, A>,
-    /// For each round the size of its failed group.
     pub(crate) known: Vec<u32, A>,
-    /// For each round the least that a contributor had acknowledged.
     acked: Vec<u32, A>,
-    /// For each round the context ids that are free at all contributors.
     mask: Vec<u64, A>,
     /// The call whose reply tells another context id, if there is one.
     pub(crate) wrong: u32,
@@ -127,315 +120,208 @@ fn contribution_of(offer: Offer<FlagAnd>, known: u32, acked: u16) -> Contributio
 /// What a trace is written from.
 #[derive(Drop)]
 pub(crate) struct Source<'a, A: Allocator, B: Allocator> {
-    /// What is known of the log.
     pub(crate) study: &'a Study<A>,
-    /// The order of the nodes.
     pub(crate) plan: &'a Plan<A>,
-    /// What is known of the rounds.
-    pub(crate) deals: &'a Deals<'a, A>,
-    /// The lines of the log.
+    pub(crate) deals: &'a Deals<A>,
     pub(crate) lines: &'a [LogLine<B>],
-    /// The call that revoked each communicator.
+    /// The call that revoked each communicator, and the round that made each.
     pub(crate) revokers: &'a [u32],
-    /// The round that made each communicator.
     pub(crate) makers: &'a [u32],
 }
 
-impl<A: Allocator + Copy, B: Allocator> Source<'_, A, B> {
-    /// Writes the whole trace.
-    pub(crate) fn write(&self) -> Result<Writer<A>, AllocError> {
-        let mut writer = Writer::new(self.study)?;
-        for node in &self.plan.graph.order {
-            match self.plan.part(*node) {
-                Part::Line(line) => self.write_line(&mut writer, line)?,
-                Part::Failure(count) => self.write_failure(&mut writer, count)?,
-                Part::Look(place) => self.write_look(&mut writer, place)?,
-                Part::Settle(place) => self.write_settle(&mut writer, place)?,
-                Part::Point(place) => self.write_point(&mut writer, place)?,
-                Part::Decision(round) => self.write_marks(&mut writer, round)?,
-                Part::Spawn(comm) => self.write_spawn(&mut writer, comm)?,
-                Part::Revocation(comm) => self.write_revocation(&mut writer, comm)?,
-            }
-        }
-        Ok(writer)
-    }
-
-    /// Writes a line of the log.
-    fn write_line(&self, writer: &mut Writer<A>, line: u32) -> Result<(), AllocError> {
-        let place = at(&self.study.act_at, line as usize);
-        let Some(act) = self.study.act(place) else {
-            return Ok(());
-        };
-        if act.call == line {
-            return self.write_call(writer, &act, place);
-        }
-        self.write_reply(writer, &act, place)
-    }
-
-    /// Writes a call, and its look where it is made at once.
-    fn write_call(&self, writer: &mut Writer<A>, act: &Act, place: u32) -> Result<(), AllocError> {
-        put(&mut writer.begun, place as usize, writer.events);
-        if let Some(line) = self.lines.get(act.call as usize) {
-            if let Item::Called { call, padded } = line.item {
-                writer.write(Line::Called { call, padded }, true)?;
-            }
-        }
-        if self.looks_at_once(act, place) {
-            return writer.look(place, act.rank);
-        }
-        Ok(())
-    }
-
-    /// Whether a call's look is made as it begins.
-    fn looks_at_once(&self, act: &Act, place: u32) -> bool {
-        match act.standing {
-            Standing::Unseen => false,
-            Standing::Refused => act.reply != NONE,
-            Standing::Dead => true,
-            Standing::Open => act.is(Kind::Revoke) && at(self.revokers, act.comm as usize) == place,
-            Standing::Answered => match act.kind {
-                Kind::Poll => !act.refused(Refusal::ProcFailed),
-                Kind::Revoke | Kind::IsRevoked | Kind::Free => true,
-                _ => false,
-            },
+/// Writes the whole trace.
+pub(crate) fn write<A: Allocator + Copy, B: Allocator>(
+    source: &Source<'_, A, B>,
+) -> Result<Writer<A>, AllocError> {
+    let mut writer = Writer::new(source.study)?;
+    for node in &source.plan.graph.order {
+        match source.plan.part(*node) {
+            Part::Line(line) => write_line(&mut writer, source, line)?,
+            Part::Failure(count) => write_failure(&mut writer, source, count)?,
+            Part::Look(place) => write_look(&mut writer, source, place)?,
+            Part::Settle(place) => write_settle(&mut writer, source, place)?,
+            Part::Point(place) => write_point(&mut writer, source, place)?,
+            Part::Decision(round) => write_marks(&mut writer, source, round)?,
+            Part::Spawn(comm) => write_spawn(&mut writer, source, comm)?,
+            Part::Revocation(comm) => write_revocation(&mut writer, source, comm)?,
         }
     }
+    Ok(writer)
+}
 
-    /// Whether a call's look is a node of its own.
-    fn looks_apart(&self, act: &Act, place: u32) -> bool {
-        match act.standing {
-            Standing::Answered => act.starts() || act.is(Kind::Get) || act.is(Kind::Ack),
-            Standing::Open => act.starts() && self.takes_effect(act, place),
+/// Writes a line of the log.
+fn write_line<A: Allocator + Copy, B: Allocator>(
+    writer: &mut Writer<A>,
+    source: &Source<'_, A, B>,
+    line: u32,
+) -> Result<(), AllocError> {
+    let place = at(&source.study.act_at, line as usize);
+    let Some(act) = source.study.act(place) else {
+        return Ok(());
+    };
+    if act.call == line {
+        return write_call(writer, source, &act, place);
+    }
+    write_reply(writer, source, &act, place)
+}
+
+/// Writes a call, and its look where it is made at once.
+fn write_call<A: Allocator + Copy, B: Allocator>(
+    writer: &mut Writer<A>,
+    source: &Source<'_, A, B>,
+    act: &Act,
+    place: u32,
+) -> Result<(), AllocError> {
+    put(&mut writer.begun, place as usize, writer.events);
+    if let Some(line) = source.lines.get(act.call as usize) {
+        if let Item::Called { call, padded } = line.item {
+            writer.write(Line::Called { call, padded }, true)?;
+        }
+    }
+    if looks_at_once(source, act, place) {
+        return writer.look(place, act.rank);
+    }
+    Ok(())
+}
+
+/// Whether a call's look is made as it begins.
+fn looks_at_once<A: Allocator + Copy, B: Allocator>(
+    source: &Source<'_, A, B>,
+    act: &Act,
+    place: u32,
+) -> bool {
+    match act.standing {
+        Standing::Unseen => false,
+        Standing::Refused => act.reply != NONE,
+        Standing::Dead => true,
+        Standing::Open => act.is(Kind::Revoke) && at(source.revokers, act.comm as usize) == place,
+        Standing::Answered => match act.kind {
+            Kind::Poll => !act.refused(Refusal::ProcFailed),
+            Kind::Revoke | Kind::IsRevoked | Kind::Free => true,
             _ => false,
-        }
+        },
     }
+}
 
-    /// Whether an open start took effect.
-    fn takes_effect(&self, act: &Act, place: u32) -> bool {
-        let done = act.is(Kind::Barrier) && at(&self.deals.done, act.round as usize) == 1;
-        done || at(&self.deals.counted, place as usize) == 1
+/// Whether a call's look is a node of its own.
+fn looks_apart<A: Allocator + Copy, B: Allocator>(
+    source: &Source<'_, A, B>,
+    act: &Act,
+    place: u32,
+) -> bool {
+    match act.standing {
+        Standing::Answered => act.starts() || act.is(Kind::Get) || act.is(Kind::Ack),
+        Standing::Open => act.starts() && takes_effect(source, act, place),
+        _ => false,
     }
+}
 
-    /// Writes a look that is a node of its own.
-    fn write_look(&self, writer: &mut Writer<A>, place: u32) -> Result<(), AllocError> {
-        let Some(act) = self.study.act(place) else {
-            return Ok(());
-        };
-        if !self.looks_apart(&act, place) {
-            return Ok(());
-        }
-        put(&mut writer.pointed, place as usize, writer.events);
-        writer.look(place, act.rank)
+/// Whether an open start took effect.
+fn takes_effect<A: Allocator + Copy, B: Allocator>(
+    source: &Source<'_, A, B>,
+    act: &Act,
+    place: u32,
+) -> bool {
+    let done = act.is(Kind::Barrier) && at(&source.deals.done, act.round as usize) == 1;
+    done || at(&source.deals.counted, place as usize) == 1
+}
+
+/// Writes a look that is a node of its own.
+fn write_look<A: Allocator + Copy, B: Allocator>(
+    writer: &mut Writer<A>,
+    source: &Source<'_, A, B>,
+    place: u32,
+) -> Result<(), AllocError> {
+    let Some(act) = source.study.act(place) else {
+        return Ok(());
+    };
+    if !looks_apart(source, &act, place) {
+        return Ok(());
     }
+    put(&mut writer.pointed, place as usize, writer.events);
+    writer.look(place, act.rank)
+}
 
-    /// Writes a declaration, if a rank stands at that place.
-    fn write_failure(&self, writer: &mut Writer<A>, count: u32) -> Result<(), AllocError> {
-        let rank = at(&self.plan.ranked, count as usize);
-        if rank == NONE {
-            return Ok(());
-        }
-        writer.failures = writer.failures.wrapping_add(1);
-        let rank = small(rank);
-        writer.happen(Caller::Outside, Event::Fail { rank })
+/// Writes a declaration, if a rank stands at that place.
+fn write_failure<A: Allocator + Copy, B: Allocator>(
+    writer: &mut Writer<A>,
+    source: &Source<'_, A, B>,
+    count: u32,
+) -> Result<(), AllocError> {
+    let rank = at(&source.plan.ranked, count as usize);
+    if rank == NONE {
+        return Ok(());
     }
+    writer.failures = writer.failures.wrapping_add(1);
+    let rank = small(rank);
+    writer.happen(Caller::Outside, Event::Fail { rank })
+}
 
-    /// Writes a contribution or an arrival; behind it `started`, where the log doesn't have it, and the poll that ends a blocking call.
-    fn write_settle(&self, writer: &mut Writer<A>, place: u32) -> Result<(), AllocError> {
-        let Some(act) = self.study.act(place) else {
-            return Ok(());
-        };
-        if !act.starts() || !self.looks_apart(&act, place) {
-            return Ok(());
-        }
-        self.write_part(writer, &act, place)?;
-        if act.standing == Standing::Open || act.blocking {
-            let by = Caller::Rank(act.rank);
-            let point = writer.events;
-            let reply = Some(Reply::Started);
-            writer.write(Line::Replied { by, point, reply }, false)?;
-        }
-        if !act.blocking {
-            return Ok(());
-        }
-        put(&mut writer.begun, place as usize, writer.events);
-        let rank = act.rank;
-        let comm = act.comm;
-        let call = Call::Poll { rank, comm };
-        let padded = false;
-        writer.write(Line::Called { call, padded }, false)?;
-        if act.is(Kind::Barrier) && act.refused(Refusal::ProcFailed) {
-            return Ok(());
-        }
-        writer.look(place, act.rank)
+/// Writes a contribution or an arrival; behind it `started`, where the log doesn't have it, and the poll that ends a blocking call.
+fn write_settle<A: Allocator + Copy, B: Allocator>(
+    writer: &mut Writer<A>,
+    source: &Source<'_, A, B>,
+    place: u32,
+) -> Result<(), AllocError> {
+    let Some(act) = source.study.act(place) else {
+        return Ok(());
+    };
+    if !act.starts() || !looks_apart(source, &act, place) {
+        return Ok(());
     }
-
-    /// Writes a contribution or an arrival.
-    fn write_part(&self, writer: &mut Writer<A>, act: &Act, place: u32) -> Result<(), AllocError> {
+    write_part(writer, source, &act, place)?;
+    if act.standing == Standing::Open || act.blocking {
         let by = Caller::Rank(act.rank);
-        let rank = act.rank;
-        if act.is(Kind::Barrier) {
-            let round = self.study.barriers.round(act.round as usize);
-            let event = Event::Arrive {
-                comm: round.comm,
-                round: round.round,
-                rank,
-            };
-            return writer.happen(by, event);
-        }
-        let round = self.study.agreements.round(act.round as usize);
-        let lacks = self.study.lacking(act.comm);
-        let known = at(&writer.looked, place as usize).saturating_sub(lacks);
-        let offer = offer_of(writer, act);
-        note_counts(writer, act, known);
-        let given = contribution_of(offer, known, act.acked);
-        let event = Event::Settle {
+        let point = writer.events;
+        let reply = Some(Reply::Started);
+        writer.write(Line::Replied { by, point, reply }, false)?;
+    }
+    if !act.blocking {
+        return Ok(());
+    }
+    put(&mut writer.begun, place as usize, writer.events);
+    let rank = act.rank;
+    let comm = act.comm;
+    let call = Call::Poll { rank, comm };
+    let padded = false;
+    writer.write(Line::Called { call, padded }, false)?;
+    if act.is(Kind::Barrier) && act.refused(Refusal::ProcFailed) {
+        return Ok(());
+    }
+    writer.look(place, act.rank)
+}
+
+/// Writes a contribution or an arrival.
+fn write_part<A: Allocator + Copy, B: Allocator>(
+    writer: &mut Writer<A>,
+    source: &Source<'_, A, B>,
+    act: &Act,
+    place: u32,
+) -> Result<(), AllocError> {
+    let by = Caller::Rank(act.rank);
+    let rank = act.rank;
+    if act.is(Kind::Barrier) {
+        let round = source.study.barriers.round(act.round as usize);
+        let event = Event::Arrive {
             comm: round.comm,
             round: round.round,
             rank,
-            given,
         };
-        writer.happen(by, event)
+        return writer.happen(by, event);
     }
-
-    /// Writes the point of a barrier's poll, and its look where that is made there.
-    fn write_point(&self, writer: &mut Writer<A>, place: u32) -> Result<(), AllocError> {
-        let Some(act) = self.study.act(place) else {
-            return Ok(());
-        };
-        if !self.study.polls(&act) || act.standing != Standing::Answered {
-            return Ok(());
-        }
-        if self.study.asked_by(&act) != Kind::Barrier {
-            return Ok(());
-        }
-        put(&mut writer.pointed, place as usize, writer.events);
-        if act.refused(Refusal::ProcFailed) {
-            return writer.look(place, act.rank);
-        }
-        Ok(())
-    }
-
-    /// Writes the marks of those who are left out of a decided round.
-    fn write_marks(&self, writer: &mut Writer<A>, round: u32) -> Result<(), AllocError> {
-        if !self.deals.is_decided(round) {
-            return Ok(());
-        }
-        let Some(named) = self.study.agreements.list.get(round as usize) else {
-            return Ok(());
-        };
-        let named = *named;
-        for rank in 0..self.study.ranks {
-            let out = self.study.is_member(named.comm, rank)
-                && self.deals.contribution(round, rank) == NONE;
-            let place = at(&self.plan.place, rank);
-            if out && place != NONE {
-                let known = place.saturating_sub(self.study.lacking(named.comm));
-                let most = greatest(at(&writer.known, round as usize), known);
-                put(&mut writer.known, round as usize, most);
-                write_mark(writer, named.comm, named.round, small(number(rank)), known)?;
-            }
-        }
-        Ok(())
-    }
-
-    /// Writes that a communicator is made.
-    fn write_spawn(&self, writer: &mut Writer<A>, comm: u16) -> Result<(), AllocError> {
-        let round = at(self.makers, comm as usize);
-        if round == NONE || comm == 0 {
-            return Ok(());
-        }
-        let named = self.study.agreements.round(round as usize);
-        let id = lowest(bits_at(&writer.mask, round as usize));
-        put(&mut writer.contexts, comm as usize, id);
-        let event = Event::Spawn {
-            comm,
-            parent: named.comm,
-            round: named.round,
-        };
-        writer.happen(Caller::Outside, event)
-    }
-
-    /// Writes a revocation.
-    fn write_revocation(&self, writer: &mut Writer<A>, comm: u16) -> Result<(), AllocError> {
-        match self.study.act(at(self.revokers, comm as usize)) {
-            Some(act) => writer.happen(Caller::Rank(act.rank), Event::Revoke { comm }),
-            None => Ok(()),
-        }
-    }
-
-    /// Writes a reply.
-    fn write_reply(&self, writer: &mut Writer<A>, act: &Act, place: u32) -> Result<(), AllocError> {
-        let Some(seen) = act.seen else {
-            return Ok(());
-        };
-        let by = if act.is_ranks() {
-            Caller::Rank(act.rank)
-        } else {
-            Caller::Outside
-        };
-        let point = self.point_of(writer, act, place);
-        let mut group = Vec::new(writer.alloc);
-        if let Some(line) = self.lines.get(act.reply as usize) {
-            group.extend_from_slice(&line.group)?;
-        }
-        let size = small(number(group.len()));
-        let reply = Some(reply_of(writer, act, seen, size));
-        self.take_ids(writer, act, place);
-        let line = Line::Replied { by, point, reply };
-        writer.steps.push(Step {
-            line,
-            group,
-            logged: true,
-        })?;
-        Ok(())
-    }
-
-    /// Takes in which context ids a rank holds after a reply, and whether the reply tells of ids that it can't.
-    fn take_ids(&self, writer: &mut Writer<A>, act: &Act, place: u32) {
-        let counts = self.study.counts(act);
-        if counts {
-            if let Some(Seen::Shrunk { comm, context }) = act.seen {
-                take_context(writer, act, place, comm, context);
-            }
-        }
-        if act.kind == Kind::Free && act.standing == Standing::Answered {
-            let old = bits_at(&writer.free, act.rank as usize);
-            let id = bit_of(at(&writer.contexts, act.comm as usize));
-            put_bits(&mut writer.free, act.rank as usize, old | id);
-        }
-        if counts
-            && act.refused(Refusal::NoContext)
-            && bits_at(&writer.mask, act.round as usize) != 0
-        {
-            writer.wrong = place;
-        }
-    }
-
-    /// The point of a reply.
-    fn point_of(&self, writer: &Writer<A>, act: &Act, place: u32) -> u32 {
-        if act.standing != Standing::Answered {
-            return writer.events;
-        }
-        if act.is(Kind::Get) || act.is(Kind::Ack) {
-            return at(&writer.pointed, place as usize);
-        }
-        if let Some(Seen::Whole(Reply::Standing { revoked: false })) = act.seen {
-            return at(&writer.begun, place as usize);
-        }
-        if !self.study.polls(act) {
-            return writer.events;
-        }
-        if self.study.asked_by(act) == Kind::Barrier {
-            if act.refused(Refusal::IsRevoked) {
-                return writer.events;
-            }
-            return at(&writer.pointed, place as usize);
-        }
-        if tells_end(self.study, act) {
-            return writer.events;
-        }
-        at(&writer.begun, place as usize)
-    }
+    let round = source.study.agreements.round(act.round as usize);
+    let lacks = source.study.lacking(act.comm);
+    let known = at(&writer.looked, place as usize).saturating_sub(lacks);
+    let offer = offer_of(writer, act);
+    note_counts(writer, act, known);
+    let given = contribution_of(offer, known, act.acked);
+    let event = Event::Settle {
+        comm: round.comm,
+        round: round.round,
+        rank,
+        given,
+    };
+    writer.happen(by, event)
 }
 
 /// What a start offers, which is combined with what others offered to its round.
@@ -461,6 +347,55 @@ fn note_counts<A: Allocator + Copy>(writer: &mut Writer<A>, act: &Act, known: u3
     put(&mut writer.acked, cell, fewest);
 }
 
+/// Writes the point of a barrier's poll, and its look where that is made there.
+fn write_point<A: Allocator + Copy, B: Allocator>(
+    writer: &mut Writer<A>,
+    source: &Source<'_, A, B>,
+    place: u32,
+) -> Result<(), AllocError> {
+    let Some(act) = source.study.act(place) else {
+        return Ok(());
+    };
+    if !source.study.polls(&act) || act.standing != Standing::Answered {
+        return Ok(());
+    }
+    if source.study.asked_by(&act) != Kind::Barrier {
+        return Ok(());
+    }
+    put(&mut writer.pointed, place as usize, writer.events);
+    if act.refused(Refusal::ProcFailed) {
+        return writer.look(place, act.rank);
+    }
+    Ok(())
+}
+
+/// Writes the marks of those who are left out of a decided round.
+fn write_marks<A: Allocator + Copy, B: Allocator>(
+    writer: &mut Writer<A>,
+    source: &Source<'_, A, B>,
+    round: u32,
+) -> Result<(), AllocError> {
+    if !source.deals.is_decided(round) {
+        return Ok(());
+    }
+    let Some(named) = source.study.agreements.list.get(round as usize) else {
+        return Ok(());
+    };
+    let named = *named;
+    for rank in 0..source.study.ranks {
+        let out = source.study.is_member(named.comm, rank)
+            && source.deals.contribution(source.study, round, rank) == NONE;
+        let place = at(&source.plan.place, rank);
+        if out && place != NONE {
+            let known = place.saturating_sub(source.study.lacking(named.comm));
+            let most = greatest(at(&writer.known, round as usize), known);
+            put(&mut writer.known, round as usize, most);
+            write_mark(writer, named.comm, named.round, small(number(rank)), known)?;
+        }
+    }
+    Ok(())
+}
+
 /// Writes a mark.
 fn write_mark<A: Allocator + Copy>(
     writer: &mut Writer<A>,
@@ -479,6 +414,27 @@ fn write_mark<A: Allocator + Copy>(
         round,
         rank,
         known,
+    };
+    writer.happen(Caller::Outside, event)
+}
+
+/// Writes that a communicator is made.
+fn write_spawn<A: Allocator + Copy, B: Allocator>(
+    writer: &mut Writer<A>,
+    source: &Source<'_, A, B>,
+    comm: u16,
+) -> Result<(), AllocError> {
+    let round = at(source.makers, comm as usize);
+    if round == NONE || comm == 0 {
+        return Ok(());
+    }
+    let named = source.study.agreements.round(round as usize);
+    let id = lowest(bits_at(&writer.mask, round as usize));
+    put(&mut writer.contexts, comm as usize, id);
+    let event = Event::Spawn {
+        comm,
+        parent: named.comm,
+        round: named.round,
     };
     writer.happen(Caller::Outside, event)
 }
@@ -505,6 +461,73 @@ fn bit_of(id: u32) -> u64 {
         bit = bit.wrapping_add(bit);
     }
     0
+}
+
+/// Writes a revocation.
+fn write_revocation<A: Allocator + Copy, B: Allocator>(
+    writer: &mut Writer<A>,
+    source: &Source<'_, A, B>,
+    comm: u16,
+) -> Result<(), AllocError> {
+    match source.study.act(at(source.revokers, comm as usize)) {
+        Some(act) => writer.happen(Caller::Rank(act.rank), Event::Revoke { comm }),
+        None => Ok(()),
+    }
+}
+
+/// Writes a reply.
+fn write_reply<A: Allocator + Copy, B: Allocator>(
+    writer: &mut Writer<A>,
+    source: &Source<'_, A, B>,
+    act: &Act,
+    place: u32,
+) -> Result<(), AllocError> {
+    let Some(seen) = act.seen else {
+        return Ok(());
+    };
+    let by = if act.is_ranks() {
+        Caller::Rank(act.rank)
+    } else {
+        Caller::Outside
+    };
+    let point = point_of(writer, source, act, place);
+    let mut group = Vec::new(writer.alloc);
+    if let Some(line) = source.lines.get(act.reply as usize) {
+        group.extend_from_slice(&line.group)?;
+    }
+    let size = small(number(group.len()));
+    let reply = Some(reply_of(writer, act, seen, size));
+    take_ids(writer, source, act, place);
+    let line = Line::Replied { by, point, reply };
+    writer.steps.push(Step {
+        line,
+        group,
+        logged: true,
+    })?;
+    Ok(())
+}
+
+/// Takes in which context ids a rank holds after a reply, and whether the reply tells of ids that it can't.
+fn take_ids<A: Allocator + Copy, B: Allocator>(
+    writer: &mut Writer<A>,
+    source: &Source<'_, A, B>,
+    act: &Act,
+    place: u32,
+) {
+    let counts = source.study.counts(act);
+    if counts {
+        if let Some(Seen::Shrunk { comm, context }) = act.seen {
+            take_context(writer, act, place, comm, context);
+        }
+    }
+    if act.kind == Kind::Free && act.standing == Standing::Answered {
+        let old = bits_at(&writer.free, act.rank as usize);
+        let id = bit_of(at(&writer.contexts, act.comm as usize));
+        put_bits(&mut writer.free, act.rank as usize, old | id);
+    }
+    if counts && act.refused(Refusal::NoContext) && bits_at(&writer.mask, act.round as usize) != 0 {
+        writer.wrong = place;
+    }
 }
 
 /// Takes in that a rank was told of a new communicator: it holds its context id.
@@ -568,4 +591,35 @@ fn reply_of<A: Allocator + Copy>(
 /// A number as a byte; the greatest where it has more.
 fn byte(number: u32) -> u8 {
     if number < 255 { number as u8 } else { 255 }
+}
+
+/// The point of a reply.
+fn point_of<A: Allocator + Copy, B: Allocator>(
+    writer: &Writer<A>,
+    source: &Source<'_, A, B>,
+    act: &Act,
+    place: u32,
+) -> u32 {
+    if act.standing != Standing::Answered {
+        return writer.events;
+    }
+    if act.is(Kind::Get) || act.is(Kind::Ack) {
+        return at(&writer.pointed, place as usize);
+    }
+    if let Some(Seen::Whole(Reply::Standing { revoked: false })) = act.seen {
+        return at(&writer.begun, place as usize);
+    }
+    if !source.study.polls(act) {
+        return writer.events;
+    }
+    if source.study.asked_by(act) == Kind::Barrier {
+        if act.refused(Refusal::IsRevoked) {
+            return writer.events;
+        }
+        return at(&writer.pointed, place as usize);
+    }
+    if tells_end(source.study, act) {
+        return writer.events;
+    }
+    at(&writer.begun, place as usize)
 }
