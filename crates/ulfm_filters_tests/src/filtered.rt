@@ -1,7 +1,7 @@
 //! What a filter gives for a text that lies in memory.
 use std::alloc::Global;
 use std::test::Fail;
-use ulfm_devices::row::Row;
+use ulfm_devices::Row;
 use ulfm_filters::{Filter, run_filter};
 
 /// What a filter wrote and told, and its status.

@@ -1,7 +1,7 @@
 //! The worked rows.
 use crate::filtered::{migrate_rows, run_rows};
 use std::test::Fail;
-use ulfm_devices::row::{calls, steps, traces};
+use ulfm_devices::{calls, steps, traces};
 use ulfm_filters::Filter;
 
 #[test]

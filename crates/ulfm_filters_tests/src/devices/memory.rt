@@ -4,11 +4,11 @@ use crate::devices::told::require;
 use linked_list_allocator::LocalHeap;
 use std::alloc::Global;
 use std::test::Fail;
+use ulfm_devices::Row;
 use ulfm_devices::calls::{
     ACKNOWLEDGEMENTS_COUNT, MIGRATED, ONE_RANK, OUTPUT, REFUSALS_IN_ORDER, SCRIPT,
     SHRINKS_KEEP_ORDER,
 };
-use ulfm_devices::row::Row;
 use ulfm_devices::steps::CONTRIBUTION_IN_FLIGHT;
 use ulfm_devices::traces::{TRACE_JUDGED_A, TRACE_JUDGED_B};
 use ulfm_filters::{Filter, run_filter};

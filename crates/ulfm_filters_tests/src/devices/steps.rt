@@ -5,10 +5,9 @@ use crate::devices::writes::{Texts, fail_all_writes};
 use std::alloc::Global;
 use std::test::Fail;
 use ulfm_devices::calls::MIGRATED;
-use ulfm_devices::row::Row;
 use ulfm_devices::steps::CONTRIBUTION_IN_FLIGHT;
 use ulfm_devices::traces::TRACE_JUDGED_B;
-use ulfm_devices::{FailureMode, Pieces};
+use ulfm_devices::{FailureMode, Pieces, Row};
 use ulfm_filters::Filter;
 
 /// What is written for whole lines of a script before a fault of the reader, or for a trace: nothing.
