@@ -1,6 +1,6 @@
 //! The check of a trace's text, over anything that judges its lines.
 ghost use Rattle.std.specs.Prelude.{IfOk};
-ghost use Rattle.ulfm_script.specs.Buffers.{pending, unread};
+ghost use Rattle.ulfm_script.specs.Buffers.{line_of, pending, unread};
 ghost use Rattle.ulfm_lines.specs.Stepped.{TraceState};
 ghost use Rattle.ulfm_trace.specs.Checks.{Checks, ChecksThrough, JudgesLine, OpensJudge, TakesText};
 
@@ -62,7 +62,7 @@ fn check_through<J: LineJudge<A>, A: Allocator + Copy, R: Read>(
             }
             LineEnd::Newline => {}
         }
-        if let Some(why) = judge_line(&mut judge, number, &line, &mut group)? {
+        if let Some(why) = judge_line(&mut judge, number, input.line(&line), &mut group)? {
             let line = number;
             return Ok(Verdict::Illegal { line, why });
         }
@@ -70,16 +70,16 @@ fn check_through<J: LineJudge<A>, A: Allocator + Copy, R: Read>(
     unreachable!()
 }
 
-/// Takes a line up to its newline, and keeps one byte more of it than a line may have.
+/// Takes a line up to its newline, and keeps one byte more of it than a line may have: in the buffer, or in the vector.
 fn next_line<A: Allocator, R: Read>(
     input: &mut Input<A>,
     reader: &mut R,
     line: &mut Vec<u8, A>,
 ) -> Result<LineEnd, CheckFault>
     ensures { TakesText (unread R.remaining input.old reader.old) (unread R.remaining input.new reader.new) (pending input.new)
-        line.new.items result }
+        (line_of input.new line.new.items) result }
 {
-    match input.read_line(reader, line, LONGEST + 1) {
+    match input.next_line(reader, line, LONGEST + 1) {
         Ok(end) => Ok(end),
         Err(RunFault::Memory) => Err(CheckFault::Memory),
         // reading a line has no third fault
@@ -100,6 +100,7 @@ fn open_judge<J: LineJudge<A>, A: Allocator, R: Read>(
         LineEnd::Done => Ok(None),
         LineEnd::Cut => Ok(None),
         LineEnd::Newline => {
+            let line = input.line(line);
             if line.len() > LONGEST {
                 return Ok(None);
             }

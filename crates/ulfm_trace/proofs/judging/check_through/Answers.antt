@@ -1,4 +1,4 @@
-use Rattle.ulfm_script.specs.Buffers.{pending, unread}
+use Rattle.ulfm_script.specs.Buffers.{line_of, pending, unread}
 use Rattle.ulfm_model.specs.Traces.{nothing, said_by}
 use Rattle.ulfm_trace.specs.declared.verdict.CheckFault.TheVariants.{Memory}
 use Rattle.ulfm_trace.proofs.Checking.{ended_bad, ended_by_line, ended_by_read, ended_cut, ended_done, goes_first, goes_on, handed_on}
@@ -16,7 +16,7 @@ returns-in_err-next_line g c =
     let fault = c.in_err-next_line.field-0.0 in
     rw (handed_on c.from_residual-in_err-next_line.result fault c.from_residual-in_err-next_line.ensures.1)
     (ended_by_read (unread k c.args.input.now c.args.reader.now) (unread k c.lines.input c.lines.reader) (k c.next_line.new.reader)
-    (g.J.LineJudge.Stands c.lines.judge) (pending c.next_line.new.input) c.next_line.new.line.items c.lines.number fault c.lines.invariant
+    (g.J.LineJudge.Stands c.lines.judge) (pending c.next_line.new.input) (line_of c.next_line.new.input c.next_line.new.line.items) c.lines.number fault c.lines.invariant
     c.in_err-next_line.ensures)
 
 pub returns-in-Done : goal.returns-in-Done
@@ -49,8 +49,8 @@ returns-in-Some-2 g c =
     let j = rw c.in-Some-2.is at c.in_ok-why.ensures in
     ended_bad (unread k c.args.input.now c.args.reader.now) (unread k c.lines.input c.lines.reader) (k c.next_line.new.reader)
     (g.J.LineJudge.Stands c.lines.judge)
-    (g.J.LineJudge.Stands c.judge_line.new.judge) (pending c.next_line.new.input) e.0 c.deref.result.now c.next_line.new.line.items
-    c.lines.number c.in-Some-2.why i e.1 e.3 c.deref.ensures.value e.2 (j (said_by (nothing i.limits) i.trace) i.stands)
+    (g.J.LineJudge.Stands c.judge_line.new.judge) (pending c.next_line.new.input) e.0 c.line.result.now (line_of c.next_line.new.input c.next_line.new.line.items)
+    c.lines.number c.in-Some-2.why i e.1 e.3 (rw c.deref.ensures.value at c.line.ensures) e.2 (j (said_by (nothing i.limits) i.trace) i.stands)
 
 pub lines-preserved : goal.lines-preserved
 lines-preserved g c =
@@ -60,5 +60,5 @@ lines-preserved g c =
     let j = rw c.in_default-2.is at c.in_ok-why.ensures in
     goes_on (unread k c.args.input.now c.args.reader.now) (unread k c.lines.input c.lines.reader)
     (unread k c.next_line.new.input c.next_line.new.reader) (g.J.LineJudge.Stands c.lines.judge) (g.J.LineJudge.Stands c.judge_line.new.judge)
-    e.0 c.deref.result.now c.next_line.new.line.items c.lines.number i e.1 e.3 c.deref.ensures.value e.2
+    e.0 c.line.result.now (line_of c.next_line.new.input c.next_line.new.line.items) c.lines.number i e.1 e.3 (rw c.deref.ensures.value at c.line.ensures) e.2
     (j (said_by (nothing i.limits) i.trace) i.stands)
