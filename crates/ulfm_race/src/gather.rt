@@ -109,7 +109,6 @@ pub(crate) fn hear_all<R: Threads, G: Gate>(
     rt: &R,
     alloc: Global,
     world: &Shared,
-    said: &Replies,
     gate: &G,
     started: Vec<Started<'_, G>>,
     outside: &mut BookPass<FlagAnd>,
@@ -120,7 +119,7 @@ pub(crate) fn hear_all<R: Threads, G: Gate>(
     requires declared { IfSome gathered.plan.fail (IsDeclared outside.old.seen) }
     requires nothing { (gathered.replies.items ≡ []) × (gathered.group.items ≡ []) × (gathered.fault ≡ None) }
     requires room { vec_capacity gathered.replies ≡ gathered.plan.ranks }
-    requires started { Numbered (λ r one. StartIs (λ h. IsStarted world.now said.now gate.now gathered.plan r h.promise) outside.old.seen r one)
+    requires started { Numbered (λ r one. StartIs (λ h. IsStarted world.now gate.now gathered.plan r h.promise) outside.old.seen r one)
         0 started.items }
     requires all { length started.items ≡ gathered.plan.ranks }
     ensures answered { IfOk result (λ o. IsOutcome gathered.plan o.seen.seen (map (λ v. v.items) o.replies.items) o.group.items) }
@@ -132,7 +131,7 @@ pub(crate) fn hear_all<R: Threads, G: Gate>(
     let mut gathered = gathered;
     let plan = gathered.plan;
     for one in started {
-        let heard = hear(rt, alloc, world, said, gate, plan, one, outside);
+        let heard = hear(rt, alloc, world, gate, plan, one, outside);
         gathered.take_in(heard);
     }
     let Gathered {
@@ -156,7 +155,6 @@ fn hear<'a, R: Threads, G: Gate>(
     rt: &R,
     alloc: Global,
     world: &Shared,
-    said: &Replies,
     gate: &G,
     plan: Plan,
     one: Started<'a, G>,
@@ -164,18 +162,18 @@ fn hear<'a, R: Threads, G: Gate>(
 ) -> Result<Heard, RaceFault>
     requires limits { world.now.limits ≡ limits_of plan }
     requires of { IsView flag_meld (view_of flag_pack world.now outside.old) }
-    requires one { (r : ℕ) × StartIs (λ h. IsStarted world.now said.now gate.now plan r h.promise) outside.old.seen r one }
+    requires one { (r : ℕ) × StartIs (λ h. IsStarted world.now gate.now plan r h.promise) outside.old.seen r one }
     ensures of { IsView flag_meld (view_of flag_pack world.now outside.new) }
     ensures seen { IsPrefix outside.old.seen outside.new.seen }
-    ensures heard { (r : ℕ) → StartIs (λ h. IsStarted world.now said.now gate.now plan r h.promise) outside.old.seen r one.entry
+    ensures heard { (r : ℕ) → StartIs (λ h. IsStarted world.now gate.now plan r h.promise) outside.old.seen r one.entry
         → MatchResult result (λ x. IsHeard plan outside.new.seen r x.replies.items x.made x.group.items × WasLet (G.may_say gate.now r) x.replies.items)
         (StopsFor ⊤ (G.may_say gate.now r)) }
-    ensures ended { (r : ℕ) → StartIs (λ h. IsStarted world.now said.now gate.now plan r h.promise) outside.old.seen r one.entry
+    ensures ended { (r : ℕ) → StartIs (λ h. IsStarted world.now gate.now plan r h.promise) outside.old.seen r one.entry
         → IsEnded plan outside.new.seen r }
     ensures still { outside.new.steps ≡ outside.old.steps }
 {
     match one {
-        Ok(handle) => hear_thread(rt, alloc, world, said, handle, outside),
+        Ok(handle) => hear_thread(rt, alloc, world, handle, outside),
         Err(fault) => Err(fault),
     }
 }
@@ -193,7 +191,7 @@ fn finish<'a, R: Threads, G: Gate>(
     ensures seen { IsPrefix outside.old.seen outside.new.seen }
     ensures learned { IsPrefix result.told.seen outside.new.seen }
     ensures still { outside.new.steps ≡ outside.old.steps }
-    ensures kept { IsReported world.now handle.entry.promise.said.now (G.may_say handle.entry.promise.gate.now) handle.entry.promise.plan
+    ensures kept { IsReported world.now (G.may_say handle.entry.promise.gate.now) handle.entry.promise.plan
         handle.entry.promise.number result }
 {
     let report = handle.join(rt);
@@ -206,12 +204,10 @@ fn hear_thread<'a, R: Threads, G: Gate>(
     rt: &R,
     alloc: Global,
     world: &Shared,
-    said: &Replies,
     handle: Handle<'a, G>,
     outside: &mut BookPass<FlagAnd>,
 ) -> Result<Heard, RaceFault>
     requires world { handle.promise.world.now ≡ world.now }
-    requires said { handle.promise.said.now ≡ said.now }
     requires limits { world.now.limits ≡ limits_of handle.promise.plan }
     requires of { IsView flag_meld (view_of flag_pack world.now outside.old) }
     ensures of { IsView flag_meld (view_of flag_pack world.now outside.new) }
@@ -223,7 +219,7 @@ fn hear_thread<'a, R: Threads, G: Gate>(
     ensures still { outside.new.steps ≡ outside.old.steps }
 {
     let report = finish(rt, world, handle, outside);
-    let heard = read_report(alloc, said, &report);
+    let heard = read_report(alloc, &report);
     let fault = report.fault;
     drop(report);
     if let Some(fault) = fault {
@@ -236,14 +232,14 @@ fn hear_thread<'a, R: Threads, G: Gate>(
 }
 
 // What a worker was answered, whether its shrink made a communicator, and the members of that.
-fn read_report(alloc: Global, said: &Replies, report: &Report) -> Result<Heard, AllocError>
-    requires { AllByRecursion (Shows said.now) report.now.tokens.items }
+fn read_report(alloc: Global, report: &Report) -> Result<Heard, AllocError>
+    requires { AllByRecursion (Shows report.now.said) report.now.tokens.items }
     ensures replies { IfOk result (λ x. x.replies.items ≡ map (λ t. t.value) report.now.tokens.items) }
     ensures made { IfOk result (λ x. x.made ≡ list_any is_shrunk x.replies.items) }
     ensures group { IfOk result (λ x. x.made ≡ true → (y : Held) → held_at report.now.rank.own 1 ≡ Some y → x.group.items ≡ y.group) }
     ensures nobody { IfOk result (λ x. x.made ≡ false → x.group.items ≡ []) }
 {
-    let replies = read(alloc, said, &report.tokens)?;
+    let replies = read(alloc, &report.said, &report.tokens)?;
     let made = any_shrunk(&replies);
     let group = members_made(&report.rank, made).to_vec(alloc)?;
     Ok(Heard {

@@ -2,7 +2,7 @@
 ghost use Rattle.std.specs.Prelude.{◌≡◌, ◌+◌, ◌*◌, ◌≤◌, [], None, IfErr, IfOk, IfSome, MatchResult, map, length, vec_capacity};
 ghost use mathlib.Core.List.{IsPrefix};
 ghost use Rattle.ulfm_laws.specs.Flags.{flag_meld};
-ghost use Rattle.ulfm_words.specs.Steps.{view_of, IsView};
+ghost use Rattle.ulfm_words.specs.Steps.{view_of, IsNew, IsView};
 ghost use Rattle.ulfm_comm.specs.Counts.{records_of};
 ghost use Rattle.ulfm_race.specs.Races.{EndsFor, IsDeclared, IsNewRank, IsOutcome, IsPlan, IsReported, IsStarted, Numbered, StartIs, WasLet, flag_pack, limits_of};
 ghost use Rattle.ulfm_race.specs.Worked.{Declares, steps_of};
@@ -10,8 +10,9 @@ ghost use Rattle.ulfm_race.specs.Worked.{Declares, steps_of};
 use crate::gather::{Gathered, hear_all};
 use crate::plan::{Gate, Outcome, Plan, RaceFault};
 use crate::worker::{Own, Replies, Report, Shared, work};
-use std::alloc::Global;
+use std::alloc::{AllocError, Global};
 use std::sync::Wait;
+use std::sync::atomic::{AtomicBool, Ordering};
 use std::thread::{self, Promise, PromisedHandle, Scope, Threads};
 use ulfm_book::{BookPass, BookWords};
 use ulfm_comm::World;
@@ -25,8 +26,6 @@ pub(crate) struct Promised<'a, G: Gate> {
     pub(crate) gate: &'a G,
     /// The world of all ranks that race.
     pub(crate) world: &'a Shared,
-    /// The replies of all ranks.
-    pub(crate) said: &'a Replies,
     /// How many ranks race, and for how many rounds.
     pub(crate) plan: Plan,
     /// The rank's number, below the plan's ranks.
@@ -34,7 +33,7 @@ pub(crate) struct Promised<'a, G: Gate> {
 }
 
 impl<'a, G: Gate> Promise<Report> for Promised<'a, G> {
-    ghost kept_by = { λ p r. IsReported p.world.now p.said.now (G.may_say p.gate.now) p.plan p.number r };
+    ghost kept_by = { λ p r. IsReported p.world.now (G.may_say p.gate.now) p.plan p.number r };
 }
 
 /// A worker's thread.
@@ -86,9 +85,9 @@ pub fn race<R: Threads + Wait + Sync, G: Gate + Sync>(
     ensures ends { IfErr result (EndsFor plan (G.may_say gate.now)) }
 {
     let (world, ranks) = open_world(alloc, plan)?;
-    let said = boxcar::Vec::new(alloc)?;
     let world = &world;
-    let said = &said;
+    let began = AtomicBool::new(false);
+    let began = &began;
     thread::scope(
         thread::scope_env(),
         rt,
@@ -97,7 +96,7 @@ pub fn race<R: Threads + Wait + Sync, G: Gate + Sync>(
             requires limits { world.now.limits ≡ limits_of plan }
             requires ranks { Numbered (IsNewRank plan) 0 (records_of ranks.items) }
             requires all { length ranks.items ≡ plan.ranks }
-        { race_in(scope, rt, gate, alloc, world, said, plan, ranks) },
+        { race_in(scope, rt, gate, alloc, world, began, plan, ranks) },
     )
 }
 
@@ -132,7 +131,7 @@ fn race_in<'s, E, R: Threads + Wait + Sync, G: Gate + Sync>(
     gate: &'s G,
     alloc: Global,
     world: &'s Shared,
-    said: &'s Replies,
+    began: &'s AtomicBool,
     plan: Plan,
     ranks: Vec<Own>,
 ) -> Result<Outcome, RaceFault>
@@ -153,23 +152,15 @@ fn race_in<'s, E, R: Threads + Wait + Sync, G: Gate + Sync>(
         gate,
         alloc,
         world,
-        said,
+        began,
         plan,
         ranks,
         &mut outside,
         &mut started,
     );
+    began.store(true, Ordering::SeqCst);
     declare(world, plan, &mut outside);
-    hear_all(
-        rt,
-        alloc,
-        world,
-        said,
-        gate,
-        started,
-        &mut outside,
-        gathered,
-    )
+    hear_all(rt, alloc, world, gate, started, &mut outside, gathered)
 }
 
 // The rank that the plan declares, if any, is declared.
@@ -195,7 +186,7 @@ fn start_all<'s, E, G: Gate + Sync, R: Wait + Sync>(
     gate: &'s G,
     alloc: Global,
     world: &'s Shared,
-    said: &'s Replies,
+    began: &'s AtomicBool,
     plan: Plan,
     ranks: Vec<Own>,
     outside: &mut BookPass<FlagAnd>,
@@ -208,13 +199,13 @@ fn start_all<'s, E, G: Gate + Sync, R: Wait + Sync>(
     requires nobody { started.old.items ≡ [] }
     requires room { length ranks.items ≤ vec_capacity started.old }
     ensures of { IsView flag_meld (view_of flag_pack world.now outside.new) }
-    ensures started { Numbered (λ r one. StartIs (λ h. IsStarted world.now said.now gate.now plan r h.promise) outside.new.seen r one)
+    ensures started { Numbered (λ r one. StartIs (λ h. IsStarted world.now gate.now plan r h.promise) outside.new.seen r one)
         0 started.new.items }
     ensures all { length started.new.items ≡ length ranks.items }
     ensures few { outside.new.steps ≤ outside.old.steps + steps_of (2 * world.now.limits.ranks) started.new.items }
 {
     for rank in ranks {
-        let one = start(scope, rt, gate, alloc, world, said, plan, rank, outside);
+        let one = start(scope, rt, gate, alloc, world, began, plan, rank, outside);
         started.push_reserved(one);
     }
 }
@@ -226,7 +217,7 @@ fn start<'s, E, G: Gate + Sync, R: Wait + Sync>(
     gate: &'s G,
     alloc: Global,
     world: &'s Shared,
-    said: &'s Replies,
+    began: &'s AtomicBool,
     plan: Plan,
     rank: Own,
     outside: &mut BookPass<FlagAnd>,
@@ -237,19 +228,18 @@ fn start<'s, E, G: Gate + Sync, R: Wait + Sync>(
     requires of { IsView flag_meld (view_of flag_pack world.now outside.old) }
     ensures of { IsView flag_meld (view_of flag_pack world.now outside.new) }
     ensures seen { IsPrefix outside.old.seen outside.new.seen }
-    ensures started { StartIs (λ h. IsStarted world.now said.now gate.now plan rank.own.number h.promise) outside.new.seen rank.own.number result }
+    ensures started { StartIs (λ h. IsStarted world.now gate.now plan rank.own.number h.promise) outside.new.seen rank.own.number result }
     ensures once { MatchResult result (λ _. outside.new ≡ outside.old) (λ _. Declares world.now rank.own.number outside.old outside.new) }
 {
     let number = rank.number();
     let promised = Promised {
         gate,
         world,
-        said,
         plan,
         number,
     };
-    let pass = match world.pass(alloc) {
-        Ok(pass) => pass,
+    let (pass, said) = match pass_and_room(alloc, world) {
+        Ok(both) => both,
         Err(_) => {
             let _ = world.fail(outside, number);
             return Err(RaceFault::Memory);
@@ -257,7 +247,7 @@ fn start<'s, E, G: Gate + Sync, R: Wait + Sync>(
     };
     let started = scope.spawn_with(
         promised,
-        move || work(rt, gate, alloc, world, said, plan, rank, pass),
+        move || work(rt, gate, alloc, world, began, plan, rank, pass, said),
     );
     match started {
         Ok(handle) => Ok(handle),
@@ -266,4 +256,12 @@ fn start<'s, E, G: Gate + Sync, R: Wait + Sync>(
             Err(RaceFault::Memory)
         }
     }
+}
+
+// What a worker has besides its rank: a pass that has seen nothing, and a vector for its replies.
+fn pass_and_room(alloc: Global, world: &Shared) -> Result<(BookPass<FlagAnd>, Replies), AllocError>
+    ensures { IfOk result (λ both. IsNew flag_meld (view_of flag_pack world.now both.0)) }
+{
+    let pass = world.pass(alloc)?;
+    Ok((pass, boxcar::Vec::new(alloc)?))
 }

@@ -19,6 +19,7 @@ ghost use Rattle.ulfm_words.specs.Steps.{view_of};
 use crate::plan::{Gate, Plan, RaceFault, Turn};
 use std::alloc::Global;
 use std::sync::Wait;
+use std::sync::atomic::{AtomicBool, Ordering};
 use std::thread;
 use ulfm_book::{BookPass, BookTold, BookWords};
 use ulfm_comm::{Polled, Rank, World};
@@ -34,14 +35,16 @@ pub(crate) type Token = boxcar::Pushed<Reply<FlagAnd>>;
 
 pub(crate) type Own = Rank<FlagAnd, Global>;
 
-/// What a worker (the code of one rank's thread) works with: its rank, its pass, and a token of each reply that it was given, by which the reply
-/// is found among those that all workers kept.
+/// What a worker (the code of one rank's thread) works with: its rank, its pass, the replies that it was given, and a token of each, by which
+/// the reply is found among them. No other thread pushes into that vector, so no two threads write to one place of it.
 #[derive(Drop)]
 pub(crate) struct Worker {
     /// The rank whose calls it makes.
     pub rank: Own,
     /// What it has seen of the words.
     pub pass: BookPass<FlagAnd>,
+    /// Its replies.
+    pub said: Replies,
     /// A token for each reply, in order.
     pub tokens: Vec<Token>,
 }
@@ -53,37 +56,42 @@ pub(crate) struct Report {
     pub rank: Own,
     /// All that the worker had seen.
     pub told: BookTold<FlagAnd>,
+    /// Its replies.
+    pub said: Replies,
     /// A token for each reply, in order.
     pub tokens: Vec<Token>,
     /// Why it stopped, if by a fault.
     pub fault: Option<RaceFault>,
 }
 
-/// Agrees round after round, and then shrinks. Where the worker stops before all its calls are answered, its rank is declared failed.
+/// Once the race has begun, it agrees round after round, and then shrinks. Where the worker stops before all its calls are answered, its rank is declared failed.
 pub(crate) fn work<G: Gate, R: Wait>(
     rt: &R,
     gate: &G,
     alloc: Global,
     world: &Shared,
-    said: &Replies,
+    began: &AtomicBool,
     plan: Plan,
     rank: Own,
     pass: BookPass<FlagAnd>,
+    said: Replies,
 ) -> Report
     requires plan { IsPlan plan }
     requires limits { world.now.limits ≡ limits_of plan }
     requires new { rank.own ≡ new_record (limits_of plan) rank.own.number }
     requires own { IsRankOf world.now rank.own pass }
-    ensures reports { IsReported world.now said.now (G.may_say gate.now) plan rank.own.number result }
+    ensures reports { IsReported world.now (G.may_say gate.now) plan rank.own.number result }
     ensures works { HasWorked world.now plan (member_of world.now rank pass) result }
 {
+    await_all(rt, began);
     let number = rank.number();
     let mut worker = Worker {
         rank,
         pass,
+        said,
         tokens: Vec::new(alloc),
     };
-    let ended = take_turns(rt, gate, world, said, plan, &mut worker);
+    let ended = take_turns(rt, gate, world, plan, &mut worker);
     let fault = fault_in(&ended);
     declare(
         world,
@@ -96,8 +104,19 @@ pub(crate) fn work<G: Gate, R: Wait>(
     Report {
         rank: worker.rank,
         told,
+        said: worker.said,
         tokens: worker.tokens,
         fault,
+    }
+}
+
+// Waits until each worker has its thread, so that the first don't poll, on processors that the others want, for those that aren't there yet.
+fn await_all<R: Wait>(rt: &R, began: &AtomicBool) {
+    for _ in rt.forever() {
+        if began.load(Ordering::SeqCst) {
+            return;
+        }
+        thread::yield_now();
     }
 }
 
@@ -138,12 +157,11 @@ fn take_turns<G: Gate, R: Wait>(
     rt: &R,
     gate: &G,
     world: &Shared,
-    said: &Replies,
     plan: Plan,
     worker: &mut Worker,
 ) -> Result<bool, RaceFault>
-    requires { Starts world.now said.now plan worker.old.rank.own worker.old.pass worker.old.tokens.items }
-    ensures works { Works world.now said.now worker.new.rank.own worker.new.pass worker.new.tokens.items }
+    requires { Starts world.now worker.old.said plan worker.old.rank.own worker.old.pass worker.old.tokens.items }
+    ensures works { Works world.now worker.new.said worker.new.rank.own worker.new.pass worker.new.tokens.items }
     ensures answered { IfOk result (λ _. IsAnswered plan worker.new.pass.seen worker.old.rank.own.number worker.new.rank.own
         (map (λ t. t.value) worker.new.tokens.items)) }
     ensures asks { IfOk result (λ _. WasLet (G.may_say gate.now worker.old.rank.own.number) (map (λ t. t.value) worker.new.tokens.items)) }
@@ -152,13 +170,13 @@ fn take_turns<G: Gate, R: Wait>(
     ensures turns { HasTurned plan worker.old.rank.own.number result (map (λ t. t.value) worker.new.tokens.items)
         (member_of world.now worker.old.rank worker.old.pass) (member_of world.now worker.new.rank worker.new.pass) }
 {
-    match agree_all(rt, gate, world, said, plan, worker) {
+    match agree_all(rt, gate, world, plan, worker) {
         Ok(true) => {}
         Ok(false) => return Ok(false),
         Err(fault) => return Err(fault),
     }
     match shrink(rt, gate, world, &mut worker.rank, &mut worker.pass) {
-        Ok(reply) => match keep(rt, said, &mut worker.tokens, reply) {
+        Ok(reply) => match keep(rt, &worker.said, &mut worker.tokens, reply) {
             Ok(()) => Ok(!is_refused(&reply)),
             Err(fault) => Err(fault),
         },
@@ -360,12 +378,11 @@ pub(crate) fn agree_all<G: Gate, R: Wait>(
     rt: &R,
     gate: &G,
     world: &Shared,
-    said: &Replies,
     plan: Plan,
     worker: &mut Worker,
 ) -> Result<bool, RaceFault>
-    requires { Starts world.now said.now plan worker.old.rank.own worker.old.pass worker.old.tokens.items }
-    ensures works { Works world.now said.now worker.new.rank.own worker.new.pass worker.new.tokens.items }
+    requires { Starts world.now worker.old.said plan worker.old.rank.own worker.old.pass worker.old.tokens.items }
+    ensures works { Works world.now worker.new.said worker.new.rank.own worker.new.pass worker.new.tokens.items }
     ensures says { IfOk result (λ goes. MatchBool goes
         (IsReady plan worker.old.rank.own.number plan.rounds worker.new.rank.own worker.new.pass.seen
         (map (λ t. t.value) worker.new.tokens.items))
@@ -380,7 +397,7 @@ pub(crate) fn agree_all<G: Gate, R: Wait>(
     for round in 0..plan.rounds {
         match agree(rt, gate, world, &mut worker.rank, &mut worker.pass, round) {
             Ok(reply) => {
-                match keep(rt, said, &mut worker.tokens, reply) {
+                match keep(rt, &worker.said, &mut worker.tokens, reply) {
                     Ok(()) => {}
                     Err(fault) => return Err(fault),
                 }
