@@ -45,8 +45,8 @@ pub(crate) type Started<'a, G> = Result<Handle<'a, G>, RaceFault>;
 /// Races the ranks of a new world, whose words threads share: each agrees round after round, and then shrinks, on a thread of its own (its
 /// worker). In round k rank r contributes a flag of all ones but bit (r + k) mod 32.
 ///
-/// The plan has 1 to 64 ranks and 1 to 1000 rounds, and the rank that it declares, if any, is below its ranks. A worker takes each turn, a
-/// start or a poll, once the gate lets it, and tells the gate of each answer. The rank of a worker that stops, by a fault or a refusal, is
+/// The plan has 1 to 64 ranks and 1 to 1000 rounds, and the rank that it declares, if any, is below its ranks. The workers begin once each has
+/// its thread. A worker takes each turn, a start or a poll, once the gate lets it, and tells the gate of each answer. The rank of a worker that stops, by a fault or a refusal, is
 /// declared failed, and so is one whose thread can't be made; so the others don't wait for it.
 ///
 /// `Ok` says for each rank what it was answered, all in one history. In that history the plan's rank is declared, and each rank that was
