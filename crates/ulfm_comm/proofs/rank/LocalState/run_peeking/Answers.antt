@@ -5,17 +5,18 @@ use Rattle.ulfm_comm.specs.declared.phases.phase.Phase.TheVariants.{Peeking}
 use Rattle.ulfm_comm.proofs.Runs.{turn_ends, turn_goes}
 use Rattle.ulfm_comm.proofs.rank.LocalState.run_peeking.Goals as goal
 use Rattle.ulfm_comm.proofs.rank.LocalState.run_peeking.Goals.{After-go_peeking}
+use Rattle.ulfm_comm.specs.Prepared.{unprepared}
 
--- its turn, with no members of a communicator that it makes yet
+-- its turn, where nothing is prepared yet for a communicator that it makes
 turn : (g : _) (c : After-go_peeking g) → let name = over g.P.Packed.pack (g.W.Words.name c.args.words.now) in
-    TakesTurn g.P.Meld.meld g.W.Words.alone true (under_way c.args.asked.now (Peeking c.args.peek c.args.shrinks) [])
-    (local c.args.self.now (view_at name (g.W.Words.sight c.args.pass.now))) (coming c.go_peeking.result c.go_peeking.new.group.items)
+    TakesTurn g.P.Meld.meld g.W.Words.alone true (under_way c.args.asked.now (Peeking c.args.peek c.args.shrinks) unprepared)
+    (local c.args.self.now (view_at name (g.W.Words.sight c.args.pass.now))) (coming c.go_peeking.result c.go_peeking.new.prepared)
     (local c.go_peeking.new.self (view_at name (g.W.Words.sight c.go_peeking.new.pass)))
 turn g c =
     let name = over g.P.Packed.pack (g.W.Words.name c.args.words.now) in
-    subst (λ made. TakesTurn g.P.Meld.meld g.W.Words.alone true (under_way c.args.asked.now (Peeking c.args.peek c.args.shrinks) made)
-    (local c.args.self.now (view_at name (g.W.Words.sight c.args.pass.now))) (coming c.go_peeking.result c.go_peeking.new.group.items)
-    (local c.go_peeking.new.self (view_at name (g.W.Words.sight c.go_peeking.new.pass)))) c.new-group.ensures.items c.go_peeking.ensures
+    subst (λ prepared. TakesTurn g.P.Meld.meld g.W.Words.alone true (under_way c.args.asked.now (Peeking c.args.peek c.args.shrinks) prepared)
+    (local c.args.self.now (view_at name (g.W.Words.sight c.args.pass.now))) (coming c.go_peeking.result c.go_peeking.new.prepared)
+    (local c.go_peeking.new.self (view_at name (g.W.Words.sight c.go_peeking.new.pass)))) c.new-prepared.ensures c.go_peeking.ensures
 
 pub returns-in-Goes : goal.returns-in-Goes
 returns-in-Goes g c =
@@ -24,11 +25,11 @@ returns-in-Goes g c =
     let own = c.args.self.now in
     let start = g.W.Words.sight c.args.pass.now in
     let phase = Peeking c.args.peek c.args.shrinks in
-    let left = c.go_peeking.new.group.items in
+    let left = c.go_peeking.new.prepared in
     let mid = c.go_peeking.new.self in
     let now = g.W.Words.sight c.go_peeking.new.pass in
-    turn_goes g.P.Meld.meld g.W.Words.alone true name asked phase [] own start refl c.requires.stands c.in-Goes.next left mid now
-    (subst (λ next. TakesTurn g.P.Meld.meld g.W.Words.alone true (under_way asked phase []) (local own (view_at name start)) (coming next left) (local mid (view_at name now))) c.in-Goes.is
+    turn_goes g.P.Meld.meld g.W.Words.alone true name asked phase unprepared own start refl c.requires.stands c.in-Goes.next left mid now
+    (subst (λ next. TakesTurn g.P.Meld.meld g.W.Words.alone true (under_way asked phase unprepared) (local own (view_at name start)) (coming next left) (local mid (view_at name now))) c.in-Goes.is
     (turn g (goal.at.returns-in-Goes g c).After-go_peeking)) c.run_on.result c.run_on.new.self (g.W.Words.sight c.run_on.new.pass) c.run_on.ensures
 
 pub returns-in-Ends : goal.returns-in-Ends
@@ -38,9 +39,9 @@ returns-in-Ends g c =
     let own = c.args.self.now in
     let start = g.W.Words.sight c.args.pass.now in
     let phase = Peeking c.args.peek c.args.shrinks in
-    let left = c.go_peeking.new.group.items in
+    let left = c.go_peeking.new.prepared in
     let new = c.go_peeking.new.self in
     let after = g.W.Words.sight c.go_peeking.new.pass in
-    turn_ends g.P.Meld.meld g.W.Words.alone true name asked phase [] own start refl c.requires.stands left c.in-Ends.reply new after
-    (subst (λ next. TakesTurn g.P.Meld.meld g.W.Words.alone true (under_way asked phase []) (local own (view_at name start)) (coming next left) (local new (view_at name after))) c.in-Ends.is
+    turn_ends g.P.Meld.meld g.W.Words.alone true name asked phase unprepared own start refl c.requires.stands left c.in-Ends.reply new after
+    (subst (λ next. TakesTurn g.P.Meld.meld g.W.Words.alone true (under_way asked phase unprepared) (local own (view_at name start)) (coming next left) (local new (view_at name after))) c.in-Ends.is
     (turn g (goal.at.returns-in-Ends g c).After-go_peeking))
