@@ -1,5 +1,5 @@
 -- Where a call of a rank stands between two steps.
-use Rattle.std.specs.Prelude.{◌≡◌, ◌⊎◌, ℕ, ◌<◌, ◌≤◌, Bool, true, false, List, [], Some, None, Option, length, nat_lt, is_some, IsTrue, IsFalse, if◌then◌else◌, ⊤}
+use Rattle.std.specs.Prelude.{◌≡◌, ◌⊎◌, ℕ, ◌<◌, ◌≤◌, Bool, true, false, [], Some, None, Option, length, nat_lt, is_some, IsTrue, IsFalse, if◌then◌else◌, ⊤}
 use Rattle.std.specs.Prelude.{MatchOption}
 use mathlib.Core.List.{IsPrefix}
 use Rattle.ulfm_model.specs.declared.call.Call.TheVariants as call

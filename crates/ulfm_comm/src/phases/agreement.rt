@@ -1,5 +1,5 @@
 // The steps of an agreement's poll: loads of the round's blocks; and, where not all are set, marks, and readings of those that aren't.
-ghost use Rattle.std.specs.Prelude.{ℕ, Bool, List, ◌≡◌, ◌+◌, ◌<◌, ◌≤◌, false, true, IfSome, IsTrue};
+ghost use Rattle.std.specs.Prelude.{Bool, List, ◌≡◌, ◌+◌, ◌<◌, ◌≤◌, false, true, IfSome, IsTrue};
 ghost use Rattle.ulfm_model.specs.{Answers.{closed}, Records.{Record}, Terms.{comm_of}};
 ghost use Rattle.ulfm_comm.specs.{Phase.{IsPast, NextBelow, NextIs, StillStands, Turns, is_looking, left}, Step.{TakesTurn}, Proposals.{WinsNext}};
 ghost use Rattle.ulfm_comm.specs.Agreement.{HasPeeked, HasReadAll, agreed_reply};

@@ -1,5 +1,4 @@
 // The steps of a barrier's poll: loads of arrivals, and last that of the revocation.
-ghost use Rattle.std.specs.Prelude.{ℕ, List};
 ghost use Rattle.ulfm_comm.specs.{Missing.{AnswersMissing, FindsMissing, FoundNow}, Phase.{StillStands}, Step.{EndsTurn, TakesTurn}};
 ghost use Rattle.ulfm_comm.specs.declared.phases.phase.Phase.TheVariants.{Waiting as AtWaiting, Checking as AtChecking};
 ghost use Rattle.ulfm_comm.specs.Local.{local};

@@ -1,5 +1,5 @@
 // The steps that starts and revocations make after their look.
-ghost use Rattle.std.specs.Prelude.{ℕ, Bool, List, ◌≡◌, false, Some, ◌≤◌, ◌<◌, filter, length};
+ghost use Rattle.std.specs.Prelude.{Bool, ◌≡◌, false, Some, ◌≤◌, ◌<◌, filter, length};
 ghost use Rattle.std.specs.List.Sorted.{IsStrictlyIncreasing};
 ghost use mathlib.Core.List.{IsPrefix};
 ghost use Rattle.ulfm_model.specs.{Terms.{comm_of}, History.{has}, Records.{Fits, held_at}};
@@ -61,7 +61,8 @@ impl<P: Packed, A: Allocator> LocalState<P, A> {
     ) -> Next<P>
         requires of { IsView P.meld (view_of P.pack (W.name words.now) (W.sight pass.old)) }
         requires stands { (prepared : Prepared)
-            × StillStands P.meld (under_way asked.now (AtSpreading request offer) prepared) (local self.now (view_of P.pack (W.name words.now) (W.sight pass.old))) }
+            × StillStands P.meld (under_way asked.now (AtSpreading request offer) prepared)
+            (local self.now (view_of P.pack (W.name words.now) (W.sight pass.old))) }
         ensures turn { (prepared : Prepared) (whole : Bool) → TakesTurn P.meld W.alone whole (under_way asked.now (AtSpreading request offer) prepared)
             (local self.now (view_of P.pack (W.name words.now) (W.sight pass.old))) (coming result prepared)
             (local self.now (view_of P.pack (W.name words.now) (W.sight pass.new))) }
@@ -87,7 +88,8 @@ impl<P: Packed, A: Allocator> LocalState<P, A> {
     ) -> Reply<P>
         requires of { IsView P.meld (view_of P.pack (W.name words.now) (W.sight pass.old)) }
         requires stands { (prepared : Prepared)
-            × StillStands P.meld (under_way asked.now (AtSettling request offer) prepared) (local self.old (view_of P.pack (W.name words.now) (W.sight pass.old))) }
+            × StillStands P.meld (under_way asked.now (AtSettling request offer) prepared)
+            (local self.old (view_of P.pack (W.name words.now) (W.sight pass.old))) }
         ensures turn { EndsTurn P.meld W.alone asked.now (AtSettling request offer) (local self.old (view_of P.pack (W.name words.now) (W.sight pass.old))) result
             (local self.new (view_of P.pack (W.name words.now) (W.sight pass.new))) }
         ensures wins { WinsNext P.meld W.alone asked.now (AtSettling request offer) (local self.old (view_of P.pack (W.name words.now) (W.sight pass.old)))

@@ -1,5 +1,5 @@
 // The event that a call's next exchange is for.
-ghost use Rattle.std.specs.Prelude.{◌≡◌, ◌≤◌, ◌<◌, ◌+◌, ℕ, List, filter, length, is_some, slice_index, true, IfSome};
+ghost use Rattle.std.specs.Prelude.{◌≡◌, ◌≤◌, ◌<◌, ◌+◌, ℕ, filter, length, is_some, slice_index, true, IfSome};
 ghost use Rattle.std.specs.List.Sorted.{IsStrictlyIncreasing};
 ghost use Rattle.ulfm_model.specs.{History.{has}, Records.{Held, held_at}, Terms.{comm_of}};
 ghost use Rattle.ulfm_model.specs.declared.{contribution.MarkCount.{MarkCount}, event.Caller.TheVariants.{Rank as OfRank}};

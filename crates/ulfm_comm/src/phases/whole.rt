@@ -30,9 +30,11 @@ impl<P: Packed, A: Allocator + Copy> LocalState<P, A> {
         asked: &Call<P>,
     ) -> Reply<P>
         requires of { IsView P.meld (view_of P.pack (W.name words.now) (W.sight pass.old)) }
-        requires stands { StillStands P.meld (under_way asked.now AtBegun unprepared) (local self.old (view_of P.pack (W.name words.now) (W.sight pass.old))) }
+        requires stands { StillStands P.meld (under_way asked.now AtBegun unprepared)
+            (local self.old (view_of P.pack (W.name words.now) (W.sight pass.old))) }
         requires some { length self.old.seen < (W.name words.now).limits.ranks }
-        ensures { RunsThrough P.meld W.alone (under_way asked.now AtBegun unprepared) (local self.old (view_of P.pack (W.name words.now) (W.sight pass.old))) result
+        ensures { RunsThrough P.meld W.alone (under_way asked.now AtBegun unprepared)
+            (local self.old (view_of P.pack (W.name words.now) (W.sight pass.old))) result
             (local self.new (view_of P.pack (W.name words.now) (W.sight pass.new))) }
     {
         self.run_looking(words, pass, asked)
@@ -47,8 +49,10 @@ impl<P: Packed, A: Allocator + Copy> LocalState<P, A> {
         asked: &Call<P>,
     ) -> Reply<P>
         requires of { IsView P.meld (view_of P.pack (W.name words.now) (W.sight pass.old)) }
-        requires stands { StillStands P.meld (under_way asked.now AtLooking unprepared) (local self.old (view_of P.pack (W.name words.now) (W.sight pass.old))) }
-        ensures { RunsThrough P.meld W.alone (under_way asked.now AtLooking unprepared) (local self.old (view_of P.pack (W.name words.now) (W.sight pass.old))) result
+        requires stands { StillStands P.meld (under_way asked.now AtLooking unprepared)
+            (local self.old (view_of P.pack (W.name words.now) (W.sight pass.old))) }
+        ensures { RunsThrough P.meld W.alone (under_way asked.now AtLooking unprepared)
+            (local self.old (view_of P.pack (W.name words.now) (W.sight pass.old))) result
             (local self.new (view_of P.pack (W.name words.now) (W.sight pass.new))) }
     {
         self.look_on(words, pass, true);

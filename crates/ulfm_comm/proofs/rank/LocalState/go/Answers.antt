@@ -1,4 +1,4 @@
-use Rattle.std.proofs.Common.{rules, append-nil, [], ◌∙◌, ◌≡◌, arith, ap, inl, refl, subst, sym, ℕ, List}
+use Rattle.std.proofs.Common.{rules, append-nil, [], ◌∙◌, ◌≡◌, arith, ap, inl, refl, subst, sym}
 use Rattle.ulfm_words.proofs.Trails.{did_prefix}
 use Rattle.ulfm_comm.proofs.Wings.{turn_same}
 use Rattle.ulfm_model.specs.declared.call.Call.{Call}

@@ -1,7 +1,7 @@
 use Rattle.std.proofs.lemmas.Bool.{false≢true}
 use Rattle.ulfm_words.proofs.Trails.{did_prefix}
 use Rattle.ulfm_comm.proofs.Wings.{turn_same}
-use Rattle.std.proofs.Common.{◌≡◌, ◌+◌, ◌<◌, ◌≤◌, ℕ, List, Some, true, false, [], length, refl, ap, subst, sym, ◌∙◌, arith}
+use Rattle.std.proofs.Common.{◌≡◌, ◌+◌, ◌<◌, ◌≤◌, ℕ, Some, true, false, [], length, refl, ap, subst, sym, ◌∙◌, arith}
 use Rattle.ulfm_model.specs.{Blocks.{IsSummed}, Records.{Held, Record, held_at}, Terms.{comm_of}}
 use Rattle.ulfm_steps.specs.{Blocks.{AllSet, AreSet, is_whole, peek_site}, Turns.{IsStepAt}}
 use Rattle.ulfm_steps.proofs.KnownBlocks.{all_known, set_later}

@@ -1,4 +1,4 @@
-use Rattle.std.proofs.Common.{refl, rules, ◌≡◌, ℕ, List, Some, true, false, [], ap, subst, sym, ◌∙◌, arith}
+use Rattle.std.proofs.Common.{refl, rules, ◌≡◌, Some, true, false, [], ap, subst, sym, ◌∙◌, arith}
 use Rattle.ulfm_words.proofs.Trails.{did_prefix}
 use Rattle.ulfm_comm.proofs.Wings.{turn_blocks}
 use Rattle.ulfm_model.specs.{Records.{Held, Record, held_at}, Terms.{comm_of}}

@@ -1,4 +1,4 @@
-use Rattle.std.proofs.Common.{rules, ◌≡◌, arith, Bool, List, ℕ, [], IsTrue, MatchBool, ap, refl, subst, sym, ◌∙◌}
+use Rattle.std.proofs.Common.{rules, ◌≡◌, arith, Bool, [], IsTrue, MatchBool, ap, refl, subst, sym, ◌∙◌}
 use Rattle.ulfm_words.proofs.Trails.{did_prefix}
 use Rattle.ulfm_comm.proofs.Wings.{turn_same}
 use Rattle.std.proofs.lemmas.Bool.{false≢true}

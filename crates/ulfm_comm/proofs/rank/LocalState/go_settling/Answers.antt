@@ -1,4 +1,4 @@
-use Rattle.std.proofs.Common.{rules, ◌≡◌, ℕ, arith, Bool, false, List, Some, ap, refl, sym, subst, ◌∙◌}
+use Rattle.std.proofs.Common.{rules, ◌≡◌, arith, Bool, false, Some, ap, refl, sym, subst, ◌∙◌}
 use Rattle.ulfm_comm.proofs.Wings.{settles_begins, settles_set, turn_settles}
 use Rattle.ulfm_model.specs.Records.{Record}
 use Rattle.ulfm_comm.proofs.StepAdds.{adds_settled, start_keeps}

@@ -1,4 +1,4 @@
-use Rattle.std.proofs.Common.{rules, ◌≡◌, ℕ, List, true, false, ap, arith, ◌∙◌}
+use Rattle.std.proofs.Common.{rules, ◌≡◌, ℕ, true, false, ap, arith, ◌∙◌}
 use Rattle.ulfm_words.proofs.Trails.{did_prefix}
 use Rattle.ulfm_comm.proofs.Wings.{turn_same}
 use Rattle.ulfm_model.specs.{Records.{Record}}
@@ -46,9 +46,12 @@ spawn-requires-clause-holds g c =
     c.args.context c.args.reach c.args.prepared.now s.0 s.1 c.args.self.now (g.W.Words.sight c.args.pass.now)
     c.requires.of s.2 c.comm_of-comm.result c.comm_of-comm.ensures
 
+pub spawn-requires-clause-places : goal.spawn-requires-clause-places
+spawn-requires-clause-places g c = c.requires.stands.2.at.2
+
 -- what the step in the list of communicators came to, in the rank's turn
 spawns : (g : _) (c : After-spawn g) (result : Spawned) (next : Next g.row.P.Denot) (left : Prepared) (new : Record)
-    → SpawnIs g.P.Meld.meld g.W.Words.alone (target c.comm_of-comm.result c.requires.stands.2.at.1.round c.args.context c.args.prepared.now) (seeking c.args.append (local c.args.self.now (view_of g.P.Packed.pack (g.W.Words.name c.args.words.now) (g.W.Words.sight c.args.pass.now)))) result (seeking c.spawn.new.append (local c.spawn.new.self (view_of g.P.Packed.pack (g.W.Words.name c.args.words.now) (g.W.Words.sight c.spawn.new.pass))))
+    → SpawnIs g.P.Meld.meld g.W.Words.alone (target c.comm_of-comm.result c.requires.stands.2.at.1.round c.args.context c.args.prepared.now.members) (seeking c.args.append (local c.args.self.now (view_of g.P.Packed.pack (g.W.Words.name c.args.words.now) (g.W.Words.sight c.args.pass.now)))) result (seeking c.spawn.new.append (local c.spawn.new.self (view_of g.P.Packed.pack (g.W.Words.name c.args.words.now) (g.W.Words.sight c.spawn.new.pass))))
     → (c.args.whole ≡ false → FewerLeft (steps_left (g.W.Words.name c.args.words.now).limits c.args.self.now c.args.asked.now
     (Spawning c.args.append c.args.context c.args.reach)) (g.W.Words.name c.args.words.now).limits new c.args.asked.now next)
     → Spends (steps_left (g.W.Words.name c.args.words.now).limits c.args.self.now c.args.asked.now (Spawning c.args.append c.args.context c.args.reach))
@@ -162,7 +165,7 @@ wins g c not here some event is =
     let first : is.0 ≡ comm = cc both in
     let there : append.item ≡ OfComm comm is.1 = is.2 ∙ ap (λ n. OfComm n is.1) first in
     let takes = subst (λ whole. SpawnTakes whole name.limits append c.spawn.result c.spawn.new.append now after) not c.spawn.ensures.takes in
-    let comes = spawns_comes g.P.Meld.meld g.W.Words.alone here name comm is.1 c.args.context c.args.prepared.now append c.spawn.new.append own c.spawn.new.self
+    let comes = spawns_comes g.P.Meld.meld g.W.Words.alone here name comm is.1 c.args.context c.args.prepared.now.members append c.spawn.new.append own c.spawn.new.self
     now after some may.more c.spawn.result (c.spawn.ensures.spawns is.1 there) takes in
     let named : Spawn (append.index + 1) comm is.1 ≡ event = ap (λ n. Spawn (append.index + 1) n is.1) (sym first) ∙ sym is.3 in
     subst (λ e. Comes g.P.Meld.meld name.limits (Rank own.number) e now.seen after.seen) named

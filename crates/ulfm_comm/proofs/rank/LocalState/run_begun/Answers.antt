@@ -1,4 +1,4 @@
-use Rattle.std.proofs.Common.{[], false, ap, arith, refl, subst, sym, ◌∙◌}
+use Rattle.std.proofs.Common.{false, ap, arith, refl, subst, sym, ◌∙◌}
 use Rattle.ulfm_comm.proofs.Wings.{try_seen}
 use Rattle.ulfm_model.specs.Records.{Record, held_at}
 use Rattle.ulfm_comm.specs.{Phase.{NextBelow}, Step.{Walks}}

@@ -1,4 +1,4 @@
-use Rattle.std.proofs.Common.{ℕ, Bool, List, [], false, ap, arith, refl, sym, ◌∙◌}
+use Rattle.std.proofs.Common.{Bool, false, ap, arith, refl, sym, ◌∙◌}
 use Rattle.ulfm_words.specs.Steps.{over, view_of, Sight}
 use Rattle.ulfm_model.specs.{Records.{Held, Record, held_at}}
 use Rattle.ulfm_model.specs.declared.{call.Request.TheVariants.{Agree as OfAgree}, contribution.Offer.TheVariants.{Flag}, refusal.Refusal.TheVariants.{NoSuchComm}, reply.Reply.TheVariants.{Refused}}

@@ -1,6 +1,7 @@
-use Rattle.std.proofs.Common.{[], true, refl, subst}
+use Rattle.std.proofs.Common.{false, true, refl, subst}
+use Rattle.std.proofs.lemmas.Bool.{false≢true}
 use Rattle.ulfm_words.specs.Steps.{over, view_at}
-use Rattle.ulfm_comm.specs.{Local.{local}, Phase.{under_way}, Step.{TakesTurn, coming}}
+use Rattle.ulfm_comm.specs.{Local.{local}, Phase.{NextIs, under_way}, Step.{TakesTurn, coming}}
 use Rattle.ulfm_comm.specs.declared.phases.phase.Phase.TheVariants.{Peeking}
 use Rattle.ulfm_comm.proofs.Runs.{turn_ends, turn_goes}
 use Rattle.ulfm_comm.proofs.rank.LocalState.run_peeking.Goals as goal
@@ -17,6 +18,18 @@ turn g c =
     subst (λ prepared. TakesTurn g.P.Meld.meld g.W.Words.alone true (under_way c.args.asked.now (Peeking c.args.peek c.args.shrinks) prepared)
     (local c.args.self.now (view_at name (g.W.Words.sight c.args.pass.now))) (coming c.go_peeking.result c.go_peeking.new.prepared)
     (local c.go_peeking.new.self (view_at name (g.W.Words.sight c.go_peeking.new.pass)))) c.new-prepared.ensures c.go_peeking.ensures
+
+pub run_on-requires-clause-stands : goal.run_on-requires-clause-stands
+run_on-requires-clause-stands g c =
+    let name = over g.P.Packed.pack (g.W.Words.name c.args.words.now) in
+    let still = c.requires.stands in
+    let took = turn g (goal.at.run_on-requires-clause-stands g c).After-go_peeking in (
+      still.0,
+      still.1,
+      subst (λ next. NextIs g.P.Meld.meld false c.args.asked.now (local still.0 (view_at name still.1)) next c.go_peeking.new.prepared
+          (local c.go_peeking.new.self (view_at name (g.W.Words.sight c.go_peeking.new.pass)))) c.in-Goes.is
+          (took.turns false (λ here. absurd (false≢true here)) still.0 still.1 still.2),
+    )
 
 pub returns-in-Goes : goal.returns-in-Goes
 returns-in-Goes g c =

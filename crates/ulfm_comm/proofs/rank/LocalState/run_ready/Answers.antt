@@ -1,4 +1,4 @@
-use Rattle.std.proofs.Common.{[], false, ap, arith, sym, ◌∙◌}
+use Rattle.std.proofs.Common.{false, ap, arith, sym, ◌∙◌}
 use Rattle.ulfm_words.specs.Steps.{over}
 use Rattle.ulfm_model.specs.Records.{Held, held_at}
 use Rattle.ulfm_comm.specs.declared.phases.phase.Next.TheVariants.{Goes}

@@ -1,4 +1,4 @@
-use Rattle.std.proofs.Common.{[], true, sym, subst}
+use Rattle.std.proofs.Common.{true, sym, subst}
 use Rattle.ulfm_words.specs.Steps.{over, view_at}
 use Rattle.ulfm_comm.specs.{Local.{local}, Phase.{under_way}, Step.{TakesTurn, coming}}
 use Rattle.ulfm_comm.specs.declared.phases.phase.Next.TheVariants.{Ends}

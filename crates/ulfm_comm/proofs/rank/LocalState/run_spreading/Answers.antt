@@ -1,4 +1,4 @@
-use Rattle.std.proofs.Common.{[], true, false, refl, subst}
+use Rattle.std.proofs.Common.{true, false, refl, subst}
 use Rattle.std.proofs.lemmas.Bool.{false≢true}
 use Rattle.ulfm_words.specs.Steps.{over, view_at}
 use Rattle.ulfm_comm.specs.{Local.{local}, Phase.{IsPast, NextIs, under_way}, Step.{TakesTurn, coming}}

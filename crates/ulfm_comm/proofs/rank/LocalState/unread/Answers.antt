@@ -1,4 +1,4 @@
-use Rattle.std.proofs.Common.{◌≡◌, false, [], length, ap, sym, ◌∙◌, arith}
+use Rattle.std.proofs.Common.{◌≡◌, false, length, ap, sym, ◌∙◌, arith}
 use Rattle.ulfm_words.specs.Steps.{over}
 use Rattle.ulfm_model.specs.Records.{Held}
 use Rattle.ulfm_comm.proofs.Peeking.{unread_few, unread_marking, unread_reading, unread_rises, unread_some}

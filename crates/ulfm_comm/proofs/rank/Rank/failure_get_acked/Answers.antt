@@ -49,7 +49,7 @@ returns-then-is_err-clause-memory g c = λ _.
     (subst (λ w. AtFailure w c.in_ok-count.count c.new-reach.result c.failures.result.now) group c.new-reach.ensures) in
     let seen = ap (λ (r : Ranked). filter (has h.x.group) (take c.new-reach.result.reach r.own.seen)) c.self.view_is in
     let first = seen ∙ first_reached h.x.group c.in_ok-count.count h.x.acked c.new-reach.result c.call.new.self.own.seen at h.counted in
-    let acked = ap₂ take (sym (ap acked_of h.held)) h.prepared in
+    let acked = ap₂ take (sym (ap acked_of h.held)) h.group in
     subst (λ n. vec_capacity c.args.found.now < n) (ap length (first ∙ acked)) lacks
 
 pub returns-clause-gets : goal.returns-clause-gets
@@ -83,5 +83,5 @@ returns-clause-group g c =
     (subst (λ w. AtFailure w c.in_ok-count.count c.new-reach.result c.failures.result.now) group c.new-reach.ensures) in
     let seen = ap (λ (r : Ranked). filter (has h.x.group) (take c.new-reach.result.reach r.own.seen)) c.self.view_is in
     let first = seen ∙ first_reached h.x.group c.in_ok-count.count h.x.acked c.new-reach.result c.call.new.self.own.seen at h.counted in
-    let acked = ap₂ take (sym (ap acked_of h.held)) h.prepared in
+    let acked = ap₂ take (sym (ap acked_of h.held)) h.group in
     items ∙ (first ∙ acked)

@@ -26,7 +26,7 @@ returns-then-is_err-clause-memory g c = λ _.
     let lacks = err_of c.put_failed.result c.put_failed.ensures.lacks (sym c.is_err.ensures.value ∙ c.if-is_err.true) h.x (ap (λ (r : Ranked). held_at r.own c.args.comm) c.self.view_is ∙ h.held) in
     let seen = ap (λ (r : Ranked). r.own.seen) c.self.view_is in
     let all = ap₂ (λ f s. take (length f) s) c.failures-reach.ensures seen ∙ take-length c.call.new.self.own.seen in
-    subst (λ n. vec_capacity c.args.found.now < n) (ap length (ap (filter (has h.x.group)) all ∙ h.prepared)) lacks
+    subst (λ n. vec_capacity c.args.found.now < n) (ap length (ap (filter (has h.x.group)) all ∙ h.group)) lacks
 
 pub returns-clause-gets : goal.returns-clause-gets
 returns-clause-gets g c =
@@ -47,4 +47,4 @@ returns-clause-group g c =
     let items = ok_of c.put_failed.result c.put_failed.ensures.group (sym c.is_err.ensures.value ∙ c.if-is_err.false) h.x (ap (λ (r : Ranked). held_at r.own c.args.comm) c.self.view_is ∙ h.held) in
     let seen = ap (λ (r : Ranked). r.own.seen) c.self.view_is in
     let all = ap₂ (λ f s. take (length f) s) c.failures-reach.ensures seen ∙ take-length c.call.new.self.own.seen in
-    items ∙ (ap (filter (has h.x.group)) all ∙ h.prepared)
+    items ∙ (ap (filter (has h.x.group)) all ∙ h.group)
