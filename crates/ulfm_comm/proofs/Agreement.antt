@@ -33,6 +33,7 @@ use Rattle.ulfm_comm.proofs.{CallRuns.{calls_is}, Holding.{exists_is, group_is, 
 use Rattle.ulfm_comm.proofs.Polls.{held_first, later, not_found, not_marked, open_round, poll_agreed, poll_mismatch, poll_pending}
 use Rattle.ulfm_comm.specs.Local.{frame, local}
 use Rattle.ulfm_comm.specs.Requests.{polled_round}
+use Rattle.ulfm_comm.specs.Prepared.{Prepared}
 
 -- the poll of a rank is one in its own name
 pub poll_mine : {P : Type 0} (asked : Call P) (old : Record) (rank comm : ℕ) → asked ≡ call.Poll rank comm → (traits_of asked).by ≡ Rank old.number
@@ -183,10 +184,10 @@ module _ {P : Type 0} (meld : P → P → P) (limits : Limits) (alone : Bool) (c
         }
 
 -- a call that stands between two marks, by what the code knows of the communicator
-module _ {P : Type 0} (meld : P → P → P) (name : Over P) (asked : Call P) (marks : MarkAll) (blocks : RoundBlocks P) (shrinks : Bool) (group : List ℕ)
+module _ {P : Type 0} (meld : P → P → P) (name : Over P) (asked : Call P) (marks : MarkAll) (blocks : RoundBlocks P) (shrinks : Bool) (prepared : Prepared)
     (own : Record) (now : Sight P) (of : IsView meld (view_at name now)) (y : Held) (w : ℕ) (found : held_at own w ≡ Some y) (w_is : w ≡ comm_of asked)
     (members declared : List ℕ) (members_are : members ≡ y.group) (declared_are : declared ≡ own.seen) (alone : Bool) (old : Record) (before : Sight P)
-    (st : Stands meld alone (local old (view_at name before)) (record { asked = asked; phase = Marking marks blocks shrinks; group = group }) (local own (view_at name now))) where
+    (st : Stands meld alone (local old (view_at name before)) (record { asked = asked; phase = Marking marks blocks shrinks; prepared = prepared }) (local own (view_at name now))) where
   abbrev marking : IsMarking (frame meld name.limits alone) (comm_of asked) shrinks marks blocks (moment old before.seen) (moment own now.seen)
   marking = st.at.1
 
@@ -241,7 +242,7 @@ module _ {P : Type 0} (meld : P → P → P) (name : Over P) (asked : Call P) (m
     pub marking_goes : next.next < length declared → Stands meld alone (local old (view_at name before)) (record {
       asked = asked;
       phase = Marking next blocks shrinks;
-      group = group;
+      prepared = prepared;
     }) (local own (view_at name after))
     unfolding marking_on
     marking_goes more =
@@ -262,7 +263,7 @@ module _ {P : Type 0} (meld : P → P → P) (name : Over P) (asked : Call P) (m
     -- none is left
     pub marking_reads : (reading : ReadBlocks P) (size : ℕ) → reading ≡ starts_at next.comm next.round blocks size → size ≡ length members
         → length declared ≤ next.next
-        → Stands meld alone (local old (view_at name before)) (record { asked = asked; phase = Reading reading shrinks; group = group }) (local own (view_at name after))
+        → Stands meld alone (local old (view_at name before)) (record { asked = asked; phase = Reading reading shrinks; prepared = prepared }) (local own (view_at name after))
     marking_reads reading size is size_is past =
         let ended = marking_ends meld name.limits alone (comm_of asked) shrinks marks blocks old before.seen own now.seen of.legal marking quiet only after.seen
         next.next marked.between members_next marked.marks.marks next.known at_next
@@ -374,12 +375,12 @@ module _ {P : Type 0} (meld : P → P → P) (alone : Bool) (name : Over P) (c k
       by_body Clash is = mismatch (λ flag same. absurd (cc (is, same)))
 
 -- a call that reads its round's blocks, by what the code knows of the communicator
-module _ {P : Type 0} (meld : P → P → P) (name : Over P) (asked : Call P) (reading : ReadBlocks P) (shrinks : Bool) (group : List ℕ) (own : Record)
+module _ {P : Type 0} (meld : P → P → P) (name : Over P) (asked : Call P) (reading : ReadBlocks P) (shrinks : Bool) (prepared : Prepared) (own : Record)
     (now : Sight P) (y : Held) (w : ℕ) (found : held_at own w ≡ Some y) (w_is : w ≡ comm_of asked)
     (members : List ℕ) (members_are : members ≡ y.group) (alone : Bool) (old : Record) (before : Sight P) (st : Stands meld alone (local old (view_at name before)) (record {
       asked = asked;
       phase = Reading reading shrinks;
-      group = group;
+      prepared = prepared;
     }) (local own (view_at name now))) where
   abbrev reads : IsReading (frame meld name.limits alone) (comm_of asked) shrinks reading (moment old before.seen) (moment own now.seen)
   reads = st.at.1
@@ -417,7 +418,7 @@ module _ {P : Type 0} (meld : P → P → P) (name : Over P) (asked : Call P) (r
           marked_on (omega (arith, st.onward, further)) there)
 
       -- more is left
-      pub reading_goes : AtBlock meld after.seen members next → HoldsHalf (view_at name after) members next → Stands meld alone (local old (view_at name before)) (record { asked = asked; phase = Reading next shrinks; group = group }) (local own (view_at name after))
+      pub reading_goes : AtBlock meld after.seen members next → HoldsHalf (view_at name after) members next → Stands meld alone (local old (view_at name before)) (record { asked = asked; phase = Reading next shrinks; prepared = prepared }) (local own (view_at name after))
       unfolding reading_on
       reading_goes at half =
           let on = reading_on meld name.limits alone (comm_of asked) shrinks reading old before.seen own now.seen reads quiet only after.seen did of.legal next

@@ -17,6 +17,7 @@ use Rattle.ulfm_comm.specs.declared.phases.phase.Phase.TheVariants.{Waiting, Che
 use Rattle.ulfm_comm.proofs.{BarrierPolls.{awaited_round, barrier_polled, barrier_waits, calls_missing_at, polls_revoked}, AmongOthers.{did_loosely}}
 use Rattle.ulfm_comm.proofs.{Revokes.{held_below, standing_before}, Holding.{same_held}}
 use Rattle.ulfm_comm.specs.Local.{frame, local}
+use Rattle.ulfm_comm.specs.Prepared.{Prepared}
 
 -- the poll of a barrier, under way
 module _ {P : Type 0} (meld : P → P → P) (limits : Limits) (alone : Bool) (c k : ℕ) (x : Held) (old : Record) (before : History P) (own : Record)
@@ -48,10 +49,10 @@ module _ {P : Type 0} (meld : P → P → P) (limits : Limits) (alone : Bool) (c
       }
 
 -- a call that stands between two loads of arrivals, by what the code knows of the communicator
-module _ {P : Type 0} (meld : P → P → P) (name : Over P) (asked : Call P) (arrivals : Arrivals) (group : List ℕ) (own : Record) (now : Sight P)
+module _ {P : Type 0} (meld : P → P → P) (name : Over P) (asked : Call P) (arrivals : Arrivals) (prepared : Prepared) (own : Record) (now : Sight P)
     (of : IsView meld (view_at name now)) (y : Held) (w : ℕ) (found : held_at own w ≡ Some y) (w_is : w ≡ comm_of asked)
     (members declared : List ℕ) (members_are : members ≡ y.group) (declared_are : declared ≡ own.seen) (alone : Bool) (old : Record) (before : Sight P)
-    (st : Stands meld alone (local old (view_at name before)) (record { asked = asked; phase = Waiting arrivals; group = group }) (local own (view_at name now))) where
+    (st : Stands meld alone (local old (view_at name before)) (record { asked = asked; phase = Waiting arrivals; prepared = prepared }) (local own (view_at name now))) where
   abbrev waits : IsWaiting (frame meld name.limits alone) (comm_of asked) arrivals.round st.at.2 (moment old before.seen) (moment own now.seen)
   waits = st.at.3
 
@@ -72,7 +73,7 @@ module _ {P : Type 0} (meld : P → P → P) (name : Over P) (asked : Call P) (a
 
     -- more are left
     pub waiting_goes : (next : Arrivals) → next.comm ≡ arrivals.comm → next.round ≡ arrivals.round → AtArrival members declared next after.seen
-        → Stands meld alone (local old (view_at name before)) (record { asked = asked; phase = Waiting next; group = group }) (local own (view_at name after))
+        → Stands meld alone (local old (view_at name before)) (record { asked = asked; phase = Waiting next; prepared = prepared }) (local own (view_at name after))
     waiting_goes next comm round at =
         record {
           fits = st.fits;
@@ -105,7 +106,7 @@ module _ {P : Type 0} (meld : P → P → P) (name : Over P) (asked : Call P) (a
 
     -- it is known who is missing
     pub waiting_ends : (missing : Missing) → MissingAre after.seen arrivals.comm arrivals.round members declared missing → IsLegal meld name.limits after.seen
-        → Stands meld alone (local old (view_at name before)) (record { asked = asked; phase = Checking missing; group = group }) (local own (view_at name after))
+        → Stands meld alone (local old (view_at name before)) (record { asked = asked; phase = Checking missing; prepared = prepared }) (local own (view_at name after))
     waiting_ends missing are legal =
         record {
           fits = st.fits;
@@ -158,9 +159,9 @@ module _ {P : Type 0} (meld : P → P → P) (alone : Bool) (name : Over P) (c k
       by_missing Declared called = called
 
 -- a call that stands before the load of the revocation
-module _ {P : Type 0} (meld : P → P → P) (alone : Bool) (name : Over P) (asked : Call P) (missing : Missing) (group : List ℕ) (own : Record) (now : Sight P)
+module _ {P : Type 0} (meld : P → P → P) (alone : Bool) (name : Over P) (asked : Call P) (missing : Missing) (prepared : Prepared) (own : Record) (now : Sight P)
     (of : IsView meld (view_at name now)) (old : Record) (before : Sight P)
-    (st : Stands meld alone (local old (view_at name before)) (record { asked = asked; phase = Checking missing; group = group }) (local own (view_at name now))) where
+    (st : Stands meld alone (local old (view_at name before)) (record { asked = asked; phase = Checking missing; prepared = prepared }) (local own (view_at name now))) where
   -- the communicator has a place of its own
   pub checking_within : (w : ℕ) → w ≡ comm_of asked → w < name.limits.comms
   checking_within w is =

@@ -32,6 +32,7 @@ use Rattle.ulfm_comm.proofs.{AmongOthers.{added_loosely, did_loosely, tried_loos
 use Rattle.ulfm_comm.proofs.Revokes.{calls_revoked, calls_standing, held_below, held_may_end}
 use Rattle.ulfm_comm.proofs.Starts.{calls_spread, calls_started}
 use Rattle.ulfm_comm.specs.Local.{frame, local}
+use Rattle.ulfm_comm.specs.Prepared.{Prepared}
 
 -- no test holds, so the first doesn't
 passes_first : (test : Bool) (refusal : Refusal) (tests : List (Bool × Refusal)) → first_refusal ((test, refusal) ∷ tests) ≡ None
@@ -181,8 +182,8 @@ settles_loosely alone quiet only now after own x offer (Ok done) gave =
 settles_loosely alone quiet only now after own x offer (Err put) was = record { did = did_loosely alone quiet only [] now after was.did; stands = was.stands }
 
 module _ {P : Type 0} (meld : P → P → P) (alone quiet : Bool) (only : IsTrue alone → IsTrue quiet) (name : Over P) (asked : Call P) (request : Request)
-    (offer : Offer P) (group : List ℕ) (old : Record) (before : Sight P) (own : Record) (now after : Sight P) (went : now.steps ≤ after.steps)
-    (stood : Stands meld alone (local old (view_at name before)) (record { asked = asked; phase = Settling request offer; group = group }) (local own (view_at name now))) (x : Held)
+    (offer : Offer P) (prepared : Prepared) (old : Record) (before : Sight P) (own : Record) (now after : Sight P) (went : now.steps ≤ after.steps)
+    (stood : Stands meld alone (local old (view_at name before)) (record { asked = asked; phase = Settling request offer; prepared = prepared }) (local own (view_at name now))) (x : Held)
     (held : held_at own (comm_of asked) ≡ Some x) where
   by_exchange : (settled : Result (Unit {0}) Settled) (new : Record) → IsView meld (view_at name after) → Settles quiet now.seen after.seen own x offer settled
       → new ≡ start_leaves own (comm_of asked) request settled
@@ -214,8 +215,8 @@ module _ {P : Type 0} (meld : P → P → P) (alone quiet : Bool) (only : IsTrue
 
 -- the first exchange of a start of an agreement
 module _ {P : Type 0} (meld : P → P → P) (alone quiet : Bool) (only : IsTrue alone → IsTrue quiet) (name : Over P) (asked : Call P) (request : Request)
-    (offer : Offer P) (group : List ℕ) (old : Record) (before : Sight P) (own : Record) (now after : Sight P) (went : now.steps ≤ after.steps)
-    (stood : Stands meld alone (local old (view_at name before)) (record { asked = asked; phase = Spreading request offer; group = group }) (local own (view_at name now))) (x : Held)
+    (offer : Offer P) (prepared : Prepared) (old : Record) (before : Sight P) (own : Record) (now after : Sight P) (went : now.steps ≤ after.steps)
+    (stood : Stands meld alone (local old (view_at name before)) (record { asked = asked; phase = Spreading request offer; prepared = prepared }) (local own (view_at name now))) (x : Held)
     (held : held_at own (comm_of asked) ≡ Some x) (of : IsView meld (view_at name after)) (did : Did quiet [] now.seen after.seen) where
   -- where the wing stood before, the start is answered `twice`
   pub spread_before : WingStands (view_at name after) x.comm x.next_agreement own.number
@@ -235,7 +236,7 @@ module _ {P : Type 0} (meld : P → P → P) (alone quiet : Bool) (only : IsTrue
 
   -- where it is set by this step, the rank contributes next
   pub spread_goes : IsSpreadIn (view_at name after) x.comm x.next_agreement own.number offer
-      → Stands meld alone (local old (view_at name before)) (record { asked = asked; phase = Settling request offer; group = group }) (local own (view_at name after))
+      → Stands meld alone (local old (view_at name before)) (record { asked = asked; phase = Settling request offer; prepared = prepared }) (local own (view_at name after))
   spread_goes set =
       let p = stood.at.0 in
       let same = found_same meld name.limits alone asked old before.seen own now.seen p x held in

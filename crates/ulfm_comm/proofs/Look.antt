@@ -25,6 +25,7 @@ use Rattle.ulfm_comm.specs.declared.phases.phase.Phase.TheVariants.{Begun, Looki
 use Rattle.ulfm_comm.proofs.{Acks.{ack_failed_is, failure_ack_is, get_acked_is, get_failed_is}, CallRuns.{calls_declared, calls_is, calls_missing, looked_fits}, Frees.{calls_freed}}
 use Rattle.ulfm_comm.proofs.{WholeCall.{held_before, refused}, Refusals.{by_tests}}
 use Rattle.ulfm_comm.specs.Local.{frame, local}
+use Rattle.ulfm_comm.specs.Prepared.{Prepared}
 
 abbrev is_twice : Refusal → Bool
 is_twice Twice = true
@@ -248,38 +249,38 @@ starts_shrink {P} asked rank c own mid seen x round ids is mid_is free at =
     as_offer i = Ctx i
 
 -- a call that begins has seen what is a beginning of the list of failures
-begun_seen : {P : Type 0} (meld : P → P → P) (alone : Bool) (name : Over P) (asked : Call P) (old : Record) (before : Sight P) (group : List ℕ) (own : Record)
+begun_seen : {P : Type 0} (meld : P → P → P) (alone : Bool) (name : Over P) (asked : Call P) (old : Record) (before : Sight P) (prepared : Prepared) (own : Record)
     (now : Sight P)
-    → Stands meld alone (local old (view_at name before)) (record { asked = asked; phase = Begun; group = group }) (local own (view_at name now)) → IsPrefix own.seen (failures now.seen)
-begun_seen meld alone name asked old before group own now u =
+    → Stands meld alone (local old (view_at name before)) (record { asked = asked; phase = Begun; prepared = prepared }) (local own (view_at name now)) → IsPrefix own.seen (failures now.seen)
+begun_seen meld alone name asked old before prepared own now u =
     let grown = failures_begin before.seen now.seen (did_prefix alone [] before.seen now.seen u.at.2) in
     subst (λ (w : Record). IsPrefix w.seen (failures now.seen)) (sym u.at.1) (prefix_trans old.seen (failures before.seen)
     (failures now.seen) u.fits.seen grown)
 
 -- that is all ranks, at most
-pub begun_within : {P : Type 0} (meld : P → P → P) (alone : Bool) (name : Over P) (asked : Call P) (old : Record) (before : Sight P) (group : List ℕ)
+pub begun_within : {P : Type 0} (meld : P → P → P) (alone : Bool) (name : Over P) (asked : Call P) (old : Record) (before : Sight P) (prepared : Prepared)
     (own : Record) (now : Sight P) → IsView meld (view_at name now)
-    → Stands meld alone (local old (view_at name before)) (record { asked = asked; phase = Begun; group = group }) (local own (view_at name now)) → length own.seen ≤ name.limits.ranks
-begun_within meld alone name asked old before group own now of u =
+    → Stands meld alone (local old (view_at name before)) (record { asked = asked; phase = Begun; prepared = prepared }) (local own (view_at name now)) → length own.seen ≤ name.limits.ranks
+begun_within meld alone name asked old before prepared own now of u =
     omega (
       arith,
-      length_prefix own.seen (failures now.seen) (begun_seen meld alone name asked old before group own now u),
+      length_prefix own.seen (failures now.seen) (begun_seen meld alone name asked old before prepared own now u),
       failures_le meld name.limits
           now.seen of.legal,
     )
 
 -- a look begins behind what was seen, or at the last of all ranks
-pub begins_looking : {P : Type 0} (meld : P → P → P) (alone : Bool) (name : Over P) (asked : Call P) (old : Record) (before : Sight P) (group : List ℕ)
+pub begins_looking : {P : Type 0} (meld : P → P → P) (alone : Bool) (name : Over P) (asked : Call P) (old : Record) (before : Sight P) (prepared : Prepared)
     (own new : Record) (now : Sight P) → IsView meld (view_at name now)
     → new ≡ record own { seen = take (own.limits.ranks - 1) own.seen }
-    → Stands meld alone (local old (view_at name before)) (record { asked = asked; phase = Begun; group = group }) (local own (view_at name now))
-    → Stands meld alone (local old (view_at name before)) (record { asked = asked; phase = Looking; group = group }) (local new (view_at name now))
-begins_looking meld alone name asked old before group own new now of is u =
+    → Stands meld alone (local old (view_at name before)) (record { asked = asked; phase = Begun; prepared = prepared }) (local own (view_at name now))
+    → Stands meld alone (local old (view_at name before)) (record { asked = asked; phase = Looking; prepared = prepared }) (local new (view_at name now))
+begins_looking meld alone name asked old before prepared own new now of is u =
     let n = own.limits.ranks - 1 in
     let some : 0 < name.limits.ranks = omega (arith, of.may_open.in_range.some_ranks) in
     let limits_are : own.limits.ranks ≡ name.limits.ranks = ap (λ (w : Record). w.limits.ranks) u.at.1 ∙ ap (λ l. l.ranks) u.fits.same_limits in
     let seen : new.seen ≡ take n own.seen = ap (λ (w : Record). w.seen) is in
-    let begins = begun_seen meld alone name asked old before group own now u in
+    let begins = begun_seen meld alone name asked old before prepared own now u in
     let fewer : length (take n own.seen) < name.limits.ranks = omega (arith, length-take n own.seen, limits_are, some) in
     record {
       fits = u.fits;

@@ -29,6 +29,7 @@ use Rattle.ulfm_comm.proofs.{Agreement.{all_in, reading_begins, some_member}, Am
 use Rattle.ulfm_comm.proofs.Polls.{open_round}
 use Rattle.ulfm_comm.specs.Local.{frame, local}
 use Rattle.ulfm_comm.specs.Requests.{polled_round}
+use Rattle.ulfm_comm.specs.Prepared.{Prepared}
 
 -- where all members are settled, so are those among these ranks
 members_settled : (p : ℕ → Bool) (group declared : List ℕ) → list_all p group ≡ true → AllByRecursion (λ r. IsTrue (p r)) (filter (has group) declared)
@@ -108,10 +109,10 @@ module _ {P : Type 0} (meld : P → P → P) (limits : Limits) (alone : Bool) (c
       }
 
 -- a call that loads its round's blocks, by what the code knows of the communicator
-module _ {P : Type 0} (meld : P → P → P) (name : Over P) (asked : Call P) (peek : Peek P) (shrinks : Bool) (group : List ℕ) (own : Record) (now : Sight P)
+module _ {P : Type 0} (meld : P → P → P) (name : Over P) (asked : Call P) (peek : Peek P) (shrinks : Bool) (prepared : Prepared) (own : Record) (now : Sight P)
     (of : IsView meld (view_at name now)) (y : Held) (w : ℕ) (found : held_at own w ≡ Some y) (w_is : w ≡ comm_of asked)
     (members : List ℕ) (members_are : members ≡ y.group) (alone : Bool) (old : Record) (before : Sight P)
-    (st : Stands meld alone (local old (view_at name before)) (record { asked = asked; phase = Peeking peek shrinks; group = group }) (local own (view_at name now))) where
+    (st : Stands meld alone (local old (view_at name before)) (record { asked = asked; phase = Peeking peek shrinks; prepared = prepared }) (local own (view_at name now))) where
   abbrev peeking : IsPeeking (frame meld name.limits alone) (comm_of asked) shrinks peek (moment old before.seen) (moment own now.seen)
   peeking = st.at.1
 
@@ -154,7 +155,7 @@ module _ {P : Type 0} (meld : P → P → P) (name : Over P) (asked : Call P) (p
     on = peeking_on meld name.limits alone (comm_of asked) shrinks peek old before.seen own now.seen peeking quiet only after.seen did next comm round are_there
 
     -- one more is left
-    pub peek_goes : IsSide next.side members → HoldsFirst meld (view_at name after) next → Stands meld alone (local old (view_at name before)) (record { asked = asked; phase = Peeking next shrinks; group = group }) (local own (view_at name after))
+    pub peek_goes : IsSide next.side members → HoldsFirst meld (view_at name after) next → Stands meld alone (local old (view_at name before)) (record { asked = asked; phase = Peeking next shrinks; prepared = prepared }) (local own (view_at name after))
     unfolding peeking_on
     peek_goes more first = record {
       fits = st.fits;
@@ -205,7 +206,7 @@ peek_named {P} peek shrinks rank c old new there one = go (is_some peek.first) o
 -- not all blocks were set: what comes next, by what the code knows of the communicator
 module _ {P : Type 0} (meld : P → P → P) (alone : Bool) (name : Over P) (asked : Call P) (shrinks : Bool) (peek : Peek P) (old : Record) (before : Sight P)
     (own : Record) (now : Sight P) (of : IsView meld (view_at name now))
-    (h : HasPeeked meld alone asked shrinks peek (local old (view_at name before)) (local own (view_at name now))) (group : List ℕ) (y : Held) (w : ℕ) (found : held_at own w ≡ Some y)
+    (h : HasPeeked meld alone asked shrinks peek (local old (view_at name before)) (local own (view_at name now))) (prepared : Prepared) (y : Held) (w : ℕ) (found : held_at own w ≡ Some y)
     (w_is : w ≡ comm_of asked) (members declared : List ℕ) (members_are : members ≡ y.group)
     (declared_are : declared ≡ own.seen) where
   abbrev p : IsPeeking (frame meld name.limits alone) (comm_of asked) shrinks peek (moment old before.seen) (moment own now.seen)
@@ -249,7 +250,7 @@ module _ {P : Type 0} (meld : P → P → P) (alone : Bool) (name : Over P) (ask
 
     -- a declared member is marked
     pub unread_marking : (n : ℕ) → marks.rank ≡ n → n ≡ own.number → marks.comm ≡ w → marks.round ≡ peek.round → marks.next < length declared
-        → Stands meld alone (local old (view_at name before)) (record { asked = asked; phase = Marking marks peek.blocks shrinks; group = group }) (local own (view_at name now))
+        → Stands meld alone (local old (view_at name before)) (record { asked = asked; phase = Marking marks peek.blocks shrinks; prepared = prepared }) (local own (view_at name now))
     unread_marking n rank_is n_is there round more =
         let here : marks.comm ≡ comm_of asked = there ∙ w_is in
         let marking : IsMarking (frame meld name.limits alone) (comm_of asked) shrinks marks peek.blocks (moment old before.seen) (moment own now.seen) =
@@ -282,7 +283,7 @@ module _ {P : Type 0} (meld : P → P → P) (alone : Bool) (name : Over P) (ask
     -- or, where there is none, the blocks are read
     pub unread_reading : (reading : ReadBlocks P) (size : ℕ) → reading ≡ starts_at w peek.round peek.blocks size → size ≡ length members
         → length declared ≤ marks.next
-        → Stands meld alone (local old (view_at name before)) (record { asked = asked; phase = Reading reading shrinks; group = group }) (local own (view_at name now))
+        → Stands meld alone (local old (view_at name before)) (record { asked = asked; phase = Reading reading shrinks; prepared = prepared }) (local own (view_at name now))
     unread_reading reading size is size_is past =
         let nobody : filter (has p.x.group) fs ≡ [] = sym (all_in p.x.group fs marks.next at_look.within (subst (λ s. length s ≤ marks.next) seen_are past))
         ∙ none_yet in

@@ -15,6 +15,7 @@ use Rattle.ulfm_comm.specs.{Requests.{agreement}, Agreement.{IsPeeking}, Barrier
 use Rattle.ulfm_comm.specs.declared.phases.phase.Phase.TheVariants.{Peeking, Waiting}
 use Rattle.ulfm_comm.proofs.{CallRuns.{looked_fits}, Agreement.{poll_mine, some_member}, Holding.{holds}}
 use Rattle.ulfm_comm.specs.Local.{frame, local}
+use Rattle.ulfm_comm.specs.Prepared.{Prepared}
 
 -- of a block that isn't known nothing is told
 tells_none : {P : Type 0} (meld : P → P → P) (h : History P) (c k : ℕ) (group : List ℕ) (said : Option (Summary P)) → is_some said ≡ false
@@ -34,7 +35,7 @@ module _ {P : Type 0} (meld : P → P → P) (alone : Bool) (name : Over P) (ask
   just_number : own.number ≡ old.number
   just_number = ap (λ (w : Record). w.number) just.looked.record_is
 
-  module _ (group : List ℕ) (x : Held) (w : ℕ) (found : held_at own w ≡ Some x) (w_is : w ≡ comm_of asked) (rank comm : ℕ)
+  module _ (prepared : Prepared) (x : Held) (w : ℕ) (found : held_at own w ≡ Some x) (w_is : w ≡ comm_of asked) (rank comm : ℕ)
       (polls : asked ≡ call.Poll rank comm) where
     just_held : held_at own (comm_of asked) ≡ Some x
     just_held = sym (ap (held_at own) w_is) ∙ found
@@ -42,7 +43,7 @@ module _ {P : Type 0} (meld : P → P → P) (alone : Bool) (name : Over P) (ask
     -- of an agreement: the blocks of its round are loaded
     pub ready_peeking : (peek : Peek P) (shrinks : Bool) (k : ℕ) → x.request ≡ Some (agreement shrinks k) → peek.comm ≡ w → peek.round ≡ k → peek.side ≡ Front
         → (is_some peek.blocks.front ≡ false) × (is_some peek.blocks.back ≡ false) → peek.first ≡ None
-        → Stands meld alone (local old (view_at name before)) (record { asked = asked; phase = Peeking peek shrinks; group = group }) (local own (view_at name now))
+        → Stands meld alone (local old (view_at name before)) (record { asked = asked; phase = Peeking peek shrinks; prepared = prepared }) (local own (view_at name now))
     ready_peeking peek shrinks k open_is there round first none bare =
         let some : 0 < length x.group = some_member x.group own.number (holds meld name.limits now.seen own (comm_of asked) x just_fits just_held).member in
         let peeking : IsPeeking (frame meld name.limits alone) (comm_of asked) shrinks peek (moment old before.seen) (moment own now.seen) =
@@ -72,7 +73,7 @@ module _ {P : Type 0} (meld : P → P → P) (alone : Bool) (name : Over P) (ask
       -- of a barrier: who has arrived is read
       pub ready_waiting : (arrivals : Arrivals) (k : ℕ) → arrivals.comm ≡ w → arrivals.round ≡ k → x.request ≡ Some (Barrier k)
           → IsAsked members declared arrivals.others arrivals.next → asked_before members declared arrivals.others arrivals.next ≡ []
-          → Stands meld alone (local old (view_at name before)) (record { asked = asked; phase = Waiting arrivals; group = group }) (local own (view_at name now))
+          → Stands meld alone (local old (view_at name before)) (record { asked = asked; phase = Waiting arrivals; prepared = prepared }) (local own (view_at name now))
       ready_waiting arrivals k there round open_is asks first =
           let waits : IsWaiting (frame meld name.limits alone) (comm_of asked) arrivals.round x (moment old before.seen) (moment own now.seen) =
           record {

@@ -1,5 +1,5 @@
 -- Whole calls: their turns one after the other, up to the reply.
-use Rattle.std.proofs.Common.{◌≡◌, ◌⊎◌, ◌<◌, ◌≤◌, ℕ, Bool, true, false, List, [], length, IsTrue, arith, append-nil, inl, inr, refl, ap, subst, sym, ◌∙◌}
+use Rattle.std.proofs.Common.{◌≡◌, ◌⊎◌, ◌<◌, ◌≤◌, ℕ, Bool, true, false, [], length, IsTrue, arith, append-nil, inl, inr, refl, ap, subst, sym, ◌∙◌}
 use Rattle.std.proofs.lemmas.Bool.{false≢true}
 use mathlib.Core.List.{IsPrefix}
 use Rattle.ulfm_model.specs.declared.{call.Call.{Call}, event.Caller.TheVariants.{Rank}, reply.Reply.{Reply}}
@@ -13,18 +13,19 @@ use Rattle.ulfm_comm.specs.Step.{HasReadOn, RunsFrom, RunsOn, RunsThrough, Takes
 use Rattle.ulfm_comm.specs.declared.{phases.phase.Next.{Next}, phases.phase.Next.TheVariants.{Ends, Goes}, phases.phase.Phase.{Phase}, phases.phase.Phase.TheVariants.{Begun}}
 use Rattle.ulfm_comm.proofs.{AlsoLeft.{also_behind, also_ended}, Known.{blocks_later, blocks_of, knows_same, sees_next, whole_ends}, Stands.{stands_own, stands_shrinks}}
 use Rattle.ulfm_comm.proofs.{StepsLeft.{begun_bound}, Wings.{turns_then}}
+use Rattle.ulfm_comm.specs.Prepared.{Prepared, unprepared}
 
 -- two records of one rank that differ by what was seen alone
 seen_since : (old own mid : Record) → own ≡ record old { seen = own.seen } → mid ≡ record old { seen = mid.seen } → mid ≡ record own { seen = mid.seen }
 seen_since old own mid first last = last ∙ sym (ap (λ (w : Record). record w { seen = mid.seen }) first)
 
 -- a call that stands in a phase behind its look
-module _ {P : Type 0} (meld : P → P → P) (alone whole : Bool) (name : Over P) (asked : Call P) (phase : Phase P) (group : List ℕ) (own : Record) (start : Sight P)
-    (past : is_looking phase ≡ false) (still : StillStands meld (under_way asked phase group) (local own (view_at name start))) where
+module _ {P : Type 0} (meld : P → P → P) (alone whole : Bool) (name : Over P) (asked : Call P) (phase : Phase P) (prepared : Prepared) (own : Record) (start : Sight P)
+    (past : is_looking phase ≡ false) (still : StillStands meld (under_way asked phase prepared) (local own (view_at name start))) where
   -- it is answered by its turn there
-  pub turn_ends : (left : List ℕ) (reply : Reply P) (new : Record) (after : Sight P)
-      → TakesTurn meld alone whole (under_way asked phase group) (local own (view_at name start)) (coming (Ends reply) left) (local new (view_at name after))
-      → RunsOn meld alone (under_way asked phase group) (local own (view_at name start)) reply (local new (view_at name after))
+  pub turn_ends : (left : Prepared) (reply : Reply P) (new : Record) (after : Sight P)
+      → TakesTurn meld alone whole (under_way asked phase prepared) (local own (view_at name start)) (coming (Ends reply) left) (local new (view_at name after))
+      → RunsOn meld alone (under_way asked phase prepared) (local own (view_at name start)) reply (local new (view_at name after))
   turn_ends left reply new after turn =
       let spends = turn.spends in
       record {
@@ -36,21 +37,21 @@ module _ {P : Type 0} (meld : P → P → P) (alone whole : Bool) (name : Over P
         spends = omega (arith, spends);
         also = λ sets. let few = (also_behind name.limits asked phase own start (Ends reply) new after past turn.also sets).few in omega (arith, few);
         sees = λ known. sees_next own asked start.cached after.cached turn.walks.cached own.seen own.seen new.seen phase past turn.sees
-            (λ reads. stands_shrinks meld false name asked still.0 still.1 group own start phase reads still.2.at) known (inl refl);
+            (λ reads. stands_shrinks meld false name asked still.0 still.1 prepared own start phase reads still.2.at) known (inl refl);
         knows = λ known. turn.knows known;
         turns = λ old before u. turn.turns alone (λ here. here) old before u;
       }
 
   -- it goes on by its turn there, and what comes next is run to the reply
-  module _ (next : Phase P) (left : List ℕ) (mid : Record) (now : Sight P)
-      (turn : TakesTurn meld alone whole (under_way asked phase group) (local own (view_at name start)) (coming (Goes next) left) (local mid (view_at name now)))
+  module _ (next : Phase P) (left : Prepared) (mid : Record) (now : Sight P)
+      (turn : TakesTurn meld alone whole (under_way asked phase prepared) (local own (view_at name start)) (coming (Goes next) left) (local mid (view_at name now)))
       (reply : Reply P) (new : Record) (after : Sight P)
       (run : RunsOn meld alone (under_way asked next left) (local mid (view_at name now)) reply (local new (view_at name after))) where
     goes : Stands meld false (local still.0 (view_at name still.1)) (under_way asked next left) (local mid (view_at name now))
     goes = turn.turns false (λ here. absurd (false≢true here)) still.0 still.1 still.2
 
     kept : mid ≡ record own { seen = mid.seen }
-    kept = seen_since still.0 own mid (stands_own meld false name asked still.0 still.1 group own start phase still.2.at)
+    kept = seen_since still.0 own mid (stands_own meld false name asked still.0 still.1 prepared own start phase still.2.at)
         (stands_own meld false name asked still.0 still.1 left mid now next goes.at)
 
     held : (comm : ℕ) → held_at own comm ≡ held_at mid comm
@@ -81,7 +82,7 @@ module _ {P : Type 0} (meld : P → P → P) (alone whole : Bool) (name : Over P
       known = blocks_of mid own asked after.cached after.cached held ([], append-nil after.cached) last.known;
     })
 
-    pub turn_goes : RunsOn meld alone (under_way asked phase group) (local own (view_at name start)) reply (local new (view_at name after))
+    pub turn_goes : RunsOn meld alone (under_way asked phase prepared) (local own (view_at name start)) reply (local new (view_at name after))
     turn_goes =
         let spends = turn.spends in
         let more = run.spends in
@@ -91,7 +92,7 @@ module _ {P : Type 0} (meld : P → P → P) (alone whole : Bool) (name : Over P
           of = run.of;
           begins = prefix_trans start.seen now.seen after.seen (did_prefix alone _ start.seen now.seen turn.walks.did) run.begins;
           cached = prefix_trans start.cached now.cached after.cached turn.walks.cached run.cached;
-          beside = turns_then alone asked phase next group left _ _ (Ends reply) _ kept turn.beside run.beside;
+          beside = turns_then alone asked phase next prepared left _ _ (Ends reply) _ kept turn.beside run.beside;
           onward = omega (arith, first, last);
           spends = omega (arith, spends, more);
           also = λ sets.
@@ -101,7 +102,7 @@ module _ {P : Type 0} (meld : P → P → P) (alone whole : Bool) (name : Over P
               omega (arith, few, rest);
           sees = λ known.
               sees (sees_next own asked start.cached now.cached turn.walks.cached own.seen own.seen mid.seen phase past turn.sees
-              (λ reads. stands_shrinks meld false name asked still.0 still.1 group own start phase reads still.2.at) known (inl refl)) (run.sees (knows known));
+              (λ reads. stands_shrinks meld false name asked still.0 still.1 prepared own start phase reads still.2.at) known (inl refl)) (run.sees (knows known));
           knows = λ known of. blocks_of mid own asked after.cached after.cached held ([], append-nil after.cached) (run.knows (knows known) of);
           turns = λ old before u. run.turns old before (turn.turns alone (λ here. here) old before u);
         }
@@ -110,13 +111,13 @@ module _ {P : Type 0} (meld : P → P → P) (alone whole : Bool) (name : Over P
 module _ {P : Type 0} (meld : P → P → P) (alone : Bool) (name : Over P) (asked : Call P) (own : Record) (before : Sight P) (fits : Fits meld name.limits before.seen own)
     (mine : (traits_of asked).by ≡ Rank own.number) (used : own.refused ≡ false) (some : length own.seen < name.limits.ranks) (comms : 0 < name.limits.comms) where
   -- it begins here
-  begins : (quiet : Bool) → Stands meld quiet (local own (view_at name before)) (under_way asked Begun []) (local own (view_at name before))
+  begins : (quiet : Bool) → Stands meld quiet (local own (view_at name before)) (under_way asked Begun unprepared) (local own (view_at name before))
   begins quiet = record { fits = fits; mine = mine; onward = omega arith; at = (used, refl, did_none quiet before.seen) }
 
   -- where a call stands behind it
   then : (next : Next P) (mid : Record) (looked : Sight P)
-      → TakesTurn meld alone true (under_way asked Begun []) (local own (view_at name before)) (coming next []) (local mid (view_at name looked))
-      → (quiet : Bool) → (IsTrue quiet → IsTrue alone) → NextIs meld quiet asked (local own (view_at name before)) next [] (local mid (view_at name looked))
+      → TakesTurn meld alone true (under_way asked Begun unprepared) (local own (view_at name before)) (coming next unprepared) (local mid (view_at name looked))
+      → (quiet : Bool) → (IsTrue quiet → IsTrue alone) → NextIs meld quiet asked (local own (view_at name before)) next unprepared (local mid (view_at name looked))
   then next mid looked turn quiet only = turn.turns quiet only own before (begins quiet)
 
   -- a rank that was in use isn't refused again: its call has ended
@@ -131,7 +132,7 @@ module _ {P : Type 0} (meld : P → P → P) (alone : Bool) (name : Over P) (ask
 
   -- the look, with what comes after it
   looks : (next : Next P) (mid : Record) (looked : Sight P)
-      → TakesTurn meld alone true (under_way asked Begun []) (local own (view_at name before)) (coming next []) (local mid (view_at name looked)) → IsPast next
+      → TakesTurn meld alone true (under_way asked Begun unprepared) (local own (view_at name before)) (coming next unprepared) (local mid (view_at name looked)) → IsPast next
       → (new : Record) (after : Sight P) → IsPrefix looked.seen after.seen × IsPrefix looked.cached after.cached × (looked.steps ≤ after.steps)
       → (IsTrue (has (failures looked.seen) own.number) → after ≡ looked)
       → (new.seen ≡ mid.seen) ⊎ HasReadOn own asked (failures looked.seen) new.seen after.cached
@@ -153,7 +154,7 @@ module _ {P : Type 0} (meld : P → P → P) (alone : Bool) (name : Over P) (ask
 
   -- the look ended the call
   module _ (answer : Reply P) (mid : Record) (looked : Sight P)
-      (turn : TakesTurn meld alone true (under_way asked Begun []) (local own (view_at name before)) (coming (Ends answer) []) (local mid (view_at name looked))) where
+      (turn : TakesTurn meld alone true (under_way asked Begun unprepared) (local own (view_at name before)) (coming (Ends answer) unprepared) (local mid (view_at name looked))) where
     answered : Answered meld alone asked (local own (view_at name before)) answer (local mid (view_at name looked))
     answered = then (Ends answer) mid looked turn alone (λ here. here)
 
@@ -175,12 +176,12 @@ module _ {P : Type 0} (meld : P → P → P) (alone : Bool) (name : Over P) (ask
 
   -- the call goes on behind its look
   module _ (phase : Phase P) (mid : Record) (looked : Sight P)
-      (turn : TakesTurn meld alone true (under_way asked Begun []) (local own (view_at name before)) (coming (Goes phase) []) (local mid (view_at name looked)))
+      (turn : TakesTurn meld alone true (under_way asked Begun unprepared) (local own (view_at name before)) (coming (Goes phase) unprepared) (local mid (view_at name looked)))
       (past : is_looking phase ≡ false) (reply : Reply P) (new : Record) (after : Sight P)
-      (run : RunsOn meld alone (under_way asked phase []) (local mid (view_at name looked)) reply (local new (view_at name after))) where
+      (run : RunsOn meld alone (under_way asked phase unprepared) (local mid (view_at name looked)) reply (local new (view_at name after))) where
     -- it has changed nothing of the record but what was seen
     keeps : mid ≡ record own { seen = mid.seen }
-    keeps = stands_own meld false name asked own before [] mid looked phase (then (Goes phase) mid looked turn false (λ here. absurd (false≢true here))).at
+    keeps = stands_own meld false name asked own before unprepared mid looked phase (then (Goes phase) mid looked turn false (λ here. absurd (false≢true here))).at
 
     knows_mid : KnowsIn mid asked looked.cached phase
     knows_mid = knows_same own mid asked looked.cached (λ comm. ap (λ (w : Record). held_at w comm) keeps) phase (turn.knows tt)
@@ -190,7 +191,7 @@ module _ {P : Type 0} (meld : P → P → P) (alone : Bool) (name : Over P) (ask
 
     ends_late : EndsReply meld alone asked (local own (view_at name before)) reply (local new (view_at name after))
     ends_late =
-        let beside = turns_then alone asked Begun phase [] [] _ _ (Ends reply) _ keeps turn.beside run.beside in
+        let beside = turns_then alone asked Begun phase unprepared unprepared _ _ (Ends reply) _ keeps turn.beside run.beside in
         whole_ends meld alone name asked own before reply new after (has_ended reply new after replied)
         (prefix_trans before.cached looked.cached after.cached turn.walks.cached run.cached) beside.caches beside.wings
         (λ of.
@@ -236,14 +237,14 @@ module _ {P : Type 0} (meld : P → P → P) (alone : Bool) (name : Over P) (ask
       × MakesSteps name.limits asked own before new after
 
   pub whole_call : (reply : Reply P) (new : Record) (after : Sight P)
-      → RunsThrough meld alone (under_way asked Begun []) (local own (view_at name before)) reply (local new (view_at name after))
+      → RunsThrough meld alone (under_way asked Begun unprepared) (local own (view_at name before)) reply (local new (view_at name after))
       → EndsReply meld alone asked (local own (view_at name before)) reply (local new (view_at name after))
       × PendsIn meld alone asked (local own (view_at name before)) reply (local new (view_at name after))
       × MakesSteps name.limits asked own before new after
   whole_call reply new after through = by through.next through.turn through.past through.runs
     where
       by : (next : Next P)
-          → TakesTurn meld alone true (under_way asked Begun []) (local own (view_at name before)) (coming next []) (local through.mid (view_at name through.looked)) → IsPast next
+          → TakesTurn meld alone true (under_way asked Begun unprepared) (local own (view_at name before)) (coming next unprepared) (local through.mid (view_at name through.looked)) → IsPast next
           → RunsFrom meld alone asked (local through.mid (view_at name through.looked)) next reply (local new (view_at name after))
           → is_whole reply new after
       by (Goes phase) turn past run = (

@@ -39,6 +39,7 @@ use Rattle.ulfm_comm.proofs.Shrinks.{shrink_self_failed, shrink_shrunk}
 use Rattle.ulfm_comm.specs.Local.{frame, local}
 use Rattle.ulfm_comm.specs.Requests.{polled_round}
 use Rattle.ulfm_comm.specs.Spawning.{decided_as, seeking, target}
+use Rattle.ulfm_comm.specs.Prepared.{Prepared}
 
 -- so many failures were gone through as have the decision's failed group
 pub reads_of : (group : List ℕ) (count : ℕ) (on : ReadOn) (old new whole : List ℕ) → AtFailure group count on new → count ≤ on.found → IsPrefix old new
@@ -321,14 +322,14 @@ module _ {P : Type 0} (meld : P → P → P) (alone : Bool) (name : Over P) (ask
       }
 
 -- the list of failures was read on: others' events came, and a longer beginning of it is seen
-module _ {P : Type 0} (meld : P → P → P) (alone : Bool) (name : Over P) (asked : Call P) (on : ReadOn) (made : Made) (group : List ℕ) (old : Record)
+module _ {P : Type 0} (meld : P → P → P) (alone : Bool) (name : Over P) (asked : Call P) (on : ReadOn) (made : Made) (prepared : Prepared) (old : Record)
     (before : Sight P) (own : Record) (now : Sight P)
-    (s : Stands meld alone (local old (view_at name before)) (record { asked = asked; phase = ReadingOn on made; group = group }) (local own (view_at name now))) (new : Record) (after : Sight P)
+    (s : Stands meld alone (local old (view_at name before)) (record { asked = asked; phase = ReadingOn on made; prepared = prepared }) (local own (view_at name now))) (new : Record) (after : Sight P)
     (did : Did alone [] now.seen after.seen) (onward : now.steps ≤ after.steps)
     (is : new ≡ record own { seen = new.seen }) (goes : IsPrefix own.seen new.seen) (begins : IsPrefix new.seen (failures after.seen)) where
   -- as far as that the decision's failed group isn't known yet
-  pub reads_further : (next : ReadOn) (others : List ℕ) → AtFailure s.at.1.group made.count next new.seen → next.found < made.count
-      → Stands meld alone (local old (view_at name before)) (record { asked = asked; phase = ReadingOn next made; group = others }) (local new (view_at name after))
+  pub reads_further : (next : ReadOn) (others : Prepared) → AtFailure s.at.1.group made.count next new.seen → next.found < made.count
+      → Stands meld alone (local old (view_at name before)) (record { asked = asked; phase = ReadingOn next made; prepared = others }) (local new (view_at name after))
   reads_further next others at more =
       let before_that = s.onward in
       record {
@@ -364,11 +365,11 @@ module _ {P : Type 0} (meld : P → P → P) (alone : Bool) (name : Over P) (ask
 
 -- the communicator is looked for: a step in the list of communicators, or all that were left, led to this
 module _ {P : Type 0} (meld : P → P → P) (alone quiet : Bool) (only : IsTrue alone → IsTrue quiet) (name : Over P) (asked : Call P) (append : Append)
-    (context reach : ℕ) (group : List ℕ) (old : Record) (before : Sight P) (own : Record) (now : Sight P)
+    (context reach : ℕ) (prepared : Prepared) (old : Record) (before : Sight P) (own : Record) (now : Sight P)
     (of : IsView meld (view_at name now)) (s : Stands meld alone (local old (view_at name before)) (record {
       asked = asked;
       phase = Spawning append context reach;
-      group = group;
+      prepared = prepared;
     }) (local own (view_at name now))) (comm : ℕ) (there : comm ≡ comm_of asked) where
   pub item_is : append.item ≡ OfComm comm s.at.1.round
   item_is = s.at.1.item ∙ ap (λ n. OfComm n s.at.1.round) (sym there)
@@ -386,11 +387,11 @@ module _ {P : Type 0} (meld : P → P → P) (alone quiet : Bool) (only : IsTrue
       })
 
   -- and the rank may hold what is made
-  pub may_take : MayHold own comm context (length group)
+  pub may_take : MayHold own comm context (length prepared.members)
   may_take =
       let i = s.at.1 in
-      subst (λ n. MayHold own n context (length group)) (sym there)
-      (may_hold meld name.limits alone (comm_of asked) i.round i.mask i.x i.count old before.seen own now.seen i.decided context reach group i.lowest i.left
+      subst (λ n. MayHold own n context (length prepared.members)) (sym there)
+      (may_hold meld name.limits alone (comm_of asked) i.round i.mask i.x i.count old before.seen own now.seen i.decided context reach prepared.members i.lowest i.left
       of.may_open.in_range.ranks)
 
   pub rank_is : append.by ≡ Rank own.number
@@ -399,7 +400,7 @@ module _ {P : Type 0} (meld : P → P → P) (alone quiet : Bool) (only : IsTrue
 
   module _ (next : Append) (new : Record) (after : Sight P) where
     -- these are steps of the rank's own
-    pub spawn_walks : (result : Spawned) → SpawnIs meld quiet (target comm s.at.1.round context group) (seeking append (local own (view_at name now))) result (seeking next (local new (view_at name after)))
+    pub spawn_walks : (result : Spawned) → SpawnIs meld quiet (target comm s.at.1.round context prepared.members) (seeking append (local own (view_at name now))) result (seeking next (local new (view_at name after)))
         → Walks meld quiet own.number (view_at name now) (view_at name after)
     spawn_walks spawned.Unknown is = record { of = is.0.of; own = []; did = is.0.did; onward = is.0.onward; cached = is.0.cached }
     spawn_walks (spawned.Made j size) is =
@@ -413,14 +414,14 @@ module _ {P : Type 0} (meld : P → P → P) (alone quiet : Bool) (only : IsTrue
     spawn_walks spawned.Full is = record { of = is.0.of; own = []; did = is.0.did; onward = is.0.onward; cached = is.0.cached }
 
     -- no block is cached
-    pub spawn_caches : (result : Spawned) → SpawnIs meld quiet (target comm s.at.1.round context group) (seeking append (local own (view_at name now))) result (seeking next (local new (view_at name after)))
+    pub spawn_caches : (result : Spawned) → SpawnIs meld quiet (target comm s.at.1.round context prepared.members) (seeking append (local own (view_at name now))) result (seeking next (local new (view_at name after)))
         → after.caches ≡ now.caches
     spawn_caches spawned.Unknown is = is.0.caches
     spawn_caches (spawned.Made j size) is = is.0.caches
     spawn_caches spawned.Full is = is.0.caches
 
     -- and add nothing, or the communicator
-    pub spawn_adds : (reply : Option (Reply P)) (result : Spawned) → SpawnIs meld quiet (target comm s.at.1.round context group) (seeking append (local own (view_at name now))) result (seeking next (local new (view_at name after))) → Adds quiet [] own asked reply now.seen after.seen
+    pub spawn_adds : (reply : Option (Reply P)) (result : Spawned) → SpawnIs meld quiet (target comm s.at.1.round context prepared.members) (seeking append (local own (view_at name now))) result (seeking next (local new (view_at name after))) → Adds quiet [] own asked reply now.seen after.seen
     spawn_adds reply spawned.Unknown is = adds_none quiet [] own asked reply now.seen after.seen is.0.did
     spawn_adds reply (spawned.Made j size) is =
         record { events = is.0.own; did = subst (λ by. Did quiet (entries_by by is.0.own) now.seen after.seen) rank_is is.0.did; few = by_few is.0.few }
@@ -448,8 +449,8 @@ module _ {P : Type 0} (meld : P → P → P) (alone quiet : Bool) (only : IsTrue
     spawn_adds reply spawned.Full is = adds_none quiet [] own asked reply now.seen after.seen is.0.did
 
     -- it isn't found yet
-    pub spawn_goes_on : (others : List ℕ) → others ≡ group → SpawnIs meld quiet (target comm s.at.1.round context group) (seeking append (local own (view_at name now))) spawned.Unknown (seeking next (local new (view_at name after)))
-        → Stands meld alone (local old (view_at name before)) (record { asked = asked; phase = Spawning next context reach; group = others }) (local new (view_at name after))
+    pub spawn_goes_on : (others : Prepared) → others ≡ prepared → SpawnIs meld quiet (target comm s.at.1.round context prepared.members) (seeking append (local own (view_at name now))) spawned.Unknown (seeking next (local new (view_at name after)))
+        → Stands meld alone (local old (view_at name before)) (record { asked = asked; phase = Spawning next context reach; prepared = others }) (local new (view_at name after))
     unfolding decided_on
     spawn_goes_on others kept is =
         let i = s.at.1 in
@@ -459,11 +460,11 @@ module _ {P : Type 0} (meld : P → P → P) (alone quiet : Bool) (only : IsTrue
         let here : next.item ≡ OfComm comm i.round = sought.item ∙ item_is in
         let earlier = s.onward in
         let onward = sought.onward in
-        subst (λ ms. Stands meld alone (local old (view_at name before)) (record { asked = asked; phase = Spawning next context reach; group = ms }) (local new (view_at name after))) (sym kept)
+        subst (λ others. Stands meld alone (local old (view_at name before)) (record { asked = asked; phase = Spawning next context reach; prepared = others }) (local new (view_at name after))) (sym kept)
         (subst (λ (w : Record). Stands meld alone (local old (view_at name before)) (record {
           asked = asked;
           phase = Spawning next context reach;
-          group = group;
+          prepared = prepared;
         }) (local w (view_at name after))) (sym is.1) (record {
           fits = s.fits;
           mine = s.mine;
@@ -488,11 +489,12 @@ module _ {P : Type 0} (meld : P → P → P) (alone quiet : Bool) (only : IsTrue
               passed = subst (λ (item : Item). Passed after.seen item next.index) (sym here) sought.passed;
               more = subst (λ (item : Item). next.index < room item name.limits) (sym here) sought.more;
             },
+            s.at.2,
           );
         }))
 
     -- it is made, and held
-    pub spawn_makes : (j size : ℕ) → SpawnIs meld quiet (target comm s.at.1.round context group) (seeking append (local own (view_at name now))) (spawned.Made j size) (seeking next (local new (view_at name after)))
+    pub spawn_makes : (j size : ℕ) → SpawnIs meld quiet (target comm s.at.1.round context prepared.members) (seeking append (local own (view_at name now))) (spawned.Made j size) (seeking next (local new (view_at name after)))
         → Answered meld alone asked (local old (view_at name before)) (Shrunk j context size) (local new (view_at name after))
     spawn_makes j size is =
         let i = s.at.1 in
@@ -512,12 +514,12 @@ module _ {P : Type 0} (meld : P → P → P) (alone quiet : Bool) (only : IsTrue
           cached = made.cached;
           caches = made.caches;
         }) in
-        ends_made meld alone name asked i.round i.mask i.x i.count reach old before own now of s.onward s.fits s.at.0 i.decided i.reads j context size group new
+        ends_made meld alone name asked i.round i.mask i.x i.count reach old before own now of s.onward s.fits s.at.0 i.decided i.reads j context size prepared.members new
         after mine
-        (subst (λ n. Holds n context group own j size new) there is.1) i.lowest i.left i.stays
+        (subst (λ n. Holds n context prepared.members own j size new) there is.1) i.lowest i.left i.stays
 
     -- there is no room for it
-    pub spawn_full : (ended : Record) → SpawnIs meld quiet (target comm s.at.1.round context group) (seeking append (local own (view_at name now))) spawned.Full (seeking next (local new (view_at name after)))
+    pub spawn_full : (ended : Record) → SpawnIs meld quiet (target comm s.at.1.round context prepared.members) (seeking append (local own (view_at name now))) spawned.Full (seeking next (local new (view_at name after)))
         → ended ≡ closed new comm → Answered meld alone asked (local old (view_at name before)) (Refused NoRoom) (local ended (view_at name after))
     spawn_full ended is closes =
         let i = s.at.1 in

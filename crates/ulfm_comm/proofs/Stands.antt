@@ -27,6 +27,7 @@ use Rattle.ulfm_comm.specs.declared.phases.phase.Phase.TheVariants.{ReadingOn, S
 use Rattle.ulfm_comm.specs.Local.{frame, local}
 use Rattle.ulfm_comm.specs.Requests.{polled_round}
 use Rattle.ulfm_comm.specs.Spawning.{decided_as, sought}
+use Rattle.ulfm_comm.specs.Prepared.{Prepared}
 
 module _ {P : Type 0} (meld : P → P → P) (limits : Limits) (alone : Bool) (old : Record) (before : History P) (own : Record) (now later : History P)
     (did : Did alone [] now later) (legal : IsLegal meld limits later) where
@@ -185,9 +186,9 @@ module _ {P : Type 0} (name : Named P) (now later : Sight P) (begins : IsPrefix 
       go None is = tt
       go (Some w) is = (is.0, slot_stays now.seen later.seen reading.comm reading.round (next_in_block group reading) (Slot.Given is.0) begins is.1, is.2)
 
-module _ {P : Type 0} (meld : P → P → P) (alone : Bool) (name : Named P) (asked : Call P) (old : Record) (before : Sight P) (group : List ℕ) (own : Record)
+module _ {P : Type 0} (meld : P → P → P) (alone : Bool) (name : Named P) (asked : Call P) (old : Record) (before : Sight P) (prepared : Prepared) (own : Record)
     (now later : Sight P) (did : Did alone [] now.seen later.seen) (keeps : IsPrefix now.cached later.cached) (of : IsView meld (view_at name later)) where
-  at_lasts : (phase : Phase P) → StandsAt meld alone asked (local old (view_at name before)) phase group (local own (view_at name now)) → StandsAt meld alone asked (local old (view_at name before)) phase group (local own (view_at name later))
+  at_lasts : (phase : Phase P) → StandsAt meld alone asked (local old (view_at name before)) phase prepared (local own (view_at name now)) → StandsAt meld alone asked (local old (view_at name before)) phase prepared (local own (view_at name later))
   at_lasts Over p = (p.0, p.1, did_wait alone [] before.seen now.seen later.seen p.2 did)
   at_lasts Begun p = (p.0, p.1, did_wait alone [] before.seen now.seen later.seen p.2 did)
   at_lasts Looking p =
@@ -230,7 +231,8 @@ module _ {P : Type 0} (meld : P → P → P) (alone : Bool) (name : Named P) (as
   at_lasts (Spawning append context reach) p = (
     p.0,
     spawning_lasts meld name.limits alone old before.seen own now.seen later.seen did of.legal
-        (comm_of asked) append context reach group p.1,
+        (comm_of asked) append context reach prepared.members p.1,
+    p.2,
   )
   at_lasts (Waiting arrivals) p = (
     p.0,
@@ -252,11 +254,11 @@ stands_lasts meld alone name old before doing own now later u waits of =
       fits = u.fits;
       mine = u.mine;
       onward = omega (arith, u.onward, waits.onward);
-      at = at_lasts meld alone name doing.asked old before doing.group own now later waits.did waits.cached of doing.phase u.at;
+      at = at_lasts meld alone name doing.asked old before doing.prepared own now later waits.did waits.cached of doing.phase u.at;
     }
 
 -- a call that is under way has changed nothing of its rank's record but what it has seen
-module _ {P : Type 0} (meld : P → P → P) (alone : Bool) (name : Named P) (asked : Call P) (old : Record) (before : Sight P) (group : List ℕ) (own : Record)
+module _ {P : Type 0} (meld : P → P → P) (alone : Bool) (name : Named P) (asked : Call P) (old : Record) (before : Sight P) (prepared : Prepared) (own : Record)
     (now : Sight P) where
   by_same : own ≡ old → own ≡ record old { seen = own.seen }
   by_same is = is ∙ ap (λ (w : Record). record old { seen = w.seen }) (sym is)
@@ -268,7 +270,7 @@ module _ {P : Type 0} (meld : P → P → P) (alone : Bool) (name : Named P) (as
       → own ≡ record old { seen = own.seen }
   by_looked mid look looked is = is ∙ ap (λ (w : Record). record w { seen = own.seen }) looked.record_is
 
-  pub stands_own : (phase : Phase P) → StandsAt meld alone asked (local old (view_at name before)) phase group (local own (view_at name now)) → own ≡ record old { seen = own.seen }
+  pub stands_own : (phase : Phase P) → StandsAt meld alone asked (local old (view_at name before)) phase prepared (local own (view_at name now)) → own ≡ record old { seen = own.seen }
   stands_own Over p = by_same p.1
   stands_own Begun p = by_same p.1
   stands_own Looking p = p.1
@@ -286,7 +288,7 @@ module _ {P : Type 0} (meld : P → P → P) (alone : Bool) (name : Named P) (as
   stands_own (Checking missing) p = by_seen _ p.2.waits.looked.record_is
 
   -- one that reads on polls a shrink
-  pub stands_shrinks : (phase : Phase P) → reads_on phase ≡ true → StandsAt meld alone asked (local old (view_at name before)) phase group (local own (view_at name now))
+  pub stands_shrinks : (phase : Phase P) → reads_on phase ≡ true → StandsAt meld alone asked (local old (view_at name before)) phase prepared (local own (view_at name now))
       → IsTrue (is_shrink (polled_by own asked))
   stands_shrinks (ReadingOn on made) reads p =
       let d = p.2 in

@@ -26,6 +26,7 @@ use Rattle.ulfm_comm.specs.declared.phases.phase.Phase.TheVariants.{Over, Begun,
 use Rattle.ulfm_comm.specs.declared.phases.phase.Phase.TheVariants.{ReadingOn, Spawning, Waiting, Checking}
 use Rattle.ulfm_comm.proofs.{Exchange.{fits_now, found_same, is_starting, number_is, passes_tests}, Holding.{comm_is}}
 use Rattle.ulfm_comm.specs.Local.{frame, local}
+use Rattle.ulfm_comm.specs.Prepared.{Prepared}
 
 module _ {P : Type 0} (quiet : Bool) (look : List ℕ) (own : Record) (asked : Call P) (reply : Option (Reply P)) (old new : History P) where
   -- nothing
@@ -44,9 +45,9 @@ start_keeps own c request (Ok done) = refl
 start_keeps own c request (Err Settled.Marked) = refl
 start_keeps own c request (Err Settled.Contributed) = refl
 
-module _ {P : Type 0} (meld : P → P → P) (quiet : Bool) (name : Named P) (asked : Call P) (request : Request) (offer : Offer P) (group : List ℕ) (old : Record)
+module _ {P : Type 0} (meld : P → P → P) (quiet : Bool) (name : Named P) (asked : Call P) (request : Request) (offer : Offer P) (prepared : Prepared) (old : Record)
     (before : Sight P) (own : Record) (now : Sight P) (after : History P)
-    (stood : Stands meld false (local old (view_at name before)) (record { asked = asked; phase = Settling request offer; group = group }) (local own (view_at name now))) (x : Held)
+    (stood : Stands meld false (local old (view_at name before)) (record { asked = asked; phase = Settling request offer; prepared = prepared }) (local own (view_at name now))) (x : Held)
     (held : held_at own (comm_of asked) ≡ Some x) where
   -- the rank's contribution is one that its call may add
   may_settle : (given : Contribution P) → CallAdds own.seen own.number x asked (Settle x.comm x.next_agreement own.number given)
@@ -111,11 +112,11 @@ module _ {P : Type 0} (meld : P → P → P) (quiet : Bool) (limits : Limits) (a
 
 -- the exchange of a mark
 module _ {P : Type 0} (meld : P → P → P) (quiet : Bool) (name : Named P) (asked : Call P) (marks : MarkAll) (blocks : RoundBlocks P) (shrinks : Bool)
-    (group : List ℕ) (old : Record) (before : Sight P) (own : Record) (now : Sight P) (after : History P) (of : IsView meld (view_at name now))
+    (prepared : Prepared) (old : Record) (before : Sight P) (own : Record) (now : Sight P) (after : History P) (of : IsView meld (view_at name now))
     (stood : Stands meld false (local old (view_at name before)) (record {
       asked = asked;
       phase = Marking marks blocks shrinks;
-      group = group;
+      prepared = prepared;
     }) (local own (view_at name now))) (reply : Option (Reply P)) where
   abbrev marking : IsMarking (frame meld name.limits false) (comm_of asked) shrinks marks blocks (moment old before.seen) (moment own now.seen)
   marking = stood.at.1

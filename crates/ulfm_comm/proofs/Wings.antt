@@ -13,6 +13,7 @@ use Rattle.ulfm_words.proofs.Tried.{tried_or, tries_as, tries_none, tries_one, t
 use Rattle.ulfm_steps.specs.Settles.{WasTried}
 use Rattle.ulfm_comm.specs.{Exchange.{Settles}, Local.{Local}, Phase.{UnderWay, under_way}, Requests.{is_agreement}, Step.{TriesTurn}, Wings.{IsOwnPlace, IsPlaceSet, MayTry, WingsIn, WingsNext, WingsSettled}}
 use Rattle.ulfm_comm.specs.declared.{phases.phase.Next.{Next}, phases.phase.Next.TheVariants.{Ends, Goes}, phases.phase.Phase.{Phase}, phases.phase.Phase.TheVariants.{Settling}}
+use Rattle.ulfm_comm.specs.Prepared.{Prepared}
 
 -- what a call may try rests on nothing of its record that a look changes
 pub may_try_seen : {P : Type 0} (own : Record) (seen : List ℕ) (asked : Call P) (s : Site) → MayTry (record own { seen = seen }) asked s → MayTry own asked s
@@ -119,7 +120,7 @@ turn_settles {P} quiet was request offer old reply new at begins same x held set
         subst (λ n. IsPlaceSet new.view c k n) (sym own.rank) (subst (λ n. IsPlaceSet new.view c n old.own.number) round (subst (λ n. IsPlaceSet new.view n x.next_agreement old.own.number) comm set))
 
 -- turns after one another
-pub turns_then : {P : Type 0} (quiet : Bool) (asked : Call P) (first middle : Phase P) (begun left : List ℕ) (old mid : Local P) (next : Next P) (new : Local P) → mid.own ≡ record old.own { seen = mid.own.seen }
+pub turns_then : {P : Type 0} (quiet : Bool) (asked : Call P) (first middle : Phase P) (begun left : Prepared) (old mid : Local P) (next : Next P) (new : Local P) → mid.own ≡ record old.own { seen = mid.own.seen }
     → TriesTurn quiet (under_way asked first begun) old (Goes middle) mid → TriesTurn quiet (under_way asked middle left) mid next new → TriesTurn quiet (under_way asked first begun) old next new
 turns_then quiet asked first middle begun left old mid next new kept one two = record {
   caches = tries_then old.view.pass.caches mid.view.pass.caches new.view.pass.caches one.caches (try_seen old.own mid.own mid.own.seen asked mid.view.pass.caches new.view.pass.caches kept two.caches);

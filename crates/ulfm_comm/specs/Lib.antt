@@ -10,6 +10,7 @@ pub mod Exchange
 pub mod Excludes
 pub mod Barrier
 pub mod Polls
+pub mod Prepared
 pub mod Revokes
 pub mod Spawning
 pub mod Fails

@@ -1,5 +1,5 @@
 -- Where a call of a rank stands between two steps.
-use Rattle.std.specs.Prelude.{◌≡◌, ◌⊎◌, ℕ, ◌<◌, ◌≤◌, Bool, true, false, List, [], Some, None, Option, length, nat_lt, is_some, IsTrue, IsFalse, if◌then◌else◌, ⊤}
+use Rattle.std.specs.Prelude.{◌≡◌, ◌⊎◌, ℕ, ◌<◌, ◌≤◌, Bool, true, false, [], Some, None, Option, length, nat_lt, is_some, IsTrue, IsFalse, if◌then◌else◌, ⊤}
 use Rattle.std.specs.Prelude.{MatchOption}
 use mathlib.Core.List.{IsPrefix}
 use Rattle.ulfm_model.specs.declared.call.Call.TheVariants as call
@@ -10,6 +10,7 @@ use Rattle.ulfm_words.specs.Steps.{Sight, view_at}
 use Rattle.ulfm_steps.specs.{Arriving.{AtArrival}, Blocks.{HoldsFirst, HoldsHalf}, Looks.{LookIs}, ReadsOn.{AtFailure}, Settles.{IsSpreadIn}}
 use Rattle.ulfm_comm.specs.Local.{Local, frame_of, local, moment_of}
 use Rattle.ulfm_comm.specs.{Calls.{HasReplied}, Ends.{IsRefusedAgain}, Polls.{PendsIn}, Look.{HasLooked}, Exchange.{StartsWith}}
+use Rattle.ulfm_comm.specs.Prepared.{HasPlaces, Prepared}
 use Rattle.ulfm_comm.specs.{Agreement.{IsMarking, IsPeeking, IsReading}, Spawning.{HasReadMask, IsSpawning, sought}, Barrier.{IsWaiting, IsChecking}}
 use Rattle.ulfm_comm.specs.declared.{phases.phase.Next.{Next}, phases.phase.Next.TheVariants.{Goes, Ends}, phases.phase.Phase.{Phase}}
 use Rattle.ulfm_model.specs.declared.step_name.StepName.{StepName}
@@ -17,14 +18,14 @@ use Rattle.ulfm_comm.specs.declared.phases.phase.Phase.TheVariants.{Over, Begun,
 use Rattle.ulfm_comm.specs.declared.phases.phase.Phase.TheVariants.{Reading, ReadingOn, Spawning, Waiting, Checking}
 use Rattle.ulfm_model.specs.declared.step_name.StepName.TheVariants as step
 
--- a call under way: what is asked, what it does next, and the members of a communicator that it makes
+-- a call under way: what is asked, what it does next, and what is prepared for a communicator that it makes
 pub record UnderWay (P : Type 0) : Type 0 where
   pub asked : Call P
   pub phase : Phase P
-  pub group : List ℕ
+  pub prepared : Prepared
 
-abbrev pub under_way : {P : Type 0} → Call P → Phase P → List ℕ → UnderWay P
-under_way asked phase group = record { asked = asked; phase = phase; group = group }
+abbrev pub under_way : {P : Type 0} → Call P → Phase P → Prepared → UnderWay P
+under_way asked phase prepared = record { asked = asked; phase = phase; prepared = prepared }
 
 -- the name of the next step
 abbrev pub next_step : {P : Type 0} → Phase P → Option StepName
@@ -126,50 +127,51 @@ next_of None phase = Goes phase
 next_of (Some reply) phase = Ends reply
 
 -- where a call stands that goes on with this phase
-abbrev pub StandsAt : {P : Type 0} → (P → P → P) → Bool → Call P → Local P → Phase P → List ℕ → Local P → Type 0
-StandsAt meld alone asked start Over group now =
+abbrev pub StandsAt : {P : Type 0} → (P → P → P) → Bool → Call P → Local P → Phase P → Prepared → Local P → Type 0
+StandsAt meld alone asked start Over prepared now =
     IsTrue start.own.refused × (now.own ≡ start.own) × Did alone [] start.view.pass.seen now.view.pass.seen
-StandsAt meld alone asked start Begun group now =
+StandsAt meld alone asked start Begun prepared now =
     IsFalse start.own.refused × (now.own ≡ start.own) × Did alone [] start.view.pass.seen now.view.pass.seen
-StandsAt meld alone asked start Looking group now =
+StandsAt meld alone asked start Looking prepared now =
     IsFalse start.own.refused × (now.own ≡ record start.own { seen = now.own.seen }) × Did alone [] start.view.pass.seen now.view.pass.seen
     × LookIs start.view.words.limits false now.own.seen now.view.pass.seen
-StandsAt meld alone asked start (Spreading request offer) group now =
+StandsAt meld alone asked start (Spreading request offer) prepared now =
     (p : HasLooked (frame_of meld alone start) asked (moment_of start) (moment_of now)) × StartsWith asked start.own p.x request offer
-StandsAt meld alone asked start (Settling request offer) group now =
+StandsAt meld alone asked start (Settling request offer) prepared now =
     (p : HasLooked (frame_of meld alone start) asked (moment_of start) (moment_of now)) × StartsWith asked start.own p.x request offer
     × IsSpreadIn now.view p.x.comm p.x.next_agreement now.own.number offer
-StandsAt meld alone asked start (Arriving round) group now =
+StandsAt meld alone asked start (Arriving round) prepared now =
     (p : HasLooked (frame_of meld alone start) asked (moment_of start) (moment_of now))
     × (asked ≡ call.Barrier start.own.number (comm_of asked)) × (round ≡ p.x.next_barrier)
-StandsAt meld alone asked start Revoking group now =
+StandsAt meld alone asked start Revoking prepared now =
     HasLooked (frame_of meld alone start) asked (moment_of start) (moment_of now) × (asked ≡ call.Revoke start.own.number (comm_of asked))
-StandsAt meld alone asked start Asking group now =
+StandsAt meld alone asked start Asking prepared now =
     HasLooked (frame_of meld alone start) asked (moment_of start) (moment_of now) × (asked ≡ call.IsRevoked start.own.number (comm_of asked))
-StandsAt meld alone asked start (Peeking peek shrinks) group now =
+StandsAt meld alone asked start (Peeking peek shrinks) prepared now =
     (asked ≡ call.Poll start.own.number (comm_of asked))
     × (p : IsPeeking (frame_of meld alone start) (comm_of asked) shrinks peek (moment_of start) (moment_of now)) × IsSide peek.side p.x.group
     × HoldsFirst meld now.view peek
-StandsAt meld alone asked start (Marking marks blocks shrinks) group now =
+StandsAt meld alone asked start (Marking marks blocks shrinks) prepared now =
     (asked ≡ call.Poll start.own.number (comm_of asked))
     × (p : IsMarking (frame_of meld alone start) (comm_of asked) shrinks marks blocks (moment_of start) (moment_of now))
     × (marks.next < length (failures p.look))
-StandsAt meld alone asked start (Reading reading shrinks) group now =
+StandsAt meld alone asked start (Reading reading shrinks) prepared now =
     (asked ≡ call.Poll start.own.number (comm_of asked))
     × (p : IsReading (frame_of meld alone start) (comm_of asked) shrinks reading (moment_of start) (moment_of now))
     × HoldsHalf now.view p.x.group reading
-StandsAt meld alone asked start (ReadingOn on made) group now =
+StandsAt meld alone asked start (ReadingOn on made) prepared now =
     (asked ≡ call.Poll start.own.number (comm_of asked)) × (x : Held)
     × HasReadMask (frame_of meld alone start) (comm_of asked) made x (moment_of start) (moment_of now)
     × AtFailure x.group made.count on now.own.seen × (on.found < made.count)
-StandsAt meld alone asked start (Spawning append context reach) group now =
+StandsAt meld alone asked start (Spawning append context reach) prepared now =
     (asked ≡ call.Poll start.own.number (comm_of asked))
-    × IsSpawning (frame_of meld alone start) (comm_of asked) append (sought context reach group) (moment_of start) (moment_of now)
-StandsAt meld alone asked start (Waiting arrivals) group now =
+    × IsSpawning (frame_of meld alone start) (comm_of asked) append (sought context reach prepared.members) (moment_of start) (moment_of now)
+    × HasPlaces now.own.held prepared.places
+StandsAt meld alone asked start (Waiting arrivals) prepared now =
     (asked ≡ call.Poll start.own.number (comm_of asked)) × (arrivals.comm ≡ comm_of asked) × (x : Held)
     × (p : IsWaiting (frame_of meld alone start) (comm_of asked) arrivals.round x (moment_of start) (moment_of now))
     × AtArrival x.group now.own.seen arrivals now.view.pass.seen
-StandsAt {P} meld alone asked start (Checking missing) group now =
+StandsAt {P} meld alone asked start (Checking missing) prepared now =
     (asked ≡ call.Poll start.own.number (comm_of asked)) × (earlier : History P)
     × IsChecking (frame_of meld alone start) (comm_of asked) missing earlier (moment_of start) (moment_of now)
 
@@ -178,7 +180,7 @@ pub record Stands {P : Type 0} (meld : P → P → P) (alone : Bool) (start : Lo
   pub fits : Fits meld start.view.words.limits start.view.pass.seen start.own
   pub mine : (traits_of doing.asked).by ≡ Rank start.own.number
   pub onward : start.view.pass.steps ≤ now.view.pass.steps
-  pub at : StandsAt meld alone doing.asked start doing.phase doing.group now
+  pub at : StandsAt meld alone doing.asked start doing.phase doing.prepared now
 
 -- since then there were others' events alone
 pub record Idles {P : Type 0} (alone : Bool) (old new : Sight P) : Type 0 where
@@ -198,12 +200,12 @@ pub record Answered {P : Type 0} (meld : P → P → P) (alone : Bool) (asked : 
   pub pending : PendsIn meld alone asked start reply new
 
 -- what comes next: further steps, or the reply
-abbrev pub NextIs : {P : Type 0} → (P → P → P) → Bool → Call P → Local P → Next P → List ℕ → Local P → Type 0
-NextIs meld alone asked start (Goes phase) group now = Stands meld alone start (under_way asked phase group) now
-NextIs meld alone asked start (Ends reply) group now = Answered meld alone asked start reply now
+abbrev pub NextIs : {P : Type 0} → (P → P → P) → Bool → Call P → Local P → Next P → Prepared → Local P → Type 0
+NextIs meld alone asked start (Goes phase) prepared now = Stands meld alone start (under_way asked phase prepared) now
+NextIs meld alone asked start (Ends reply) prepared now = Answered meld alone asked start reply now
 
 -- one step leads on from where a call stood, also where nobody else steps
-abbrev pub Turns : {P : Type 0} → (P → P → P) → Bool → UnderWay P → Local P → Next P → List ℕ → Local P → Type 0
+abbrev pub Turns : {P : Type 0} → (P → P → P) → Bool → UnderWay P → Local P → Next P → Prepared → Local P → Type 0
 Turns {P} meld quiet doing now next left new =
     (alone : Bool) → (IsTrue alone → IsTrue quiet) → (old : Record) → (before : Sight P)
     → Stands meld alone (local old (view_at now.view.words before)) doing now

@@ -4,13 +4,16 @@ use Rattle.std.specs.List.{AllByRecursion, IsDistinct}
 use Rattle.ulfm_laws.specs.Ranges.{payload_bits}
 use Rattle.ulfm_model.specs.declared.limits.Limits.{Limits}
 use Rattle.ulfm_model.specs.{History.{has}, Records.{Held}, Words.{MayOpen}}
+use Rattle.ulfm_comm.specs.Prepared.{few_comms}
 
 -- All ranks can be declared without a growth of what was seen, which has this capacity. The communicators that are held have distinct
--- context ids, each one of a mask's bits, and stand in a vector that has room for as many as there are ids.
+-- context ids, each one of a mask's bits. They stand in a vector that has room for a few from the start, and where there are more, for as many as
+-- there are ids.
 pub record HasRoom (limits : Limits) (capacity places : ℕ) (held : List Held) : Type 0 where
   pub may_open : MayOpen limits
   pub room : limits.ranks ≤ capacity
-  pub enough : payload_bits ≤ places
+  pub few : few_comms ≤ places
+  pub more : few_comms < length held → payload_bits ≤ places
   pub ids : AllByRecursion (λ i. i < payload_bits) (map (λ x. x.context) held)
   pub contexts : IsDistinct nat_eq (map (λ x. x.context) held)
 

@@ -14,7 +14,7 @@ use Rattle.ulfm_words.specs.Steps.{IsView, Sight, View}
 use Rattle.ulfm_steps.specs.declared.{append.Append.{Append}, item.Item.TheVariants.{Comm as OfComm}}
 use Rattle.ulfm_model.specs.Blocks.{IsSummed}
 use Rattle.ulfm_steps.specs.{Appends.{Passed, room, MayAppend, turns_left}, ReadsOn.{ReadsOn}, Rounds.{RoundOn, round_on}, Turns.{Running, TakesFirst, running}}
-use Rattle.ulfm_comm.specs.{Local.{Frame, Local, frame_of, moment_of}, Polls.{PollHasMarked}, Requests.{polled_round}}
+use Rattle.ulfm_comm.specs.{Local.{Frame, Local, frame_of, moment_of}, Polls.{PollHasMarked}, Prepared.{HasPlaces, Prepared}, Requests.{polled_round}}
 use Rattle.ulfm_comm.specs.declared.{phases.phase.Made.{Made}, phases.phase.Next.{Next}, phases.phase.Next.TheVariants.{Ends}}
 use Rattle.ulfm_comm.specs.declared.phases.spawning.Spawned.{Spawned}
 use Rattle.ulfm_comm.specs.declared.phases.spawning.Spawned.TheVariants as spawned
@@ -168,7 +168,8 @@ pub record HasReached {P : Type 0} (meld : P → P → P) (alone : Bool) (asked 
   pub decided : HasReadMask (frame_of meld alone start) (comm_of asked) made x (moment_of start) (moment_of now)
   pub reads : ReadsOn x.group made.count decided.mid.seen now.own.seen (failures now.view.pass.seen) reach
 
--- Where the world has no room for a communicator more, the memory for its members was there before: the vector has them.
-abbrev pub HadMemory : {P : Type 0} → Call P → ℕ → Record → Next P → List ℕ → Type 0
-HadMemory asked reach own next group =
-    next ≡ Ends (Refused NoRoom) → (x : Held) → held_at own (comm_of asked) ≡ Some x → group ≡ without x.group (take reach own.seen)
+-- Where the world has no room for a communicator more, the memory for its members was there before, and so were the places for it.
+abbrev pub HadMemory : {P : Type 0} → Call P → ℕ → Record → Next P → Prepared → Type 0
+HadMemory asked reach own next prepared =
+    next ≡ Ends (Refused NoRoom) → (x : Held) → held_at own (comm_of asked) ≡ Some x
+    → (prepared.members ≡ without x.group (take reach own.seen)) × HasPlaces own.held prepared.places

@@ -9,7 +9,7 @@ use Rattle.ulfm_words.specs.Steps.{IsView, Sight, TriesFurther, View, view_at}
 use Rattle.ulfm_comm.specs.{Look.{JustLooked}, StepsLeft.{FewerLeft, MakesStep, Spends, steps_left, with_look}}
 use Rattle.ulfm_comm.specs.Missing.{AnsweredNow, AnswersMissing, FindsMissing, FoundNow, midway}
 use Rattle.ulfm_comm.specs.{AlsoLeft.{AlsoFollows, AlsoTurns, FindsSetIn, also_left}, Known.{KnowsIn, KnowsNext}, Requests.{BlocksStand, LeavesSet}}
-use Rattle.ulfm_comm.specs.{Local.{Local, local, stance_of}, Proposals.{WinsNext}, Wings.{MayTry, WingsIn, WingsNext}}
+use Rattle.ulfm_comm.specs.{Local.{Local, local, stance_of}, Prepared.{Prepared, unprepared}, Proposals.{WinsNext}, Wings.{MayTry, WingsIn, WingsNext}}
 use Rattle.ulfm_comm.specs.Phase.{Answered, UnderWay, under_way, is_looking, next_step, IsFurther, IsPast, LeadsTo, NextIs, reply_in, Stands, Turns}
 use Rattle.ulfm_comm.specs.declared.{phases.phase.Next.{Next}, phases.phase.Next.TheVariants.{Ends, Goes}, phases.phase.Phase.{Phase}}
 use Rattle.ulfm_comm.specs.declared.phases.phase.Phase.TheVariants.{Over, Begun, Looking, Settling, Arriving, Revoking, Marking, ReadingOn}
@@ -38,8 +38,8 @@ HasJustLooked {P} meld asked now = (old : Record) × (before : Sight P) × JustL
 -- what comes next leads on from the end of the look, also where nobody else steps
 abbrev pub FollowsLook : {P : Type 0} → (P → P → P) → Call P → Local P → Next P → Record → Type 0
 FollowsLook {P} meld asked now next new =
-    (group : List ℕ) (alone : Bool) (old : Record) (before : Sight P) → JustLooked meld alone asked (local old (view_at now.view.words before)) now
-    → NextIs meld alone asked (local old (view_at now.view.words before)) next group (local new now.view)
+    (prepared : Prepared) (alone : Bool) (old : Record) (before : Sight P) → JustLooked meld alone asked (local old (view_at now.view.words before)) now
+    → NextIs meld alone asked (local old (view_at now.view.words before)) next prepared (local new now.view)
 
 -- nothing happened but others' events, or one event of the call's own after them
 pub record Adds {P : Type 0} (quiet : Bool) (look : List ℕ) (own : Record) (asked : Call P) (reply : Option (Reply P)) (old new : History P) : Type 0 where
@@ -99,13 +99,13 @@ pub record TriesTurn {P : Type 0} (quiet : Bool) (was : UnderWay P) (old : Local
   pub caches : TriesFurther (MayTry old.own was.asked) old.view.pass.caches new.view.pass.caches
   pub wings : IsTrue quiet → WingsIn old.own was.asked was.phase old.view → WingsNext new.own was.asked next new.view
 
--- what comes next, and the members of a communicator that the call makes
+-- what comes next, and what is prepared for a communicator that the call makes
 pub record Coming (P : Type 0) : Type 0 where
   pub next : Next P
-  pub group : List ℕ
+  pub prepared : Prepared
 
-abbrev pub coming : {P : Type 0} → Next P → List ℕ → Coming P
-coming next group = record { next = next; group = group }
+abbrev pub coming : {P : Type 0} → Next P → Prepared → Coming P
+coming next prepared = record { next = next; prepared = prepared }
 
 -- A call takes its turn in a phase, by one step or by all of them: it walks on, by the step that is named, comes nearer to its reply, spends
 -- no more steps than it may, also by what it sees more, adds and sees what the phase may, knows no block that isn't known to be set, does what
@@ -126,7 +126,7 @@ pub record TakesTurn {P : Type 0} (meld : P → P → P) (quiet whole : Bool) (w
   pub looks : is_looking was.phase ≡ true → LooksOn new.view.words.limits old.own old.view.pass comes.next new.own new.view.pass
   pub knows : KnowsIn old.own was.asked old.view.pass.cached was.phase → KnowsNext old.own was.asked new.view.pass.cached comes.next
   pub leads : LeadsTo was.phase comes.next
-  pub turns : Turns meld quiet was old comes.next comes.group new
+  pub turns : Turns meld quiet was old comes.next comes.prepared new
 
 -- A call goes on in any phase: it takes its turn; one that is over is refused again, with its record as it was; a barrier's poll finds who is
 -- missing, or is answered as it was when that was found; and a single step wins the exchange of an event that may come next.
@@ -163,7 +163,7 @@ pub record RunsOn {P : Type 0} (meld : P → P → P) (alone : Bool) (was : Unde
 
 -- What comes next is run to the reply: a phase goes on to it, an answer is it.
 abbrev pub RunsFrom : {P : Type 0} → (P → P → P) → Bool → Call P → Local P → Next P → Reply P → Local P → Type 0
-RunsFrom meld alone asked now (Goes phase) reply new = RunsOn meld alone (under_way asked phase []) now reply new
+RunsFrom meld alone asked now (Goes phase) reply new = RunsOn meld alone (under_way asked phase unprepared) now reply new
 RunsFrom meld alone asked now (Ends answer) reply new = (answer ≡ reply) × (now.own ≡ new.own) × (now.view.pass ≡ new.view.pass)
 
 -- A whole call behind its look, which has just ended: what comes next follows the look, and is run to the reply.
@@ -182,11 +182,11 @@ pub record RunsThrough {P : Type 0} (meld : P → P → P) (alone : Bool) (was :
   pub next : Next P
   pub mid : Record
   pub looked : Sight P
-  pub turn : TakesTurn meld alone true was old (coming next []) (local mid (view_at old.view.words looked))
+  pub turn : TakesTurn meld alone true was old (coming next unprepared) (local mid (view_at old.view.words looked))
   pub past : IsPast next
   pub runs : RunsFrom meld alone was.asked (local mid (view_at old.view.words looked)) next reply new
 
 -- a phase of one step ends its call, with this reply
 abbrev pub EndsTurn : {P : Type 0} → (P → P → P) → Bool → Call P → Phase P → Local P → Reply P → Local P → Type 0
 EndsTurn meld quiet asked phase old reply new =
-    (group : List ℕ) (whole : Bool) → TakesTurn meld quiet whole (under_way asked phase group) old (coming (Ends reply) group) new
+    (prepared : Prepared) (whole : Bool) → TakesTurn meld quiet whole (under_way asked phase prepared) old (coming (Ends reply) prepared) new

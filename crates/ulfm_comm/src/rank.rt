@@ -13,8 +13,9 @@ ghost use Rattle.ulfm_record.specs.Kept.{HasNext};
 ghost use Rattle.ulfm_comm.specs.Counts.{new_rank};
 ghost use Rattle.ulfm_comm.specs.Spawning.{seeking, target, MayHold, MayGoSpawning, SpawnIs, SpawnTakes};
 ghost use Rattle.ulfm_comm.specs.declared.phases.spawning.Spawned.TheVariants.{Unknown};
-ghost use Rattle.ulfm_comm.specs.Local.{local};
+ghost use Rattle.ulfm_comm.specs.{Local.{local}, Prepared.{HasPlaces}};
 
+use crate::phases::new_comm::{FEW, NewComm, move_in, take_room};
 use crate::phases::spawning::{Spawned, place_in};
 use std::alloc::{AllocError, Allocator};
 use std::marker::{Model, PhantomData};
@@ -30,15 +31,12 @@ use ulfm_steps::group::{has_rank, make_room, put_in, without};
 use ulfm_steps::{Append, Look, ReadOn};
 use ulfm_words::Words;
 
-// The communicators that a rank has room for: as many as there are context ids, of which no two that it holds have the same. So it
-// never takes memory to hold one more.
-const ROOM: usize = CtxMask::COUNT as usize;
-
 // What a rank keeps of its calls. Contracts see it as its record.
 #[derive(Drop)]
 pub(crate) struct LocalState<P: Packed, A: Allocator> {
     number: u16,
     limits: Limits,
+    // The communicators that it holds. It has room for a few from the start, and for all that it may hold once it holds more.
     held: Vec<HeldComm<A>, A>,
     // All failures that it has seen, in order. It has room for all ranks.
     seen: Vec<u16, A>,
@@ -78,7 +76,7 @@ impl<P: Packed, A: Allocator + Copy> LocalState<P, A> {
     {
         let group = ranks.to_vec(alloc)?;
         let seen = Vec::with_capacity(alloc, limits.ranks as usize)?;
-        let mut held = Vec::with_capacity(alloc, ROOM)?;
+        let mut held = Vec::with_capacity(alloc, FEW)?;
         held.push(HeldComm::new(0, 0, group))?;
         Ok(LocalState {
             number,
@@ -337,26 +335,31 @@ impl<P: Packed, A: Allocator + Copy> LocalState<P, A> {
         *self.seen.allocator()
     }
 
-    // Puts the members of a communicator that is made of one that it holds into a vector, for which it takes the memory: the
-    // parent's without the first so many failures that were seen.
+    // Takes the memory for a communicator that is made of one that it holds: for its members, the parent's without the first so many
+    // failures that were seen, and for room, where the rank has none itself.
     pub(crate) fn make_room(
         &self,
         comm: u16,
         reach: usize,
-        group: &mut Vec<u16, A>,
+        prepared: &mut NewComm<A>,
     ) -> Result<(), AllocError>
         requires held { (x : Held) × (held_at self.now comm ≡ Some x) }
         requires within { reach ≤ length self.now.seen }
-        ensures { IfOk result (λ _. (x : Held) → held_at self.now comm ≡ Some x → group.new.items ≡ without x.group (take reach self.now.seen)) }
+        ensures members { IfOk result (λ _. (x : Held) → held_at self.now comm ≡ Some x
+            → prepared.new.members ≡ without x.group (take reach self.now.seen)) }
+        ensures places { IfOk result (λ _. HasPlaces self.now.held prepared.new.places) }
     {
         let x = self.held_comm(comm);
-        *group = without(self.allocator(), &x.group, &self.seen[..reach])?;
+        let alloc = self.allocator();
+        let members = without(alloc, &x.group, &self.seen[..reach])?;
+        let room = take_room(alloc, &self.held)?;
+        *prepared = NewComm { members, room };
         Ok(())
     }
 
     // One step in the list of communicators, or all that are left, until it has that of a decided round. Then the rank holds it,
-    // with these members, in place of the open request on its parent. It takes no memory: there is room for one more, since no
-    // communicator that it holds has this context id.
+    // with these members, in place of the open request on its parent. It takes no memory: there is room for one more, or was taken
+    // before, since no communicator that it holds has this context id.
     pub(crate) fn spawn<W: Words<P, A>>(
         &mut self,
         words: &W,
@@ -365,17 +368,18 @@ impl<P: Packed, A: Allocator + Copy> LocalState<P, A> {
         append: &mut Append,
         context: u8,
         whole: bool,
-        group: &mut Vec<u16, A>,
+        prepared: &mut NewComm<A>,
     ) -> Spawned
         requires of { IsView P.meld (view_of P.pack (W.name words.now) (W.sight pass.old)) }
         requires may { (k : ℕ) × MayGoSpawning P.meld (W.name words.now).limits (W.sight pass.old).seen comm k append.old }
-        requires holds { MayHold self.old comm context (length group.old.items) }
+        requires holds { MayHold self.old comm context (length prepared.old.members) }
+        requires places { HasPlaces self.old.held prepared.old.places }
         ensures spawns { (k : ℕ) → append.old.item ≡ OfComm comm k
-            → SpawnIs P.meld W.alone (target comm k context group.old.items) (seeking append.old
+            → SpawnIs P.meld W.alone (target comm k context prepared.old.members) (seeking append.old
             (local self.old (view_of P.pack (W.name words.now) (W.sight pass.old)))) result (seeking append.new
             (local self.new (view_of P.pack (W.name words.now) (W.sight pass.new)))) }
         ensures takes { SpawnTakes whole (W.name words.now).limits append.old result append.new (W.sight pass.old) (W.sight pass.new) }
-        ensures kept { result ≡ Unknown → group.new.items ≡ group.old.items }
+        ensures kept { result ≡ Unknown → prepared.new ≡ prepared.old }
         ensures done { whole ≡ true → result ≢ Unknown }
     {
         let Some(end) = append.advance(words, pass, whole) else {
@@ -385,9 +389,10 @@ impl<P: Packed, A: Allocator + Copy> LocalState<P, A> {
             return Spawned::Full;
         };
         let number = index + 1;
-        let members = mem::replace(group, Vec::new(self.allocator()));
+        let NewComm { members, room } = mem::replace(prepared, NewComm::new(self.allocator()));
         let size = members.len() as u16;
         let made = HeldComm::new(number, context, members);
+        move_in(&mut self.held, room);
         take_in(&mut self.held, comm, made);
         Spawned::Made { comm: number, size }
     }

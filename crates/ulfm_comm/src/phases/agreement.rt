@@ -1,5 +1,5 @@
 // The steps of an agreement's poll: loads of the round's blocks; and, where not all are set, marks, and readings of those that aren't.
-ghost use Rattle.std.specs.Prelude.{ℕ, Bool, List, ◌≡◌, ◌+◌, ◌<◌, ◌≤◌, false, true, IfSome, IsTrue};
+ghost use Rattle.std.specs.Prelude.{Bool, List, ◌≡◌, ◌+◌, ◌<◌, ◌≤◌, false, true, IfSome, IsTrue};
 ghost use Rattle.ulfm_model.specs.{Answers.{closed}, Records.{Record}, Terms.{comm_of}};
 ghost use Rattle.ulfm_comm.specs.{Phase.{IsPast, NextBelow, NextIs, StillStands, Turns, is_looking, left}, Step.{TakesTurn}, Proposals.{WinsNext}};
 ghost use Rattle.ulfm_comm.specs.Agreement.{HasPeeked, HasReadAll, agreed_reply};
@@ -15,7 +15,9 @@ ghost use Rattle.ulfm_comm.specs.Requests.{polled_round};
 ghost use Rattle.ulfm_comm.specs.Phase.{under_way};
 ghost use Rattle.ulfm_comm.specs.Step.{coming};
 ghost use Rattle.ulfm_words.specs.Steps.{view_of, Goes, IsView, Sight};
+ghost use Rattle.ulfm_comm.specs.Prepared.{Prepared};
 
+use crate::phases::new_comm::NewComm;
 use crate::phases::phase::{Next, Phase};
 use crate::rank::LocalState;
 use std::alloc::Allocator;
@@ -67,11 +69,11 @@ impl<P: Packed, A: Allocator> LocalState<P, A> {
         whole: bool,
     ) -> Next<P>
         requires of { IsView P.meld (view_of P.pack (W.name words.now) (W.sight pass.old)) }
-        requires stands { (group : List ℕ)
-            × StillStands P.meld (under_way asked.now (AtMarking marks blocks shrinks) group)
+        requires stands { (prepared : Prepared)
+            × StillStands P.meld (under_way asked.now (AtMarking marks blocks shrinks) prepared)
             (local self.now (view_of P.pack (W.name words.now) (W.sight pass.old))) }
-        ensures turn { (group : List ℕ) → TakesTurn P.meld W.alone whole (under_way asked.now (AtMarking marks blocks shrinks) group)
-            (local self.now (view_of P.pack (W.name words.now) (W.sight pass.old))) (coming result group)
+        ensures turn { (prepared : Prepared) → TakesTurn P.meld W.alone whole (under_way asked.now (AtMarking marks blocks shrinks) prepared)
+            (local self.now (view_of P.pack (W.name words.now) (W.sight pass.old))) (coming result prepared)
             (local self.now (view_of P.pack (W.name words.now) (W.sight pass.new))) }
         ensures wins { whole ≡ false → WinsNext P.meld W.alone asked.now (AtMarking marks blocks shrinks)
             (local self.now (view_of P.pack (W.name words.now) (W.sight pass.old))) result (view_of P.pack (W.name words.now) (W.sight pass.new)) }
@@ -113,10 +115,10 @@ impl<P: Packed, A: Allocator> LocalState<P, A> {
         ensures nearer { steps_left (W.name words.now).limits self.now asked.now result + reads_first result
             ≤ after_peek (W.name words.now).limits self.now asked.now shrinks }
         ensures knows { (cached : List Beside) → KnowsIn self.now asked.now cached (AtPeeking peek shrinks) → KnowsIn self.now asked.now cached result }
-        ensures turns { (group : List ℕ) (alone : Bool) (old : Record) (before : Sight P)
+        ensures turns { (prepared : Prepared) (alone : Bool) (old : Record) (before : Sight P)
             → HasPeeked P.meld alone asked.now shrinks peek (local old (view_of P.pack (W.name words.now) before))
             (local self.now (view_of P.pack (W.name words.now) (W.sight pass.now)))
-            → NextIs P.meld alone asked.now (local old (view_of P.pack (W.name words.now) before)) (NextGoes result) group
+            → NextIs P.meld alone asked.now (local old (view_of P.pack (W.name words.now) before)) (NextGoes result) prepared
             (local self.now (view_of P.pack (W.name words.now) (W.sight pass.now))) }
     {
         let comm = comm_of(asked);
@@ -149,14 +151,14 @@ impl<P: Packed, A: Allocator> LocalState<P, A> {
         phase: &Phase<P>,
     ) -> Option<Reply<P>>
         requires of { IsView P.meld (view_of P.pack (W.name words.now) (W.sight pass.old)) }
-        requires stands { (group : List ℕ) × StillStands P.meld (under_way asked.now phase.now group)
+        requires stands { (prepared : Prepared) × StillStands P.meld (under_way asked.now phase.now prepared)
             (local self.old (view_of P.pack (W.name words.now) (W.sight pass.old))) }
         ensures kept { self.new ≡ self.old }
         ensures goes { Goes P.meld W.alone false (reads_first phase.now) (view_of P.pack (W.name words.now) (W.sight pass.old))
             (view_of P.pack (W.name words.now) (W.sight pass.new)) }
         ensures waits { IfSome result (λ reply. reply ≡ Waits) }
-        ensures pends { IfSome result (λ reply. (group : List ℕ) → Turns P.meld W.alone (under_way asked.now phase.now group)
-            (local self.old (view_of P.pack (W.name words.now) (W.sight pass.old))) (NextEnds reply) group
+        ensures pends { IfSome result (λ reply. (prepared : Prepared) → Turns P.meld W.alone (under_way asked.now phase.now prepared)
+            (local self.old (view_of P.pack (W.name words.now) (W.sight pass.old))) (NextEnds reply) prepared
             (local self.new (view_of P.pack (W.name words.now) (W.sight pass.new)))) }
     {
         let Phase::Reading { reading, .. } = phase else {
@@ -199,10 +201,10 @@ impl<P: Packed, A: Allocator> LocalState<P, A> {
             (W.sight pass.old) (W.sight pass.new) }
         ensures knows { (cached : List Beside) → KnowsIn self.old asked.now cached (AtPeeking peek shrinks)
             → KnowsNext self.old asked.now cached result }
-        ensures turns { (group : List ℕ) (alone : Bool) → (IsTrue alone → IsTrue W.alone) → (old : Record) (before : Sight P)
+        ensures turns { (prepared : Prepared) (alone : Bool) → (IsTrue alone → IsTrue W.alone) → (old : Record) (before : Sight P)
             → HasPeeked P.meld alone asked.now shrinks peek (local old (view_of P.pack (W.name words.now) before))
             (local self.old (view_of P.pack (W.name words.now) (W.sight pass.old)))
-            → NextIs P.meld alone asked.now (local old (view_of P.pack (W.name words.now) before)) result group
+            → NextIs P.meld alone asked.now (local old (view_of P.pack (W.name words.now) before)) result prepared
             (local self.new (view_of P.pack (W.name words.now) (W.sight pass.new))) }
     {
         let phase = self.unread(words, pass, asked, peek, shrinks);
@@ -227,13 +229,13 @@ impl<P: Packed, A: Allocator + Copy> LocalState<P, A> {
         peek: Peek<P>,
         shrinks: bool,
         whole: bool,
-        group: &mut Vec<u16, A>,
+        prepared: &mut NewComm<A>,
     ) -> Next<P>
         requires of { IsView P.meld (view_of P.pack (W.name words.now) (W.sight pass.old)) }
-        requires stands { StillStands P.meld (under_way asked.now (AtPeeking peek shrinks) group.old.items)
+        requires stands { StillStands P.meld (under_way asked.now (AtPeeking peek shrinks) prepared.old)
             (local self.old (view_of P.pack (W.name words.now) (W.sight pass.old))) }
-        ensures { TakesTurn P.meld W.alone whole (under_way asked.now (AtPeeking peek shrinks) group.old.items)
-            (local self.old (view_of P.pack (W.name words.now) (W.sight pass.old))) (coming result group.new.items)
+        ensures { TakesTurn P.meld W.alone whole (under_way asked.now (AtPeeking peek shrinks) prepared.old)
+            (local self.old (view_of P.pack (W.name words.now) (W.sight pass.old))) (coming result prepared.new)
             (local self.new (view_of P.pack (W.name words.now) (W.sight pass.new))) }
     {
         let x = self.held_comm(comm_of(asked));
@@ -244,7 +246,7 @@ impl<P: Packed, A: Allocator + Copy> LocalState<P, A> {
         let members = x.group.len() as u16;
         match peek.blocks.all(members) {
             None => self.go_unread(words, pass, asked, peek, shrinks, whole),
-            Some(all) => self.decided(words, pass, asked, peek.round, all, shrinks, group),
+            Some(all) => self.decided(words, pass, asked, peek.round, all, shrinks, prepared),
         }
     }
 
@@ -259,13 +261,13 @@ impl<P: Packed, A: Allocator + Copy> LocalState<P, A> {
         reading: ReadBlocks<P>,
         shrinks: bool,
         whole: bool,
-        group: &mut Vec<u16, A>,
+        prepared: &mut NewComm<A>,
     ) -> Next<P>
         requires of { IsView P.meld (view_of P.pack (W.name words.now) (W.sight pass.old)) }
-        requires stands { StillStands P.meld (under_way asked.now (AtReading reading shrinks) group.old.items)
+        requires stands { StillStands P.meld (under_way asked.now (AtReading reading shrinks) prepared.old)
             (local self.old (view_of P.pack (W.name words.now) (W.sight pass.old))) }
-        ensures { TakesTurn P.meld W.alone whole (under_way asked.now (AtReading reading shrinks) group.old.items)
-            (local self.old (view_of P.pack (W.name words.now) (W.sight pass.old))) (coming result group.new.items)
+        ensures { TakesTurn P.meld W.alone whole (under_way asked.now (AtReading reading shrinks) prepared.old)
+            (local self.old (view_of P.pack (W.name words.now) (W.sight pass.old))) (coming result prepared.new)
             (local self.new (view_of P.pack (W.name words.now) (W.sight pass.new))) }
     {
         let x = self.held_comm(comm_of(asked));
@@ -277,7 +279,7 @@ impl<P: Packed, A: Allocator + Copy> LocalState<P, A> {
                 Next::Ends(Reply::Pending)
             }
             Some(Found::All(all)) => {
-                self.decided(words, pass, asked, reading.round, all, shrinks, group)
+                self.decided(words, pass, asked, reading.round, all, shrinks, prepared)
             }
         }
     }
@@ -292,7 +294,7 @@ impl<P: Packed, A: Allocator + Copy> LocalState<P, A> {
         round: u16,
         all: Summary<P>,
         shrinks: bool,
-        group: &mut Vec<u16, A>,
+        prepared: &mut NewComm<A>,
     ) -> Next<P>
         requires of { IsView P.meld (view_of P.pack (W.name words.now) (W.sight pass.now)) }
         requires read { (old : Record) × (before : Sight P)
@@ -307,11 +309,11 @@ impl<P: Packed, A: Allocator + Copy> LocalState<P, A> {
         ensures turns { (alone : Bool) (old : Record) (before : Sight P)
             → HasReadAll P.meld alone asked.now (polled_round shrinks round) all (local old (view_of P.pack (W.name words.now) before))
             (local self.old (view_of P.pack (W.name words.now) (W.sight pass.now)))
-            → NextIs P.meld alone asked.now (local old (view_of P.pack (W.name words.now) before)) result group.new.items
+            → NextIs P.meld alone asked.now (local old (view_of P.pack (W.name words.now) before)) result prepared.new
             (local self.new (view_of P.pack (W.name words.now) (W.sight pass.now))) }
     {
         if shrinks {
-            return self.shrunk(words, pass, asked, round, all, group);
+            return self.shrunk(words, pass, asked, round, all, prepared);
         }
         Next::Ends(self.agreed(comm_of(asked), all))
     }

@@ -1,5 +1,4 @@
 // The steps of a barrier's poll: loads of arrivals, and last that of the revocation.
-ghost use Rattle.std.specs.Prelude.{ℕ, List};
 ghost use Rattle.ulfm_comm.specs.{Missing.{AnswersMissing, FindsMissing, FoundNow}, Phase.{StillStands}, Step.{EndsTurn, TakesTurn}};
 ghost use Rattle.ulfm_comm.specs.declared.phases.phase.Phase.TheVariants.{Waiting as AtWaiting, Checking as AtChecking};
 ghost use Rattle.ulfm_comm.specs.Local.{local};
@@ -7,6 +6,7 @@ ghost use Rattle.ulfm_comm.specs.Missing.{midway};
 ghost use Rattle.ulfm_comm.specs.Phase.{under_way};
 ghost use Rattle.ulfm_comm.specs.Step.{coming};
 ghost use Rattle.ulfm_words.specs.Steps.{view_of, IsView};
+ghost use Rattle.ulfm_comm.specs.Prepared.{Prepared};
 
 use crate::phases::phase::{Next, Phase};
 use crate::rank::LocalState;
@@ -30,13 +30,13 @@ impl<P: Packed, A: Allocator> LocalState<P, A> {
         whole: bool,
     ) -> Next<P>
         requires of { IsView P.meld (view_of P.pack (W.name words.now) (W.sight pass.old)) }
-        requires stands { (group : List ℕ) × StillStands P.meld (under_way asked.now (AtWaiting arrivals) group)
+        requires stands { (prepared : Prepared) × StillStands P.meld (under_way asked.now (AtWaiting arrivals) prepared)
             (local self.now (view_of P.pack (W.name words.now) (W.sight pass.old))) }
-        ensures turn { (group : List ℕ) → TakesTurn P.meld W.alone whole (under_way asked.now (AtWaiting arrivals) group)
-            (local self.now (view_of P.pack (W.name words.now) (W.sight pass.old))) (coming result group)
+        ensures turn { (prepared : Prepared) → TakesTurn P.meld W.alone whole (under_way asked.now (AtWaiting arrivals) prepared)
+            (local self.now (view_of P.pack (W.name words.now) (W.sight pass.old))) (coming result prepared)
             (local self.now (view_of P.pack (W.name words.now) (W.sight pass.new))) }
-        ensures checks { (group : List ℕ) → FoundNow
-            (FindsMissing P.meld W.alone (midway (under_way asked.now (AtWaiting arrivals) group)
+        ensures checks { (prepared : Prepared) → FoundNow
+            (FindsMissing P.meld W.alone (midway (under_way asked.now (AtWaiting arrivals) prepared)
             (local self.now (view_of P.pack (W.name words.now) (W.sight pass.old)))) (local self.now (view_of P.pack (W.name words.now) (W.sight pass.new))))
             (AtWaiting arrivals) result }
     {
@@ -58,11 +58,11 @@ impl<P: Packed, A: Allocator> LocalState<P, A> {
         missing: Missing,
     ) -> Reply<P>
         requires of { IsView P.meld (view_of P.pack (W.name words.now) (W.sight pass.old)) }
-        requires stands { (group : List ℕ) × StillStands P.meld (under_way asked.now (AtChecking missing) group)
+        requires stands { (prepared : Prepared) × StillStands P.meld (under_way asked.now (AtChecking missing) prepared)
             (local self.old (view_of P.pack (W.name words.now) (W.sight pass.old))) }
         ensures turn { EndsTurn P.meld W.alone asked.now (AtChecking missing) (local self.old (view_of P.pack (W.name words.now) (W.sight pass.old))) result
             (local self.new (view_of P.pack (W.name words.now) (W.sight pass.new))) }
-        ensures early { (group : List ℕ) → AnswersMissing P.meld W.alone (midway (under_way asked.now (AtChecking missing) group)
+        ensures early { (prepared : Prepared) → AnswersMissing P.meld W.alone (midway (under_way asked.now (AtChecking missing) prepared)
             (local self.old (view_of P.pack (W.name words.now) (W.sight pass.old)))) self.new
             missing result }
     {

@@ -1,5 +1,5 @@
 // The steps that starts and revocations make after their look.
-ghost use Rattle.std.specs.Prelude.{ℕ, Bool, List, ◌≡◌, false, Some, ◌≤◌, ◌<◌, filter, length};
+ghost use Rattle.std.specs.Prelude.{Bool, ◌≡◌, false, Some, ◌≤◌, ◌<◌, filter, length};
 ghost use Rattle.std.specs.List.Sorted.{IsStrictlyIncreasing};
 ghost use mathlib.Core.List.{IsPrefix};
 ghost use Rattle.ulfm_model.specs.{Terms.{comm_of}, History.{has}, Records.{Fits, held_at}};
@@ -13,6 +13,7 @@ ghost use Rattle.ulfm_comm.specs.Phase.{under_way};
 ghost use Rattle.ulfm_words.specs.Steps.{view_of, IsView};
 ghost use Rattle.ulfm_model.specs.declared.place.Place.TheVariants.{Slot as SlotAt};
 ghost use Rattle.ulfm_steps.specs.{Settles.{IsSpreadIn}, Turns.{IsOneStep}};
+ghost use Rattle.ulfm_comm.specs.Prepared.{Prepared};
 
 use crate::phases::phase::{Next, Phase};
 use crate::rank::LocalState;
@@ -59,10 +60,11 @@ impl<P: Packed, A: Allocator> LocalState<P, A> {
         offer: Offer<P>,
     ) -> Next<P>
         requires of { IsView P.meld (view_of P.pack (W.name words.now) (W.sight pass.old)) }
-        requires stands { (group : List ℕ)
-            × StillStands P.meld (under_way asked.now (AtSpreading request offer) group) (local self.now (view_of P.pack (W.name words.now) (W.sight pass.old))) }
-        ensures turn { (group : List ℕ) (whole : Bool) → TakesTurn P.meld W.alone whole (under_way asked.now (AtSpreading request offer) group)
-            (local self.now (view_of P.pack (W.name words.now) (W.sight pass.old))) (coming result group)
+        requires stands { (prepared : Prepared)
+            × StillStands P.meld (under_way asked.now (AtSpreading request offer) prepared)
+            (local self.now (view_of P.pack (W.name words.now) (W.sight pass.old))) }
+        ensures turn { (prepared : Prepared) (whole : Bool) → TakesTurn P.meld W.alone whole (under_way asked.now (AtSpreading request offer) prepared)
+            (local self.now (view_of P.pack (W.name words.now) (W.sight pass.old))) (coming result prepared)
             (local self.now (view_of P.pack (W.name words.now) (W.sight pass.new))) }
         ensures wins { WinsNext P.meld W.alone asked.now (AtSpreading request offer) (local self.now (view_of P.pack (W.name words.now) (W.sight pass.old)))
             result (view_of P.pack (W.name words.now) (W.sight pass.new)) }
@@ -85,8 +87,9 @@ impl<P: Packed, A: Allocator> LocalState<P, A> {
         offer: Offer<P>,
     ) -> Reply<P>
         requires of { IsView P.meld (view_of P.pack (W.name words.now) (W.sight pass.old)) }
-        requires stands { (group : List ℕ)
-            × StillStands P.meld (under_way asked.now (AtSettling request offer) group) (local self.old (view_of P.pack (W.name words.now) (W.sight pass.old))) }
+        requires stands { (prepared : Prepared)
+            × StillStands P.meld (under_way asked.now (AtSettling request offer) prepared)
+            (local self.old (view_of P.pack (W.name words.now) (W.sight pass.old))) }
         ensures turn { EndsTurn P.meld W.alone asked.now (AtSettling request offer) (local self.old (view_of P.pack (W.name words.now) (W.sight pass.old))) result
             (local self.new (view_of P.pack (W.name words.now) (W.sight pass.new))) }
         ensures wins { WinsNext P.meld W.alone asked.now (AtSettling request offer) (local self.old (view_of P.pack (W.name words.now) (W.sight pass.old)))
@@ -110,7 +113,7 @@ impl<P: Packed, A: Allocator> LocalState<P, A> {
         round: u16,
     ) -> Reply<P>
         requires of { IsView P.meld (view_of P.pack (W.name words.now) (W.sight pass.old)) }
-        requires stands { (group : List ℕ) × StillStands P.meld (under_way asked.now (AtArriving round) group)
+        requires stands { (prepared : Prepared) × StillStands P.meld (under_way asked.now (AtArriving round) prepared)
             (local self.old (view_of P.pack (W.name words.now) (W.sight pass.old))) }
         ensures turn { EndsTurn P.meld W.alone asked.now (AtArriving round) (local self.old (view_of P.pack (W.name words.now) (W.sight pass.old))) result
             (local self.new (view_of P.pack (W.name words.now) (W.sight pass.new))) }
@@ -136,7 +139,7 @@ impl<P: Packed, A: Allocator> LocalState<P, A> {
         asked: &Call<P>,
     ) -> Reply<P>
         requires of { IsView P.meld (view_of P.pack (W.name words.now) (W.sight pass.old)) }
-        requires stands { (group : List ℕ) × StillStands P.meld (under_way asked.now AtRevoking group)
+        requires stands { (prepared : Prepared) × StillStands P.meld (under_way asked.now AtRevoking prepared)
             (local self.now (view_of P.pack (W.name words.now) (W.sight pass.old))) }
         ensures turn { EndsTurn P.meld W.alone asked.now AtRevoking (local self.now (view_of P.pack (W.name words.now) (W.sight pass.old))) result
             (local self.now (view_of P.pack (W.name words.now) (W.sight pass.new))) }

@@ -12,6 +12,7 @@ ghost use Rattle.ulfm_comm.specs.Local.{local};
 ghost use Rattle.ulfm_comm.specs.Phase.{under_way};
 ghost use Rattle.ulfm_comm.specs.Step.{coming};
 ghost use Rattle.ulfm_words.specs.Steps.{view_of, IsView};
+ghost use Rattle.ulfm_comm.specs.Prepared.{Prepared};
 
 use crate::phases::phase::{Next, Phase};
 use crate::rank::LocalState;
@@ -57,10 +58,10 @@ impl<P: Packed, A: Allocator> LocalState<P, A> {
         whole: bool,
     ) -> Next<P>
         requires of { IsView P.meld (view_of P.pack (W.name words.now) (W.sight pass.old)) }
-        requires stands { (group : List ℕ) × StillStands P.meld (under_way asked.now AtBegun group)
+        requires stands { (prepared : Prepared) × StillStands P.meld (under_way asked.now AtBegun prepared)
             (local self.old (view_of P.pack (W.name words.now) (W.sight pass.old))) }
-        ensures turn { (group : List ℕ) → TakesTurn P.meld W.alone whole (under_way asked.now AtBegun group)
-            (local self.old (view_of P.pack (W.name words.now) (W.sight pass.old))) (coming result group)
+        ensures turn { (prepared : Prepared) → TakesTurn P.meld W.alone whole (under_way asked.now AtBegun prepared)
+            (local self.old (view_of P.pack (W.name words.now) (W.sight pass.old))) (coming result prepared)
             (local self.new (view_of P.pack (W.name words.now) (W.sight pass.new))) }
         ensures past { whole ≡ true → IsPast result }
     {
@@ -78,10 +79,10 @@ impl<P: Packed, A: Allocator> LocalState<P, A> {
         whole: bool,
     ) -> Next<P>
         requires of { IsView P.meld (view_of P.pack (W.name words.now) (W.sight pass.old)) }
-        requires stands { (group : List ℕ) × StillStands P.meld (under_way asked.now AtLooking group)
+        requires stands { (prepared : Prepared) × StillStands P.meld (under_way asked.now AtLooking prepared)
             (local self.old (view_of P.pack (W.name words.now) (W.sight pass.old))) }
-        ensures turn { (group : List ℕ) → TakesTurn P.meld W.alone whole (under_way asked.now AtLooking group)
-            (local self.old (view_of P.pack (W.name words.now) (W.sight pass.old))) (coming result group)
+        ensures turn { (prepared : Prepared) → TakesTurn P.meld W.alone whole (under_way asked.now AtLooking prepared)
+            (local self.old (view_of P.pack (W.name words.now) (W.sight pass.old))) (coming result prepared)
             (local self.new (view_of P.pack (W.name words.now) (W.sight pass.new))) }
         ensures past { whole ≡ true → IsPast result }
     {

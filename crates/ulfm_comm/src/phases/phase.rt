@@ -3,6 +3,7 @@ ghost use Rattle.std.specs.Prelude.{◌≡◌, ◌+◌, min};
 ghost use Rattle.ulfm_comm.specs.Counts.{named_steps};
 ghost use Rattle.ulfm_comm.specs.Phase.{is_checking, is_looking, next_step};
 
+use crate::phases::new_comm::NewComm;
 use std::alloc::Allocator;
 use std::marker::Model;
 use ulfm_laws::ctx_mask::CtxMask;
@@ -153,8 +154,8 @@ pub(crate) struct Way<P: Packed, A: Allocator> {
     pub asked: Call<P>,
     /// What it does next.
     pub phase: Phase<P>,
-    // The members of a communicator that is being made.
-    pub group: Vec<u16, A>,
+    // What is prepared for a communicator that it makes.
+    pub prepared: NewComm<A>,
 }
 
 impl<P: Packed, A: Allocator> Model for Way<P, A> {
@@ -162,7 +163,7 @@ impl<P: Packed, A: Allocator> Model for Way<P, A> {
 
     ghost Value = { UnderWay P };
 
-    ghost view = { λ a. record { asked = a.asked; phase = a.phase; group = a.group.items } };
+    ghost view = { λ a. record { asked = a.asked; phase = a.phase; prepared = a.prepared } };
 }
 
 /// A call of a rank that is under way: `Rank::begin` makes it, and `Rank::step` takes its steps. It is the rank's only call

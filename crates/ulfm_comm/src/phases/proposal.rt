@@ -1,5 +1,5 @@
 // The event that a call's next exchange is for.
-ghost use Rattle.std.specs.Prelude.{◌≡◌, ◌≤◌, ◌<◌, ◌+◌, ℕ, List, filter, length, is_some, slice_index, true, IfSome};
+ghost use Rattle.std.specs.Prelude.{◌≡◌, ◌≤◌, ◌<◌, ◌+◌, ℕ, filter, length, is_some, slice_index, true, IfSome};
 ghost use Rattle.std.specs.List.Sorted.{IsStrictlyIncreasing};
 ghost use Rattle.ulfm_model.specs.{History.{has}, Records.{Held, held_at}, Terms.{comm_of}};
 ghost use Rattle.ulfm_model.specs.declared.{contribution.MarkCount.{MarkCount}, event.Caller.TheVariants.{Rank as OfRank}};
@@ -7,6 +7,7 @@ ghost use Rattle.ulfm_model.specs.declared.event.Event.TheVariants.{Mark as Mark
 ghost use Rattle.ulfm_steps.specs.declared.item.Item.TheVariants.{Comm as OfComm};
 ghost use Rattle.ulfm_comm.specs.{Local.{local}, Phase.{MayStep, StillStands, under_way}, Proposals.{OffersOwn, Proposes, proposes}};
 ghost use Rattle.ulfm_words.specs.Steps.{view_of, IsView};
+ghost use Rattle.ulfm_comm.specs.Prepared.{Prepared};
 
 use crate::phases::phase::{Doing, Phase, Way};
 use crate::rank::{LocalState, Rank};
@@ -90,7 +91,7 @@ impl<P: Packed, A: Allocator> LocalState<P, A> {
         phase: &Phase<P>,
     ) -> Option<Event<P>>
         requires of { IsView P.meld (view_of P.pack (W.name _words.now) (W.sight _pass.now)) }
-        requires stands { (group : List ℕ) × StillStands P.meld (under_way asked.now phase.now group)
+        requires stands { (prepared : Prepared) × StillStands P.meld (under_way asked.now phase.now prepared)
             (local self.now (view_of P.pack (W.name _words.now) (W.sight _pass.now))) }
         ensures when { is_some result ≡ proposes phase.now }
         ensures event { IfSome result (Proposes self.now asked.now phase.now) }

@@ -11,6 +11,7 @@ ghost use Rattle.ulfm_comm.specs.Step.{coming};
 ghost use Rattle.ulfm_words.specs.Steps.{view_of, IsView, Sight};
 ghost use Rattle.ulfm_steps.specs.declared.append.Appended.TheVariants.{Found as IsFound, Full as IsFull, Won as IsWon};
 
+use crate::phases::new_comm::NewComm;
 use crate::phases::phase::{Made, Next, Phase};
 use crate::rank::LocalState;
 use std::alloc::Allocator;
@@ -56,7 +57,7 @@ impl<P: Packed, A: Allocator + Copy> LocalState<P, A> {
         asked: &Call<P>,
         round: u16,
         all: Summary<P>,
-        group: &mut Vec<u16, A>,
+        prepared: &mut NewComm<A>,
     ) -> Next<P>
         requires of { IsView P.meld (view_of P.pack (W.name words.now) (W.sight pass.now)) }
         requires read { (old : Record) × (before : Sight P)
@@ -70,7 +71,7 @@ impl<P: Packed, A: Allocator + Copy> LocalState<P, A> {
         ensures turns { (alone : Bool) (old : Record) (before : Sight P)
             → HasReadAll P.meld alone asked.now (polled_round true round) all (local old (view_of P.pack (W.name words.now) before))
             (local self.old (view_of P.pack (W.name words.now) (W.sight pass.now)))
-            → NextIs P.meld alone asked.now (local old (view_of P.pack (W.name words.now) before)) result group.new.items
+            → NextIs P.meld alone asked.now (local old (view_of P.pack (W.name words.now) before)) result prepared.new
             (local self.new (view_of P.pack (W.name words.now) (W.sight pass.now))) }
     {
         let comm = comm_of(asked);
@@ -89,7 +90,7 @@ impl<P: Packed, A: Allocator + Copy> LocalState<P, A> {
         if on.found < count {
             return Next::Goes(Phase::ReadingOn { on, made });
         }
-        self.reached(words, pass, asked, on.reach, made, group)
+        self.reached(words, pass, asked, on.reach, made, prepared)
     }
 
     // A load of the list of failures, or all that are left, as far as the decision's failed group reaches.
@@ -102,13 +103,13 @@ impl<P: Packed, A: Allocator + Copy> LocalState<P, A> {
         on: ReadOn,
         made: Made,
         whole: bool,
-        group: &mut Vec<u16, A>,
+        prepared: &mut NewComm<A>,
     ) -> Next<P>
         requires of { IsView P.meld (view_of P.pack (W.name words.now) (W.sight pass.old)) }
-        requires stands { StillStands P.meld (under_way asked.now (AtReadingOn on made) group.old.items)
+        requires stands { StillStands P.meld (under_way asked.now (AtReadingOn on made) prepared.old)
             (local self.old (view_of P.pack (W.name words.now) (W.sight pass.old))) }
-        ensures { TakesTurn P.meld W.alone whole (under_way asked.now (AtReadingOn on made) group.old.items)
-            (local self.old (view_of P.pack (W.name words.now) (W.sight pass.old))) (coming result group.new.items)
+        ensures { TakesTurn P.meld W.alone whole (under_way asked.now (AtReadingOn on made) prepared.old)
+            (local self.old (view_of P.pack (W.name words.now) (W.sight pass.old))) (coming result prepared.new)
             (local self.new (view_of P.pack (W.name words.now) (W.sight pass.new))) }
     {
         let mut on = on;
@@ -116,7 +117,7 @@ impl<P: Packed, A: Allocator + Copy> LocalState<P, A> {
         if on.found < made.count {
             return Next::Goes(Phase::ReadingOn { on, made });
         }
-        self.reached(words, pass, asked, on.reach, made, group)
+        self.reached(words, pass, asked, on.reach, made, prepared)
     }
 
     // What comes next where the decision's whole failed group is known: so many failures that were seen reach as far as it.
@@ -127,7 +128,7 @@ impl<P: Packed, A: Allocator + Copy> LocalState<P, A> {
         asked: &Call<P>,
         reach: usize,
         made: Made,
-        group: &mut Vec<u16, A>,
+        prepared: &mut NewComm<A>,
     ) -> Next<P>
         requires of { IsView P.meld (view_of P.pack (W.name words.now) (W.sight pass.now)) }
         requires reached { (old : Record) × (before : Sight P)
@@ -137,12 +138,12 @@ impl<P: Packed, A: Allocator + Copy> LocalState<P, A> {
         ensures sees { self.new.seen ≡ self.old.seen }
         ensures past { IsPast result }
         ensures makes { IsMaking result }
-        ensures memory { HadMemory asked.now reach self.old result group.new.items }
+        ensures memory { HadMemory asked.now reach self.old result prepared.new }
         ensures nearer { FewerLeft (2 * ((W.name words.now).limits.comms - 1) + 1) (W.name words.now).limits self.new asked.now result }
         ensures turns { (alone : Bool) (old : Record) (before : Sight P)
             → HasReached P.meld alone asked.now made reach (local old (view_of P.pack (W.name words.now) before))
             (local self.old (view_of P.pack (W.name words.now) (W.sight pass.now)))
-            → NextIs P.meld alone asked.now (local old (view_of P.pack (W.name words.now) before)) result group.new.items
+            → NextIs P.meld alone asked.now (local old (view_of P.pack (W.name words.now) before)) result prepared.new
             (local self.new (view_of P.pack (W.name words.now) (W.sight pass.now))) }
     {
         let number = self.number();
@@ -151,7 +152,7 @@ impl<P: Packed, A: Allocator + Copy> LocalState<P, A> {
             return Next::Ends(Reply::Refused(Refusal::SelfFailed));
         }
         let comm = comm_of(asked);
-        if self.make_room(comm, reach, group).is_err() {
+        if self.make_room(comm, reach, prepared).is_err() {
             return Next::Ends(Reply::Refused(Refusal::OutOfMemory));
         }
         if words.limits().comms == 1 {
@@ -179,20 +180,20 @@ impl<P: Packed, A: Allocator + Copy> LocalState<P, A> {
         context: u8,
         reach: usize,
         whole: bool,
-        group: &mut Vec<u16, A>,
+        prepared: &mut NewComm<A>,
     ) -> Next<P>
         requires of { IsView P.meld (view_of P.pack (W.name words.now) (W.sight pass.old)) }
-        requires stands { StillStands P.meld (under_way asked.now (AtSpawning append context reach) group.old.items)
+        requires stands { StillStands P.meld (under_way asked.now (AtSpawning append context reach) prepared.old)
             (local self.old (view_of P.pack (W.name words.now) (W.sight pass.old))) }
-        ensures turn { TakesTurn P.meld W.alone whole (under_way asked.now (AtSpawning append context reach) group.old.items)
-            (local self.old (view_of P.pack (W.name words.now) (W.sight pass.old))) (coming result group.new.items)
+        ensures turn { TakesTurn P.meld W.alone whole (under_way asked.now (AtSpawning append context reach) prepared.old)
+            (local self.old (view_of P.pack (W.name words.now) (W.sight pass.old))) (coming result prepared.new)
             (local self.new (view_of P.pack (W.name words.now) (W.sight pass.new))) }
         ensures wins { whole ≡ false → WinsNext P.meld W.alone asked.now (AtSpawning append context reach)
             (local self.old (view_of P.pack (W.name words.now) (W.sight pass.old))) result (view_of P.pack (W.name words.now) (W.sight pass.new)) }
     {
         let comm = comm_of(asked);
         let mut append = append;
-        match self.spawn(words, pass, comm, &mut append, context, whole, group) {
+        match self.spawn(words, pass, comm, &mut append, context, whole, prepared) {
             Spawned::Unknown => Next::Goes(Phase::Spawning {
                 append,
                 context,

@@ -10,6 +10,7 @@ ghost use Rattle.ulfm_comm.specs.declared.phases.phase.Phase.TheVariants.{Begun 
 ghost use Rattle.ulfm_comm.specs.Local.{local, FitsView};
 ghost use Rattle.ulfm_comm.specs.{Proposals.{WinsNext}, Step.{coming}, Wings.{WingsIn, WingsNext}};
 
+use crate::phases::new_comm::NewComm;
 use crate::phases::phase::{Doing, Next, Phase, Way};
 use crate::rank::{LocalState, Rank};
 use crate::world::World;
@@ -45,7 +46,7 @@ impl<P: Packed, A: Allocator + Copy> LocalState<P, A> {
         Way {
             asked,
             phase: self.first(),
-            group: Vec::new(self.allocator()),
+            prepared: NewComm::new(self.allocator()),
         }
     }
 
@@ -57,13 +58,13 @@ impl<P: Packed, A: Allocator + Copy> LocalState<P, A> {
         pass: &mut W::Pass,
         asked: &Call<P>,
         phase: Phase<P>,
-        group: &mut Vec<u16, A>,
+        prepared: &mut NewComm<A>,
         whole: bool,
     ) -> Next<P>
         requires of { IsView P.meld (view_of P.pack (W.name words.now) (W.sight pass.old)) }
-        requires stands { StillStands P.meld (under_way asked.now phase group.old.items) (local self.old (view_of P.pack (W.name words.now) (W.sight pass.old))) }
-        ensures { GoesOn P.meld W.alone whole (under_way asked.now phase group.old.items)
-            (local self.old (view_of P.pack (W.name words.now) (W.sight pass.old))) (coming result group.new.items)
+        requires stands { StillStands P.meld (under_way asked.now phase prepared.old) (local self.old (view_of P.pack (W.name words.now) (W.sight pass.old))) }
+        ensures { GoesOn P.meld W.alone whole (under_way asked.now phase prepared.old)
+            (local self.old (view_of P.pack (W.name words.now) (W.sight pass.old))) (coming result prepared.new)
             (local self.new (view_of P.pack (W.name words.now) (W.sight pass.new))) }
     {
         match phase {
@@ -82,7 +83,7 @@ impl<P: Packed, A: Allocator + Copy> LocalState<P, A> {
                 revoked: load_revocation(words, pass, comm_of(asked)),
             }),
             Phase::Peeking { peek, shrinks } => {
-                self.go_peeking(words, pass, asked, peek, shrinks, whole, group)
+                self.go_peeking(words, pass, asked, peek, shrinks, whole, prepared)
             }
             Phase::Marking {
                 marks,
@@ -90,16 +91,16 @@ impl<P: Packed, A: Allocator + Copy> LocalState<P, A> {
                 shrinks,
             } => self.go_marking(words, pass, asked, marks, blocks, shrinks, whole),
             Phase::Reading { reading, shrinks } => {
-                self.go_reading(words, pass, asked, reading, shrinks, whole, group)
+                self.go_reading(words, pass, asked, reading, shrinks, whole, prepared)
             }
             Phase::ReadingOn { on, made } => {
-                self.go_reading_on(words, pass, asked, on, made, whole, group)
+                self.go_reading_on(words, pass, asked, on, made, whole, prepared)
             }
             Phase::Spawning {
                 append,
                 context,
                 reach,
-            } => self.go_spawning(words, pass, asked, append, context, reach, whole, group),
+            } => self.go_spawning(words, pass, asked, append, context, reach, whole, prepared),
             Phase::Waiting { arrivals } => self.go_waiting(words, pass, asked, arrivals, whole),
             Phase::Checking { missing } => {
                 Next::Ends(self.go_checking(words, pass, asked, missing))
@@ -131,7 +132,7 @@ impl<P: Packed, A: Allocator + Copy> LocalState<P, A> {
             (next_of result doing.new.phase) (view_of P.pack (W.name words.now) (W.sight pass.new)) }
     {
         let phase = mem::replace(&mut doing.phase, Phase::Over);
-        match self.go(words, pass, &doing.asked, phase, &mut doing.group, false) {
+        match self.go(words, pass, &doing.asked, phase, &mut doing.prepared, false) {
             Next::Goes(phase) => {
                 doing.phase = phase;
                 None

@@ -1,13 +1,14 @@
 // Whole calls: a call's own steps, run to the end. The look comes first, as a whole. What comes next is not handed on as a phase where
 // calls are frequent, but run at once.
-ghost use Rattle.std.specs.Prelude.{ℕ, ◌≡◌, ◌<◌, [], false, length};
+ghost use Rattle.std.specs.Prelude.{ℕ, ◌≡◌, ◌<◌, false, length};
 ghost use Rattle.ulfm_model.specs.declared.call.Call.TheVariants.{Poll as PollAsked};
 ghost use Rattle.ulfm_words.specs.Steps.{view_of, IsView};
 ghost use Rattle.ulfm_comm.specs.{Look.{Passes}, Phase.{StillStands, is_looking, under_way}, Step.{HasJustLooked, RunsBehind, RunsOn, RunsThrough}};
 ghost use Rattle.ulfm_comm.specs.declared.phases.phase.Phase.TheVariants.{Begun as AtBegun, Looking as AtLooking, Peeking as AtPeeking, Spreading as AtSpreading};
-ghost use Rattle.ulfm_comm.specs.Local.{local};
+ghost use Rattle.ulfm_comm.specs.{Local.{local}, Prepared.{unprepared}};
 
 use crate::phases::look::agreement;
+use crate::phases::new_comm::NewComm;
 use crate::phases::phase::{Next, Phase};
 use crate::rank::LocalState;
 use std::alloc::Allocator;
@@ -29,9 +30,11 @@ impl<P: Packed, A: Allocator + Copy> LocalState<P, A> {
         asked: &Call<P>,
     ) -> Reply<P>
         requires of { IsView P.meld (view_of P.pack (W.name words.now) (W.sight pass.old)) }
-        requires stands { StillStands P.meld (under_way asked.now AtBegun []) (local self.old (view_of P.pack (W.name words.now) (W.sight pass.old))) }
+        requires stands { StillStands P.meld (under_way asked.now AtBegun unprepared)
+            (local self.old (view_of P.pack (W.name words.now) (W.sight pass.old))) }
         requires some { length self.old.seen < (W.name words.now).limits.ranks }
-        ensures { RunsThrough P.meld W.alone (under_way asked.now AtBegun []) (local self.old (view_of P.pack (W.name words.now) (W.sight pass.old))) result
+        ensures { RunsThrough P.meld W.alone (under_way asked.now AtBegun unprepared)
+            (local self.old (view_of P.pack (W.name words.now) (W.sight pass.old))) result
             (local self.new (view_of P.pack (W.name words.now) (W.sight pass.new))) }
     {
         self.run_looking(words, pass, asked)
@@ -46,8 +49,10 @@ impl<P: Packed, A: Allocator + Copy> LocalState<P, A> {
         asked: &Call<P>,
     ) -> Reply<P>
         requires of { IsView P.meld (view_of P.pack (W.name words.now) (W.sight pass.old)) }
-        requires stands { StillStands P.meld (under_way asked.now AtLooking []) (local self.old (view_of P.pack (W.name words.now) (W.sight pass.old))) }
-        ensures { RunsThrough P.meld W.alone (under_way asked.now AtLooking []) (local self.old (view_of P.pack (W.name words.now) (W.sight pass.old))) result
+        requires stands { StillStands P.meld (under_way asked.now AtLooking unprepared)
+            (local self.old (view_of P.pack (W.name words.now) (W.sight pass.old))) }
+        ensures { RunsThrough P.meld W.alone (under_way asked.now AtLooking unprepared)
+            (local self.old (view_of P.pack (W.name words.now) (W.sight pass.old))) result
             (local self.new (view_of P.pack (W.name words.now) (W.sight pass.new))) }
     {
         self.look_on(words, pass, true);
@@ -127,8 +132,8 @@ impl<P: Packed, A: Allocator + Copy> LocalState<P, A> {
     {
         match self.passed(words, pass, asked) {
             Next::Goes(phase) => {
-                let group = Vec::new(self.allocator());
-                self.run_on(words, pass, asked, phase, group)
+                let prepared = NewComm::new(self.allocator());
+                self.run_on(words, pass, asked, phase, prepared)
             }
             Next::Ends(reply) => reply,
         }
@@ -145,9 +150,9 @@ impl<P: Packed, A: Allocator + Copy> LocalState<P, A> {
         offer: Offer<P>,
     ) -> Reply<P>
         requires of { IsView P.meld (view_of P.pack (W.name words.now) (W.sight pass.old)) }
-        requires stands { StillStands P.meld (under_way asked.now (AtSpreading request offer) [])
+        requires stands { StillStands P.meld (under_way asked.now (AtSpreading request offer) unprepared)
             (local self.old (view_of P.pack (W.name words.now) (W.sight pass.old))) }
-        ensures { RunsOn P.meld W.alone (under_way asked.now (AtSpreading request offer) [])
+        ensures { RunsOn P.meld W.alone (under_way asked.now (AtSpreading request offer) unprepared)
             (local self.old (view_of P.pack (W.name words.now) (W.sight pass.old))) result
             (local self.new (view_of P.pack (W.name words.now) (W.sight pass.new))) }
     {
@@ -167,9 +172,9 @@ impl<P: Packed, A: Allocator + Copy> LocalState<P, A> {
         phase: Phase<P>,
     ) -> Reply<P>
         requires of { IsView P.meld (view_of P.pack (W.name words.now) (W.sight pass.old)) }
-        requires stands { StillStands P.meld (under_way asked.now phase []) (local self.old (view_of P.pack (W.name words.now) (W.sight pass.old))) }
+        requires stands { StillStands P.meld (under_way asked.now phase unprepared) (local self.old (view_of P.pack (W.name words.now) (W.sight pass.old))) }
         requires past { is_looking phase ≡ false }
-        ensures { RunsOn P.meld W.alone (under_way asked.now phase []) (local self.old (view_of P.pack (W.name words.now) (W.sight pass.old))) result
+        ensures { RunsOn P.meld W.alone (under_way asked.now phase unprepared) (local self.old (view_of P.pack (W.name words.now) (W.sight pass.old))) result
             (local self.new (view_of P.pack (W.name words.now) (W.sight pass.new))) }
     {
         match phase {
@@ -177,8 +182,8 @@ impl<P: Packed, A: Allocator + Copy> LocalState<P, A> {
                 self.go_settling(words, pass, asked, request, offer)
             }
             _ => {
-                let group = Vec::new(self.allocator());
-                self.run_on(words, pass, asked, phase, group)
+                let prepared = NewComm::new(self.allocator());
+                self.run_on(words, pass, asked, phase, prepared)
             }
         }
     }
@@ -194,15 +199,15 @@ impl<P: Packed, A: Allocator + Copy> LocalState<P, A> {
         shrinks: bool,
     ) -> Reply<P>
         requires of { IsView P.meld (view_of P.pack (W.name words.now) (W.sight pass.old)) }
-        requires stands { StillStands P.meld (under_way asked.now (AtPeeking peek shrinks) [])
+        requires stands { StillStands P.meld (under_way asked.now (AtPeeking peek shrinks) unprepared)
             (local self.old (view_of P.pack (W.name words.now) (W.sight pass.old))) }
-        ensures { RunsOn P.meld W.alone (under_way asked.now (AtPeeking peek shrinks) [])
+        ensures { RunsOn P.meld W.alone (under_way asked.now (AtPeeking peek shrinks) unprepared)
             (local self.old (view_of P.pack (W.name words.now) (W.sight pass.old))) result
             (local self.new (view_of P.pack (W.name words.now) (W.sight pass.new))) }
     {
-        let mut group = Vec::new(self.allocator());
-        match self.go_peeking(words, pass, asked, peek, shrinks, true, &mut group) {
-            Next::Goes(next) => self.run_on(words, pass, asked, next, group),
+        let mut prepared = NewComm::new(self.allocator());
+        match self.go_peeking(words, pass, asked, peek, shrinks, true, &mut prepared) {
+            Next::Goes(next) => self.run_on(words, pass, asked, next, prepared),
             Next::Ends(reply) => reply,
         }
     }
@@ -215,16 +220,16 @@ impl<P: Packed, A: Allocator + Copy> LocalState<P, A> {
         pass: &mut W::Pass,
         asked: &Call<P>,
         mut phase: Phase<P>,
-        mut group: Vec<u16, A>,
+        mut prepared: NewComm<A>,
     ) -> Reply<P>
         requires of { IsView P.meld (view_of P.pack (W.name words.now) (W.sight pass.old)) }
-        requires stands { StillStands P.meld (under_way asked.now phase group.items) (local self.old (view_of P.pack (W.name words.now) (W.sight pass.old))) }
+        requires stands { StillStands P.meld (under_way asked.now phase prepared) (local self.old (view_of P.pack (W.name words.now) (W.sight pass.old))) }
         requires past { is_looking phase ≡ false }
-        ensures { RunsOn P.meld W.alone (under_way asked.now phase group.items) (local self.old (view_of P.pack (W.name words.now) (W.sight pass.old))) result
+        ensures { RunsOn P.meld W.alone (under_way asked.now phase prepared) (local self.old (view_of P.pack (W.name words.now) (W.sight pass.old))) result
             (local self.new (view_of P.pack (W.name words.now) (W.sight pass.new))) }
     {
         loop {
-            match self.go(words, pass, asked, phase, &mut group, true) {
+            match self.go(words, pass, asked, phase, &mut prepared, true) {
                 Next::Goes(next) => phase = next,
                 Next::Ends(reply) => return reply,
             }

@@ -1,4 +1,4 @@
-use Rattle.std.proofs.Common.{rules, append-nil, [], ◌∙◌, ◌≡◌, arith, ap, inl, refl, subst, sym, ℕ, List}
+use Rattle.std.proofs.Common.{rules, append-nil, [], ◌∙◌, ◌≡◌, arith, ap, inl, refl, subst, sym}
 use Rattle.ulfm_words.proofs.Trails.{did_prefix}
 use Rattle.ulfm_comm.proofs.Wings.{turn_same}
 use Rattle.ulfm_model.specs.declared.call.Call.{Call}
@@ -12,12 +12,13 @@ use Rattle.ulfm_comm.proofs.{AlsoLeft.{also_ends}, Exchange.{asked_answered, ask
 use Rattle.ulfm_comm.proofs.rank.LocalState.go.Goals as goal
 use Rattle.ulfm_comm.specs.Local.{frame, local}
 use Rattle.ulfm_comm.specs.Phase.{under_way}
+use Rattle.ulfm_comm.specs.Prepared.{Prepared}
 
 -- where it stands is said of that phase
-still : {P : Type 0} (meld : P → P → P) (name : Over P) (asked : Call P) (group : List ℕ) (own : Record) (now : Sight P) (phase here : Phase P) → phase ≡ here
-    → StillStands meld (under_way asked phase group) (local own (view_at name now))
-    → StillStands meld (under_way asked here group) (local own (view_at name now))
-still meld name asked group own now phase here is stands = subst (λ at. StillStands meld (under_way asked at group) (local own (view_at name now))) is stands
+still : {P : Type 0} (meld : P → P → P) (name : Over P) (asked : Call P) (prepared : Prepared) (own : Record) (now : Sight P) (phase here : Phase P) → phase ≡ here
+    → StillStands meld (under_way asked phase prepared) (local own (view_at name now))
+    → StillStands meld (under_way asked here prepared) (local own (view_at name now))
+still meld name asked prepared own now phase here is stands = subst (λ at. StillStands meld (under_way asked at prepared) (local own (view_at name now))) is stands
 
 pub returns-in-Over : goal.returns-in-Over
 returns-in-Over g c =
@@ -56,7 +57,7 @@ returns-in-Over g c =
 pub returns-in-Begun : goal.returns-in-Begun
 returns-in-Begun g c =
     rw c.in-Begun.is (record {
-      turn = c.go_begun.ensures.turn c.args.group.now.items;
+      turn = c.go_begun.ensures.turn c.args.prepared.now;
       over = λ at. absurd (cc at);
       checks = tt;
       early = tt;
@@ -66,7 +67,7 @@ returns-in-Begun g c =
 pub returns-in-Looking : goal.returns-in-Looking
 returns-in-Looking g c =
     rw c.in-Looking.is (record {
-      turn = c.go_looking.ensures.turn c.args.group.now.items;
+      turn = c.go_looking.ensures.turn c.args.prepared.now;
       over = λ at. absurd (cc at);
       checks = tt;
       early = tt;
@@ -76,7 +77,7 @@ returns-in-Looking g c =
 pub returns-in-Spreading : goal.returns-in-Spreading
 returns-in-Spreading g c =
     rw c.in-Spreading.is (record {
-      turn = c.go_spreading.ensures.turn c.args.group.now.items c.args.whole;
+      turn = c.go_spreading.ensures.turn c.args.prepared.now c.args.whole;
       over = λ at. absurd (cc at);
       checks = search rules;
       early = search rules;
@@ -86,7 +87,7 @@ returns-in-Spreading g c =
 pub returns-in-Settling : goal.returns-in-Settling
 returns-in-Settling g c =
     rw c.in-Settling.is (record {
-      turn = c.go_settling.ensures.turn c.args.group.now.items c.args.whole;
+      turn = c.go_settling.ensures.turn c.args.prepared.now c.args.whole;
       over = λ at. absurd (cc at);
       checks = tt;
       early = tt;
@@ -96,7 +97,7 @@ returns-in-Settling g c =
 pub returns-in-Arriving : goal.returns-in-Arriving
 returns-in-Arriving g c =
     rw c.in-Arriving.is (record {
-      turn = c.go_arriving.ensures.turn c.args.group.now.items c.args.whole;
+      turn = c.go_arriving.ensures.turn c.args.prepared.now c.args.whole;
       over = λ at. absurd (cc at);
       checks = tt;
       early = tt;
@@ -106,7 +107,7 @@ returns-in-Arriving g c =
 pub returns-in-Revoking : goal.returns-in-Revoking
 returns-in-Revoking g c =
     rw c.in-Revoking.is (record {
-      turn = c.go_revoking.ensures.turn c.args.group.now.items c.args.whole;
+      turn = c.go_revoking.ensures.turn c.args.prepared.now c.args.whole;
       over = λ at. absurd (cc at);
       checks = tt;
       early = tt;
@@ -116,7 +117,7 @@ returns-in-Revoking g c =
 -- a call that asks whether its communicator is revoked loads it
 pub load_revocation-requires-clause-within : goal.load_revocation-requires-clause-within
 load_revocation-requires-clause-within g c =
-    let stands = subst (λ phase. StillStands g.P.Meld.meld (under_way c.args.asked.now phase c.args.group.now.items) (local c.args.self.now (view_of g.P.Packed.pack (g.W.Words.name c.args.words.now) (g.W.Words.sight c.args.pass.now)))) c.in-Asking.is c.requires.stands in
+    let stands = subst (λ phase. StillStands g.P.Meld.meld (under_way c.args.asked.now phase c.args.prepared.now) (local c.args.self.now (view_of g.P.Packed.pack (g.W.Words.name c.args.words.now) (g.W.Words.sight c.args.pass.now)))) c.in-Asking.is c.requires.stands in
     rw c.comm_of.ensures (asked_below _ _ _ _ _ _ _ _ stands.2.at.0 c.requires.of.legal c.requires.of.may_open)
 
 pub returns-in-Asking : goal.returns-in-Asking
@@ -172,7 +173,7 @@ returns-in-Peeking g c =
 pub returns-in-Marking : goal.returns-in-Marking
 returns-in-Marking g c =
     rw c.in-Marking.is (record {
-      turn = c.go_marking.ensures.turn c.args.group.now.items;
+      turn = c.go_marking.ensures.turn c.args.prepared.now;
       over = λ at. absurd (cc at);
       checks = tt;
       early = tt;
@@ -212,9 +213,9 @@ returns-in-Spawning g c =
 pub returns-in-Waiting : goal.returns-in-Waiting
 returns-in-Waiting g c =
     rw c.in-Waiting.is (record {
-      turn = c.go_waiting.ensures.turn c.args.group.now.items;
+      turn = c.go_waiting.ensures.turn c.args.prepared.now;
       over = λ at. absurd (cc at);
-      checks = c.go_waiting.ensures.checks c.args.group.now.items;
+      checks = c.go_waiting.ensures.checks c.args.prepared.now;
       early = tt;
       wins = λ not here wings some. absurd (cc some);
     })
@@ -222,88 +223,88 @@ returns-in-Waiting g c =
 pub returns-in-Checking : goal.returns-in-Checking
 returns-in-Checking g c =
     rw c.in-Checking.is (record {
-      turn = c.go_checking.ensures.turn c.args.group.now.items c.args.whole;
+      turn = c.go_checking.ensures.turn c.args.prepared.now c.args.whole;
       over = λ at. absurd (cc at);
       checks = tt;
-      early = c.go_checking.ensures.early c.args.group.now.items;
+      early = c.go_checking.ensures.early c.args.prepared.now;
       wins = λ not here wings some. absurd (cc some);
     })
 
 pub go_begun-requires-clause-stands : goal.go_begun-requires-clause-stands
 go_begun-requires-clause-stands g c = (
-  c.args.group.now.items,
+  c.args.prepared.now,
   still g.P.Meld.meld (over g.P.Packed.pack (g.W.Words.name c.args.words.now)) c.args.asked.now
-      c.args.group.now.items c.args.self.now (g.W.Words.sight c.args.pass.now) c.args.phase _ c.in-Begun.is c.requires.stands,
+      c.args.prepared.now c.args.self.now (g.W.Words.sight c.args.pass.now) c.args.phase _ c.in-Begun.is c.requires.stands,
 )
 
 pub go_looking-requires-clause-stands : goal.go_looking-requires-clause-stands
 go_looking-requires-clause-stands g c = (
-  c.args.group.now.items,
+  c.args.prepared.now,
   still g.P.Meld.meld (over g.P.Packed.pack (g.W.Words.name c.args.words.now)) c.args.asked.now
-      c.args.group.now.items c.args.self.now (g.W.Words.sight c.args.pass.now) c.args.phase _ c.in-Looking.is c.requires.stands,
+      c.args.prepared.now c.args.self.now (g.W.Words.sight c.args.pass.now) c.args.phase _ c.in-Looking.is c.requires.stands,
 )
 
 pub go_spreading-requires-clause-stands : goal.go_spreading-requires-clause-stands
 go_spreading-requires-clause-stands g c = (
-  c.args.group.now.items,
+  c.args.prepared.now,
   still g.P.Meld.meld (over g.P.Packed.pack (g.W.Words.name c.args.words.now)) c.args.asked.now
-      c.args.group.now.items c.args.self.now (g.W.Words.sight c.args.pass.now) c.args.phase _ c.in-Spreading.is c.requires.stands,
+      c.args.prepared.now c.args.self.now (g.W.Words.sight c.args.pass.now) c.args.phase _ c.in-Spreading.is c.requires.stands,
 )
 
 pub go_settling-requires-clause-stands : goal.go_settling-requires-clause-stands
 go_settling-requires-clause-stands g c = (
-  c.args.group.now.items,
+  c.args.prepared.now,
   still g.P.Meld.meld (over g.P.Packed.pack (g.W.Words.name c.args.words.now)) c.args.asked.now
-      c.args.group.now.items c.args.self.now (g.W.Words.sight c.args.pass.now) c.args.phase _ c.in-Settling.is c.requires.stands,
+      c.args.prepared.now c.args.self.now (g.W.Words.sight c.args.pass.now) c.args.phase _ c.in-Settling.is c.requires.stands,
 )
 
 pub go_arriving-requires-clause-stands : goal.go_arriving-requires-clause-stands
 go_arriving-requires-clause-stands g c = (
-  c.args.group.now.items,
+  c.args.prepared.now,
   still g.P.Meld.meld (over g.P.Packed.pack (g.W.Words.name c.args.words.now)) c.args.asked.now
-      c.args.group.now.items c.args.self.now (g.W.Words.sight c.args.pass.now) c.args.phase _ c.in-Arriving.is c.requires.stands,
+      c.args.prepared.now c.args.self.now (g.W.Words.sight c.args.pass.now) c.args.phase _ c.in-Arriving.is c.requires.stands,
 )
 
 pub go_revoking-requires-clause-stands : goal.go_revoking-requires-clause-stands
 go_revoking-requires-clause-stands g c = (
-  c.args.group.now.items,
+  c.args.prepared.now,
   still g.P.Meld.meld (over g.P.Packed.pack (g.W.Words.name c.args.words.now)) c.args.asked.now
-      c.args.group.now.items c.args.self.now (g.W.Words.sight c.args.pass.now) c.args.phase _ c.in-Revoking.is c.requires.stands,
+      c.args.prepared.now c.args.self.now (g.W.Words.sight c.args.pass.now) c.args.phase _ c.in-Revoking.is c.requires.stands,
 )
 
 pub go_peeking-requires-clause-stands : goal.go_peeking-requires-clause-stands
-go_peeking-requires-clause-stands g c = still g.P.Meld.meld (over g.P.Packed.pack (g.W.Words.name c.args.words.now)) c.args.asked.now c.args.group.now.items c.args.self.now
+go_peeking-requires-clause-stands g c = still g.P.Meld.meld (over g.P.Packed.pack (g.W.Words.name c.args.words.now)) c.args.asked.now c.args.prepared.now c.args.self.now
     (g.W.Words.sight c.args.pass.now) c.args.phase _ c.in-Peeking.is c.requires.stands
 
 pub go_marking-requires-clause-stands : goal.go_marking-requires-clause-stands
 go_marking-requires-clause-stands g c = (
-  c.args.group.now.items,
+  c.args.prepared.now,
   still g.P.Meld.meld (over g.P.Packed.pack (g.W.Words.name c.args.words.now)) c.args.asked.now
-      c.args.group.now.items c.args.self.now (g.W.Words.sight c.args.pass.now) c.args.phase _ c.in-Marking.is c.requires.stands,
+      c.args.prepared.now c.args.self.now (g.W.Words.sight c.args.pass.now) c.args.phase _ c.in-Marking.is c.requires.stands,
 )
 
 pub go_reading-requires-clause-stands : goal.go_reading-requires-clause-stands
-go_reading-requires-clause-stands g c = still g.P.Meld.meld (over g.P.Packed.pack (g.W.Words.name c.args.words.now)) c.args.asked.now c.args.group.now.items c.args.self.now
+go_reading-requires-clause-stands g c = still g.P.Meld.meld (over g.P.Packed.pack (g.W.Words.name c.args.words.now)) c.args.asked.now c.args.prepared.now c.args.self.now
     (g.W.Words.sight c.args.pass.now) c.args.phase _ c.in-Reading.is c.requires.stands
 
 pub go_reading_on-requires-clause-stands : goal.go_reading_on-requires-clause-stands
-go_reading_on-requires-clause-stands g c = still g.P.Meld.meld (over g.P.Packed.pack (g.W.Words.name c.args.words.now)) c.args.asked.now c.args.group.now.items c.args.self.now
+go_reading_on-requires-clause-stands g c = still g.P.Meld.meld (over g.P.Packed.pack (g.W.Words.name c.args.words.now)) c.args.asked.now c.args.prepared.now c.args.self.now
     (g.W.Words.sight c.args.pass.now) c.args.phase _ c.in-ReadingOn.is c.requires.stands
 
 pub go_spawning-requires-clause-stands : goal.go_spawning-requires-clause-stands
-go_spawning-requires-clause-stands g c = still g.P.Meld.meld (over g.P.Packed.pack (g.W.Words.name c.args.words.now)) c.args.asked.now c.args.group.now.items c.args.self.now
+go_spawning-requires-clause-stands g c = still g.P.Meld.meld (over g.P.Packed.pack (g.W.Words.name c.args.words.now)) c.args.asked.now c.args.prepared.now c.args.self.now
     (g.W.Words.sight c.args.pass.now) c.args.phase _ c.in-Spawning.is c.requires.stands
 
 pub go_waiting-requires-clause-stands : goal.go_waiting-requires-clause-stands
 go_waiting-requires-clause-stands g c = (
-  c.args.group.now.items,
+  c.args.prepared.now,
   still g.P.Meld.meld (over g.P.Packed.pack (g.W.Words.name c.args.words.now)) c.args.asked.now
-      c.args.group.now.items c.args.self.now (g.W.Words.sight c.args.pass.now) c.args.phase _ c.in-Waiting.is c.requires.stands,
+      c.args.prepared.now c.args.self.now (g.W.Words.sight c.args.pass.now) c.args.phase _ c.in-Waiting.is c.requires.stands,
 )
 
 pub go_checking-requires-clause-stands : goal.go_checking-requires-clause-stands
 go_checking-requires-clause-stands g c = (
-  c.args.group.now.items,
+  c.args.prepared.now,
   still g.P.Meld.meld (over g.P.Packed.pack (g.W.Words.name c.args.words.now)) c.args.asked.now
-      c.args.group.now.items c.args.self.now (g.W.Words.sight c.args.pass.now) c.args.phase _ c.in-Checking.is c.requires.stands,
+      c.args.prepared.now c.args.self.now (g.W.Words.sight c.args.pass.now) c.args.phase _ c.in-Checking.is c.requires.stands,
 )

@@ -52,7 +52,7 @@ walks g c =
 
 pub returns-then-not-set_arrival-clause-turn : goal.returns-then-not-set_arrival-clause-turn
 returns-then-not-set_arrival-clause-turn g c =
-    λ group whole.
+    λ prepared whole.
     record {
       walks = walks g (goal.at.returns-then-not-set_arrival-clause-turn g c).After-set_arrival;
       beside = turn_same _ _ _ _ _ (λ w. w) (did_prefix g.W.Words.alone _ _ _ (walks g (goal.at.returns-then-not-set_arrival-clause-turn g c).After-set_arrival).did) c.set_arrival.ensures.tries.caches;
@@ -88,7 +88,7 @@ returns-then-not-set_arrival-clause-turn g c =
 
 pub returns-clause-turn : goal.returns-clause-turn
 returns-clause-turn g c =
-    λ group whole.
+    λ prepared whole.
     record {
       walks = walks g (goal.at.returns-clause-turn g c).After-set_arrival;
       beside = turn_same _ _ _ _ _ (λ w. w) (did_prefix g.W.Words.alone _ _ _ (walks g (goal.at.returns-clause-turn g c).After-set_arrival).did) c.set_arrival.ensures.tries.caches;

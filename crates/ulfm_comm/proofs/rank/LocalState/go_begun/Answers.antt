@@ -38,10 +38,10 @@ left g c =
 
 pub returns-clause-turn : goal.returns-clause-turn
 returns-clause-turn g c =
-    λ group.
+    λ prepared.
     let now = g.W.Words.sight c.args.pass.now in
     let after = g.W.Words.sight c.go_looking.new.pass in
-    let t = c.go_looking.ensures.turn group in
+    let t = c.go_looking.ensures.turn prepared in
     let fewer = left g (goal.at.returns-clause-turn g c).After-resume in
     let same = ranks g (goal.at.returns-clause-turn g c).After-resume in
     let limits = (g.W.Words.name c.args.words.now).limits in
@@ -70,6 +70,6 @@ returns-clause-turn g c =
       leads = search rules;
       turns = λ alone only old before u.
           t.turns alone only old before
-          (begins_looking g.P.Meld.meld alone (over g.P.Packed.pack (g.W.Words.name c.args.words.now)) c.args.asked.now old before group c.args.self.now c.resume.new.self
+          (begins_looking g.P.Meld.meld alone (over g.P.Packed.pack (g.W.Words.name c.args.words.now)) c.args.asked.now old before prepared c.args.self.now c.resume.new.self
           (g.W.Words.sight c.args.pass.now) c.requires.of c.resume.ensures u);
     }

@@ -1,4 +1,4 @@
-use Rattle.std.proofs.Common.{rules, ◌≡◌, ℕ, arith, Bool, false, List, refl, ap, sym, ◌∙◌, inl, inr}
+use Rattle.std.proofs.Common.{rules, ◌≡◌, arith, Bool, false, refl, ap, sym, ◌∙◌, inl, inr}
 use Rattle.ulfm_words.proofs.Trails.{did_prefix}
 use Rattle.ulfm_comm.proofs.Wings.{turn_same}
 use Rattle.ulfm_model.specs.{declared.reply.Reply.{Reply}, Records.{Record}}
@@ -14,6 +14,7 @@ use Rattle.ulfm_comm.specs.Local.{local}
 use Rattle.ulfm_comm.specs.Phase.{under_way}
 use Rattle.ulfm_comm.specs.Step.{coming}
 use Rattle.ulfm_words.specs.Steps.{view_of, over}
+use Rattle.ulfm_comm.specs.Prepared.{Prepared}
 
 pub load_revocation-requires-clause-within : goal.load_revocation-requires-clause-within
 load_revocation-requires-clause-within g c =
@@ -23,20 +24,20 @@ load_revocation-requires-clause-within g c =
     c.comm_of-comm.result c.comm_of-comm.ensures
 
 pub returns-then-load_revocation-clause-early : goal.returns-then-load_revocation-clause-early
-returns-then-load_revocation-clause-early g c = λ group alone only found. inr (inl refl)
+returns-then-load_revocation-clause-early g c = λ prepared alone only found. inr (inl refl)
 
 pub returns-in-Nobody-clause-early : goal.returns-in-Nobody-clause-early
-returns-in-Nobody-clause-early g c = λ group alone only found. inl (c.in-Nobody.is, refl)
+returns-in-Nobody-clause-early g c = λ prepared alone only found. inl (c.in-Nobody.is, refl)
 
 pub returns-in-Others-clause-early : goal.returns-in-Others-clause-early
-returns-in-Others-clause-early g c = λ group alone only found.
+returns-in-Others-clause-early g c = λ prepared alone only found.
     inr (inr (checking_early g.P.Meld.meld (g.W.Words.name c.args.words.now).limits alone g.W.Words.alone only c.args.asked.now c.args.missing
     found.earlier found.old found.before c.args.self.now (g.W.Words.sight c.args.pass.now).seen (g.W.Words.sight c.load_revocation.new.pass).seen
     found.polls found.checking c.load_revocation.ensures.loads.did c.comm_of-comm.result c.comm_of-comm.ensures
     (sym c.load_revocation.ensures.revoked ∙ c.if-load_revocation.false) Others c.in-Others.is c.args.self.now refl))
 
 pub returns-in-Declared-clause-early : goal.returns-in-Declared-clause-early
-returns-in-Declared-clause-early g c = λ group alone only found.
+returns-in-Declared-clause-early g c = λ prepared alone only found.
     inr (inr (checking_early g.P.Meld.meld (g.W.Words.name c.args.words.now).limits alone g.W.Words.alone only c.args.asked.now c.args.missing
     found.earlier found.old found.before c.args.self.now (g.W.Words.sight c.args.pass.now).seen (g.W.Words.sight c.load_revocation.new.pass).seen
     found.polls found.checking c.load_revocation.ensures.loads.did c.comm_of-comm.result c.comm_of-comm.ensures
@@ -45,9 +46,9 @@ returns-in-Declared-clause-early g c = λ group alone only found.
 
 -- the call ends by its load, which leaves what the rank has seen
 ends : (g : _) (c : After-load_revocation g) (reply : Reply g.row.P.Denot) (new : Record) → new.seen ≡ c.args.self.now.seen → is_of_round reply ≡ false
-    → ((group : List ℕ) → Turns g.P.Meld.meld g.W.Words.alone (under_way c.args.asked.now (Checking c.args.missing) group) (local c.args.self.now (view_of g.P.Packed.pack (g.W.Words.name c.args.words.now) (g.W.Words.sight c.args.pass.now))) (Ends reply) group (local new (view_of g.P.Packed.pack (g.W.Words.name c.args.words.now) (g.W.Words.sight c.load_revocation.new.pass))))
-    → (group : List ℕ) (whole : Bool) → TakesTurn g.P.Meld.meld g.W.Words.alone whole (under_way c.args.asked.now (Checking c.args.missing) group) (local c.args.self.now (view_of g.P.Packed.pack (g.W.Words.name c.args.words.now) (g.W.Words.sight c.args.pass.now))) (coming (Ends reply) group) (local new (view_of g.P.Packed.pack (g.W.Words.name c.args.words.now) (g.W.Words.sight c.load_revocation.new.pass)))
-ends g c reply new sees none turns = λ group whole.
+    → ((prepared : Prepared) → Turns g.P.Meld.meld g.W.Words.alone (under_way c.args.asked.now (Checking c.args.missing) prepared) (local c.args.self.now (view_of g.P.Packed.pack (g.W.Words.name c.args.words.now) (g.W.Words.sight c.args.pass.now))) (Ends reply) prepared (local new (view_of g.P.Packed.pack (g.W.Words.name c.args.words.now) (g.W.Words.sight c.load_revocation.new.pass))))
+    → (prepared : Prepared) (whole : Bool) → TakesTurn g.P.Meld.meld g.W.Words.alone whole (under_way c.args.asked.now (Checking c.args.missing) prepared) (local c.args.self.now (view_of g.P.Packed.pack (g.W.Words.name c.args.words.now) (g.W.Words.sight c.args.pass.now))) (coming (Ends reply) prepared) (local new (view_of g.P.Packed.pack (g.W.Words.name c.args.words.now) (g.W.Words.sight c.load_revocation.new.pass)))
+ends g c reply new sees none turns = λ prepared whole.
     record {
       walks = search rules;
       beside = turn_same _ _ _ _ _ (λ w. w) (did_prefix g.W.Words.alone _ _ _ c.load_revocation.ensures.loads.did) c.load_revocation.ensures.loads.caches;
@@ -62,13 +63,13 @@ ends g c reply new sees none turns = λ group whole.
       looks = λ at. absurd (cc at);
       knows = λ known of. absurd (false≢true (sym none ∙ of));
       leads = search rules;
-      turns = turns group;
+      turns = turns prepared;
     }
 
 pub returns-then-load_revocation-clause-turn : goal.returns-then-load_revocation-clause-turn
 returns-then-load_revocation-clause-turn g c = ends g (goal.at.returns-then-load_revocation-clause-turn g c).After-load_revocation _ c.close.new.self
-    (ap (λ (w : Record). w.seen) c.close.ensures) refl (λ group alone only old before stands.
-    checking_revoked g.P.Meld.meld alone (over g.P.Packed.pack (g.W.Words.name c.args.words.now)) c.args.asked.now c.args.missing group c.args.self.now
+    (ap (λ (w : Record). w.seen) c.close.ensures) refl (λ prepared alone only old before stands.
+    checking_revoked g.P.Meld.meld alone (over g.P.Packed.pack (g.W.Words.name c.args.words.now)) c.args.asked.now c.args.missing prepared c.args.self.now
     (g.W.Words.sight c.args.pass.now) c.requires.of old before stands
     g.W.Words.alone only (g.W.Words.sight c.load_revocation.new.pass) c.load_revocation.ensures.loads.of c.load_revocation.ensures.loads.did
     (omega (arith, c.load_revocation.ensures.loads.steps)) c.comm_of-comm.result c.comm_of-comm.ensures c.close.new.self
@@ -76,8 +77,8 @@ returns-then-load_revocation-clause-turn g c = ends g (goal.at.returns-then-load
 
 pub returns-in-Nobody-clause-turn : goal.returns-in-Nobody-clause-turn
 returns-in-Nobody-clause-turn g c = ends g (goal.at.returns-in-Nobody-clause-turn g c).After-load_revocation _ c.close-in-Nobody.new.self
-    (ap (λ (w : Record). w.seen) c.close-in-Nobody.ensures) refl (λ group alone only old before stands.
-    checking_missing g.P.Meld.meld alone (over g.P.Packed.pack (g.W.Words.name c.args.words.now)) c.args.asked.now c.args.missing group c.args.self.now
+    (ap (λ (w : Record). w.seen) c.close-in-Nobody.ensures) refl (λ prepared alone only old before stands.
+    checking_missing g.P.Meld.meld alone (over g.P.Packed.pack (g.W.Words.name c.args.words.now)) c.args.asked.now c.args.missing prepared c.args.self.now
     (g.W.Words.sight c.args.pass.now) c.requires.of old before stands
     g.W.Words.alone only (g.W.Words.sight c.load_revocation.new.pass) c.load_revocation.ensures.loads.of c.load_revocation.ensures.loads.did
     (omega (arith, c.load_revocation.ensures.loads.steps)) c.comm_of-comm.result c.comm_of-comm.ensures c.close-in-Nobody.new.self
@@ -85,8 +86,8 @@ returns-in-Nobody-clause-turn g c = ends g (goal.at.returns-in-Nobody-clause-tur
 
 pub returns-in-Others-clause-turn : goal.returns-in-Others-clause-turn
 returns-in-Others-clause-turn g c = ends g (goal.at.returns-in-Others-clause-turn g c).After-load_revocation _ c.args.self.now refl refl
-    (λ group alone only old before stands.
-    checking_missing g.P.Meld.meld alone (over g.P.Packed.pack (g.W.Words.name c.args.words.now)) c.args.asked.now c.args.missing group c.args.self.now
+    (λ prepared alone only old before stands.
+    checking_missing g.P.Meld.meld alone (over g.P.Packed.pack (g.W.Words.name c.args.words.now)) c.args.asked.now c.args.missing prepared c.args.self.now
     (g.W.Words.sight c.args.pass.now) c.requires.of old before stands
     g.W.Words.alone only (g.W.Words.sight c.load_revocation.new.pass) c.load_revocation.ensures.loads.of c.load_revocation.ensures.loads.did
     (omega (arith, c.load_revocation.ensures.loads.steps)) c.comm_of-comm.result c.comm_of-comm.ensures c.args.self.now
@@ -94,8 +95,8 @@ returns-in-Others-clause-turn g c = ends g (goal.at.returns-in-Others-clause-tur
 
 pub returns-in-Declared-clause-turn : goal.returns-in-Declared-clause-turn
 returns-in-Declared-clause-turn g c = ends g (goal.at.returns-in-Declared-clause-turn g c).After-load_revocation _ c.close-in-Declared.new.self
-    (ap (λ (w : Record). w.seen) c.close-in-Declared.ensures) refl (λ group alone only old before stands.
-    checking_missing g.P.Meld.meld alone (over g.P.Packed.pack (g.W.Words.name c.args.words.now)) c.args.asked.now c.args.missing group c.args.self.now
+    (ap (λ (w : Record). w.seen) c.close-in-Declared.ensures) refl (λ prepared alone only old before stands.
+    checking_missing g.P.Meld.meld alone (over g.P.Packed.pack (g.W.Words.name c.args.words.now)) c.args.asked.now c.args.missing prepared c.args.self.now
     (g.W.Words.sight c.args.pass.now) c.requires.of old before stands
     g.W.Words.alone only (g.W.Words.sight c.load_revocation.new.pass) c.load_revocation.ensures.loads.of c.load_revocation.ensures.loads.did
     (omega (arith, c.load_revocation.ensures.loads.steps)) c.comm_of-comm.result c.comm_of-comm.ensures c.close-in-Declared.new.self

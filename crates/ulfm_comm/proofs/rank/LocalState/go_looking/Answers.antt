@@ -75,7 +75,7 @@ walked goes = record { of = goes.of; own = []; did = goes.did; onward = goes.onw
 
 pub returns-then-not-look_on-clause-turn : goal.returns-then-not-look_on-clause-turn
 returns-then-not-look_on-clause-turn g c =
-    λ group.
+    λ prepared.
     let limits = (g.W.Words.name c.args.words.now).limits in
     let now = g.W.Words.sight c.args.pass.now in
     let after = g.W.Words.sight c.look_on.new.pass in
@@ -121,7 +121,7 @@ returns-then-not-look_on-clause-turn g c =
 
 pub returns-then-has_rank-clause-turn : goal.returns-then-has_rank-clause-turn
 returns-then-has_rank-clause-turn g c =
-    λ group.
+    λ prepared.
     record {
       walks = walked c.look_on.ensures.goes;
       beside = turn_same _ _ _ _ _ (λ w. w) (did_prefix g.W.Words.alone _ _ _ c.look_on.ensures.goes.did) c.look_on.ensures.goes.caches;
@@ -156,7 +156,7 @@ returns-then-has_rank-clause-turn g c =
 
 pub returns-clause-turn : goal.returns-clause-turn
 returns-clause-turn g c =
-    λ group.
+    λ prepared.
     record {
       walks = walked c.look_on.ensures.goes;
       beside = turn_same _ _ _ _ _ (λ w. w) (did_prefix g.W.Words.alone _ _ _ c.look_on.ensures.goes.did) c.look_on.ensures.goes.caches;
@@ -197,7 +197,7 @@ returns-clause-turn g c =
           let own = c.look_on.ensures.kept ∙ ap (λ (w : Record). record w { seen = c.look_on.new.self.seen }) u.at.1 in
           let found : c.look_on.new.self.seen ≡ failures after.seen = c.if-not-look_on.ensures.look in
           let number = c.number.ensures ∙ (ap (λ (w : Record). w.number) c.look_on.ensures.kept ∙ ap (λ (w : Record). w.number) u.at.1) in
-          c.looked.ensures.turns group alone old before
+          c.looked.ensures.turns prepared alone old before
           (record {
             fits = u.fits;
             mine = u.mine;

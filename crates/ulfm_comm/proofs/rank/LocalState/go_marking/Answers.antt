@@ -51,7 +51,7 @@ later g c known = set_later (g.W.Words.sight c.args.pass.now).cached (g.W.Words.
 
 pub returns-then-marks-seen-clause-turn : goal.returns-then-marks-seen-clause-turn
 returns-then-marks-seen-clause-turn g c =
-    λ group.
+    λ prepared.
     record {
       walks = search rules;
       beside = turn_same _ _ _ _ _ (λ w. w) (did_prefix g.W.Words.alone _ _ _ c.advance.ensures.marks.marks.marks.did) c.advance.ensures.marks.marks.caches;
@@ -66,7 +66,7 @@ returns-then-marks-seen-clause-turn g c =
       knows = λ known. rw (c.advance.ensures.comm, c.advance.ensures.round) (later g (goal.at.returns-then-marks-seen-clause-turn g c).After-advance known);
       leads = search rules;
       turns = λ alone only old before stands.
-          marking_goes g.P.Meld.meld (over g.P.Packed.pack (g.W.Words.name c.args.words.now)) c.args.asked.now c.args.marks c.args.blocks c.args.shrinks group c.args.self.now
+          marking_goes g.P.Meld.meld (over g.P.Packed.pack (g.W.Words.name c.args.words.now)) c.args.asked.now c.args.marks c.args.blocks c.args.shrinks prepared c.args.self.now
           (g.W.Words.sight c.args.pass.now) c.requires.of
           c.held_comm-x.result.now c.comm_of.result c.held_comm-x.ensures c.comm_of.ensures c.deref.result.now c.failures-seen.result.now
           (members g (goal.at.returns-then-marks-seen-clause-turn g c).After-deref) c.failures-seen.ensures alone old before stands
@@ -113,7 +113,7 @@ returns-clause-turn g c =
     (members g (goal.at.returns-clause-turn g c).After-deref) c.failures-seen.ensures c.args.marks c.new.result _ _ c.len-members.result c.new.ensures
     (length_is g (goal.at.returns-clause-turn g c).After-len-members) unknown
     (g.W.Words.sight c.args.pass.now).steps (g.W.Words.sight c.advance.new.pass).steps _ takes.turns in
-    λ group.
+    λ prepared.
     record {
       walks = search rules;
       beside = turn_same _ _ _ _ _ (λ w. w) (did_prefix g.W.Words.alone _ _ _ c.advance.ensures.marks.marks.marks.did) c.advance.ensures.marks.marks.caches;
@@ -128,7 +128,7 @@ returns-clause-turn g c =
       knows = λ known. rw (c.new.ensures, c.advance.ensures.comm, c.advance.ensures.round) (later g (goal.at.returns-clause-turn g c).After-advance known);
       leads = search rules;
       turns = λ alone only old before stands.
-          marking_reads g.P.Meld.meld (over g.P.Packed.pack (g.W.Words.name c.args.words.now)) c.args.asked.now c.args.marks c.args.blocks c.args.shrinks group c.args.self.now
+          marking_reads g.P.Meld.meld (over g.P.Packed.pack (g.W.Words.name c.args.words.now)) c.args.asked.now c.args.marks c.args.blocks c.args.shrinks prepared c.args.self.now
           (g.W.Words.sight c.args.pass.now) c.requires.of
           c.held_comm-x.result.now c.comm_of.result c.held_comm-x.ensures c.comm_of.ensures c.deref.result.now c.failures-seen.result.now
           (members g (goal.at.returns-clause-turn g c).After-deref) c.failures-seen.ensures alone old before stands

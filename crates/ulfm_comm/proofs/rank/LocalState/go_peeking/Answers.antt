@@ -1,7 +1,7 @@
 use Rattle.std.proofs.lemmas.Bool.{false≢true}
 use Rattle.ulfm_words.proofs.Trails.{did_prefix}
 use Rattle.ulfm_comm.proofs.Wings.{turn_same}
-use Rattle.std.proofs.Common.{◌≡◌, ◌+◌, ◌<◌, ◌≤◌, ℕ, List, Some, true, false, [], length, refl, ap, subst, sym, ◌∙◌, arith}
+use Rattle.std.proofs.Common.{◌≡◌, ◌+◌, ◌<◌, ◌≤◌, ℕ, Some, true, false, [], length, refl, ap, subst, sym, ◌∙◌, arith}
 use Rattle.ulfm_model.specs.{Blocks.{IsSummed}, Records.{Held, Record, held_at}, Terms.{comm_of}}
 use Rattle.ulfm_steps.specs.{Blocks.{AllSet, AreSet, is_whole, peek_site}, Turns.{IsStepAt}}
 use Rattle.ulfm_steps.proofs.KnownBlocks.{all_known, set_later}
@@ -18,6 +18,7 @@ use Rattle.ulfm_comm.specs.Local.{stance, local}
 use Rattle.ulfm_comm.specs.Phase.{under_way}
 use Rattle.ulfm_comm.specs.Step.{coming}
 use Rattle.ulfm_words.specs.Steps.{view_of, over, Goes, Sight}
+use Rattle.ulfm_comm.specs.Prepared.{Prepared}
 
 -- a step was made, so that fewer are left
 fewer : (after left now most : ℕ) → after + left ≤ now + most → now < after → left < most
@@ -30,7 +31,7 @@ members g c = c.deref.ensures.value ∙ ap (λ (y : Held). y.group) c.x.view_is
 pub advance-requires : goal.advance-requires
 advance-requires g c =
     let stands = c.requires.stands in
-    peek_may g.P.Meld.meld (over g.P.Packed.pack (g.W.Words.name c.args.words.now)) c.args.asked.now c.args.peek c.args.shrinks c.args.group.now.items c.args.self.now
+    peek_may g.P.Meld.meld (over g.P.Packed.pack (g.W.Words.name c.args.words.now)) c.args.asked.now c.args.peek c.args.shrinks c.args.prepared.now c.args.self.now
     (g.W.Words.sight c.args.pass.now) c.requires.of
     c.held_comm-x.result.now c.comm_of.result c.held_comm-x.ensures c.comm_of.ensures c.deref.result.now (members g (goal.at.advance-requires g c).After-deref)
     false stands.0 stands.1 stands.2
@@ -46,7 +47,7 @@ held g c = ap (held_at c.args.self.now) (sym c.comm_of.ensures) ∙ c.held_comm-
 pub overflow_cast-members : goal.overflow_cast-members
 overflow_cast-members g c =
     let stands = c.requires.stands in
-    let few = peek_few g.P.Meld.meld (over g.P.Packed.pack (g.W.Words.name c.args.words.now)) c.args.asked.now c.args.peek c.args.shrinks c.args.group.now.items c.args.self.now
+    let few = peek_few g.P.Meld.meld (over g.P.Packed.pack (g.W.Words.name c.args.words.now)) c.args.asked.now c.args.peek c.args.shrinks c.args.prepared.now c.args.self.now
     (g.W.Words.sight c.args.pass.now) c.requires.of
     c.held_comm-x.result.now c.comm_of.result c.held_comm-x.ensures c.comm_of.ensures c.deref.result.now
     (members g (goal.at.overflow_cast-members g c).After-deref) false stands.0 stands.1 stands.2 in
@@ -55,7 +56,7 @@ overflow_cast-members g c =
 pub all-requires : goal.all-requires
 all-requires g c =
     let stands = c.requires.stands in
-    let some = peek_any g.P.Meld.meld (over g.P.Packed.pack (g.W.Words.name c.args.words.now)) c.args.asked.now c.args.peek c.args.shrinks c.args.group.now.items c.args.self.now
+    let some = peek_any g.P.Meld.meld (over g.P.Packed.pack (g.W.Words.name c.args.words.now)) c.args.asked.now c.args.peek c.args.shrinks c.args.prepared.now c.args.self.now
     (g.W.Words.sight c.args.pass.now) c.requires.of
     c.held_comm-x.result.now c.comm_of.result c.held_comm-x.ensures c.comm_of.ensures c.deref.result.now (members g (goal.at.all-requires g c).After-deref)
     false stands.0 stands.1 stands.2 in
@@ -65,7 +66,7 @@ all-requires g c =
 peeks : (g : _) (c : After-advance g) (most : ℕ) (after : Sight g.row.P.Denot)
     → Goes g.P.Meld.meld g.W.Words.alone false most (view_of g.P.Packed.pack (g.W.Words.name c.args.words.now) (g.W.Words.sight c.args.pass.now)) (view_of g.P.Packed.pack (g.W.Words.name c.args.words.now) after)
     → (c.args.whole ≡ false → IsStepAt (peek_site c.args.peek) true (g.W.Words.sight c.args.pass.now) after)
-    → (next : Next g.row.P.Denot) (left : List ℕ) (new : Record)
+    → (next : Next g.row.P.Denot) (left : Prepared) (new : Record)
     → (c.args.whole ≡ false → FewerLeft (steps_left (g.W.Words.name c.args.words.now).limits c.args.self.now c.args.asked.now
     (Peeking c.args.peek c.args.shrinks)) (g.W.Words.name c.args.words.now).limits new c.args.asked.now next)
     → Spends (steps_left (g.W.Words.name c.args.words.now).limits c.args.self.now c.args.asked.now (Peeking c.args.peek c.args.shrinks))
@@ -75,8 +76,8 @@ peeks : (g : _) (c : After-advance g) (most : ℕ) (after : Sight g.row.P.Denot)
     → AlsoSpends (also_left (g.W.Words.name c.args.words.now).limits c.args.self.now c.args.asked.now (Peeking c.args.peek c.args.shrinks)) (g.W.Words.name c.args.words.now).limits c.args.asked.now (stance c.args.self.now (g.W.Words.sight c.args.pass.now)) next (stance new after))
     → (AreSet (g.W.Words.sight c.args.pass.now).cached c.args.peek.comm c.args.peek.round c.args.peek.blocks
     → KnowsNext c.args.self.now c.args.asked.now after.cached next)
-    → Turns g.P.Meld.meld g.W.Words.alone (under_way c.args.asked.now (Peeking c.args.peek c.args.shrinks) c.args.group.now.items) (local c.args.self.now (view_of g.P.Packed.pack (g.W.Words.name c.args.words.now) (g.W.Words.sight c.args.pass.now))) next left (local new (view_of g.P.Packed.pack (g.W.Words.name c.args.words.now) after))
-    → TakesTurn g.P.Meld.meld g.W.Words.alone c.args.whole (under_way c.args.asked.now (Peeking c.args.peek c.args.shrinks) c.args.group.now.items) (local c.args.self.now (view_of g.P.Packed.pack (g.W.Words.name c.args.words.now) (g.W.Words.sight c.args.pass.now))) (coming next left) (local new (view_of g.P.Packed.pack (g.W.Words.name c.args.words.now) after))
+    → Turns g.P.Meld.meld g.W.Words.alone (under_way c.args.asked.now (Peeking c.args.peek c.args.shrinks) c.args.prepared.now) (local c.args.self.now (view_of g.P.Packed.pack (g.W.Words.name c.args.words.now) (g.W.Words.sight c.args.pass.now))) next left (local new (view_of g.P.Packed.pack (g.W.Words.name c.args.words.now) after))
+    → TakesTurn g.P.Meld.meld g.W.Words.alone c.args.whole (under_way c.args.asked.now (Peeking c.args.peek c.args.shrinks) c.args.prepared.now) (local c.args.self.now (view_of g.P.Packed.pack (g.W.Words.name c.args.words.now) (g.W.Words.sight c.args.pass.now))) (coming next left) (local new (view_of g.P.Packed.pack (g.W.Words.name c.args.words.now) after))
 peeks g c most after goes one next left new nearer spends further sees leads also knows turns =
     let now = g.W.Words.sight c.args.pass.now in
     record {
@@ -116,7 +117,7 @@ returns-then-not-advance g c =
     takes.turns)
     (λ known. rw (c.advance.ensures.comm, c.advance.ensures.round) (c.advance.ensures.sets known))
     (λ alone only old before stands.
-    peek_goes g.P.Meld.meld (over g.P.Packed.pack (g.W.Words.name c.args.words.now)) c.args.asked.now c.args.peek c.args.shrinks c.args.group.now.items c.args.self.now
+    peek_goes g.P.Meld.meld (over g.P.Packed.pack (g.W.Words.name c.args.words.now)) c.args.asked.now c.args.peek c.args.shrinks c.args.prepared.now c.args.self.now
     (g.W.Words.sight c.args.pass.now) c.requires.of
     c.held_comm-x.result.now c.comm_of.result c.held_comm-x.ensures c.comm_of.ensures c.deref.result.now
     (members g (goal.at.returns-then-not-advance g c).After-deref) alone old before stands
@@ -130,7 +131,7 @@ go_unread-requires-clause-peeked g c =
     (sym (length_is g (goal.at.go_unread-requires-clause-peeked g c).After-len-members)) ∙ sym c.in-None.ensures.whole in (
       stands.0,
       stands.1,
-      peek_unread g.P.Meld.meld (over g.P.Packed.pack (g.W.Words.name c.args.words.now)) c.args.asked.now c.args.peek c.args.shrinks c.args.group.now.items c.args.self.now
+      peek_unread g.P.Meld.meld (over g.P.Packed.pack (g.W.Words.name c.args.words.now)) c.args.asked.now c.args.peek c.args.shrinks c.args.prepared.now c.args.self.now
           (g.W.Words.sight c.args.pass.now) c.requires.of
           c.held_comm-x.result.now c.comm_of.result c.held_comm-x.ensures c.comm_of.ensures c.deref.result.now
           (members g (goal.at.go_unread-requires-clause-peeked g c).After-deref) false stands.0 stands.1 stands.2
@@ -164,8 +165,8 @@ returns-in-None g c =
     (λ known. then.knows after.cached (set_later mid.cached after.cached c.advance.new.self.comm c.advance.new.self.round c.advance.new.self.blocks then.goes.cached
     (rw (c.advance.ensures.comm, c.advance.ensures.round) (c.advance.ensures.sets known))))
     (λ alone only old before stands.
-    then.turns c.args.group.now.items alone only old before
-    (peek_unread g.P.Meld.meld name c.args.asked.now c.args.peek c.args.shrinks c.args.group.now.items c.args.self.now start c.requires.of
+    then.turns c.args.prepared.now alone only old before
+    (peek_unread g.P.Meld.meld name c.args.asked.now c.args.peek c.args.shrinks c.args.prepared.now c.args.self.now start c.requires.of
     c.held_comm-x.result.now c.comm_of.result c.held_comm-x.ensures c.comm_of.ensures c.deref.result.now (members g at)
     alone old before stands
     g.W.Words.alone only mid first.of first.did first.onward
@@ -182,7 +183,7 @@ decided-requires-clause-read g c =
     let stands = c.requires.stands in (
       stands.0,
       stands.1,
-      peek_ends g.P.Meld.meld (over g.P.Packed.pack (g.W.Words.name c.args.words.now)) c.args.asked.now c.args.peek c.args.shrinks c.args.group.now.items c.args.self.now
+      peek_ends g.P.Meld.meld (over g.P.Packed.pack (g.W.Words.name c.args.words.now)) c.args.asked.now c.args.peek c.args.shrinks c.args.prepared.now c.args.self.now
           (g.W.Words.sight c.args.pass.now) c.requires.of
           c.held_comm-x.result.now c.comm_of.result c.held_comm-x.ensures c.comm_of.ensures c.deref.result.now
           (members g (goal.at.decided-requires-clause-read g c).After-deref) false stands.0 stands.1 stands.2
@@ -228,7 +229,7 @@ returns-in-Some g c =
     (ap (is_whole c.advance.new.self.blocks) (sym (length_is g (goal.at.returns-in-Some g c).After-len-members)) ∙ sym c.in-Some.ensures.whole)))
     (λ alone only old before stands.
     c.decided.ensures.turns alone old before
-    (peek_ends g.P.Meld.meld (over g.P.Packed.pack (g.W.Words.name c.args.words.now)) c.args.asked.now c.args.peek c.args.shrinks c.args.group.now.items c.args.self.now
+    (peek_ends g.P.Meld.meld (over g.P.Packed.pack (g.W.Words.name c.args.words.now)) c.args.asked.now c.args.peek c.args.shrinks c.args.prepared.now c.args.self.now
     (g.W.Words.sight c.args.pass.now) c.requires.of
     c.held_comm-x.result.now c.comm_of.result c.held_comm-x.ensures c.comm_of.ensures c.deref.result.now (members g (goal.at.returns-in-Some g c).After-deref)
     alone old before stands

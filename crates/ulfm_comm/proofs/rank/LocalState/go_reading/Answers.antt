@@ -1,4 +1,4 @@
-use Rattle.std.proofs.Common.{refl, rules, ◌≡◌, ℕ, List, Some, true, false, [], ap, subst, sym, ◌∙◌, arith}
+use Rattle.std.proofs.Common.{refl, rules, ◌≡◌, Some, true, false, [], ap, subst, sym, ◌∙◌, arith}
 use Rattle.ulfm_words.proofs.Trails.{did_prefix}
 use Rattle.ulfm_comm.proofs.Wings.{turn_blocks}
 use Rattle.ulfm_model.specs.{Records.{Held, Record, held_at}, Terms.{comm_of}}
@@ -15,6 +15,7 @@ use Rattle.ulfm_comm.specs.Local.{local}
 use Rattle.ulfm_comm.specs.Phase.{under_way}
 use Rattle.ulfm_comm.specs.Step.{coming}
 use Rattle.ulfm_words.specs.Steps.{view_at, view_of, over}
+use Rattle.ulfm_comm.specs.Prepared.{Prepared}
 
 -- the members that the code reads
 members : (g : _) (c : After-deref g) → c.deref.result.now ≡ c.held_comm-x.result.now.group
@@ -23,7 +24,7 @@ members g c = c.deref.ensures.value ∙ ap (λ (y : Held). y.group) c.x.view_is
 pub advance-requires : goal.advance-requires
 advance-requires g c =
     let stands = c.requires.stands in
-    reading_may g.P.Meld.meld (over g.P.Packed.pack (g.W.Words.name c.args.words.now)) c.args.asked.now c.args.reading c.args.shrinks c.args.group.now.items c.args.self.now
+    reading_may g.P.Meld.meld (over g.P.Packed.pack (g.W.Words.name c.args.words.now)) c.args.asked.now c.args.reading c.args.shrinks c.args.prepared.now c.args.self.now
     (g.W.Words.sight c.args.pass.now)
     c.held_comm-x.result.now c.comm_of.result c.held_comm-x.ensures c.comm_of.ensures c.deref.result.now (members g (goal.at.advance-requires g c).After-deref)
     false stands.0 stands.1 stands.2 c.requires.of
@@ -33,7 +34,7 @@ decided-requires-clause-read g c =
     let stands = c.requires.stands in (
       stands.0,
       stands.1,
-      reading_ends g.P.Meld.meld (over g.P.Packed.pack (g.W.Words.name c.args.words.now)) c.args.asked.now c.args.reading c.args.shrinks c.args.group.now.items c.args.self.now
+      reading_ends g.P.Meld.meld (over g.P.Packed.pack (g.W.Words.name c.args.words.now)) c.args.asked.now c.args.reading c.args.shrinks c.args.prepared.now c.args.self.now
           (g.W.Words.sight c.args.pass.now)
           c.held_comm-x.result.now c.comm_of.result c.held_comm-x.ensures c.comm_of.ensures c.deref.result.now
           (members g (goal.at.decided-requires-clause-read g c).After-deref) false stands.0 stands.1 stands.2
@@ -47,7 +48,7 @@ held : (g : _) (c : After-deref g) → held_at c.args.self.now (comm_of c.args.a
 held g c = ap (held_at c.args.self.now) (sym c.comm_of.ensures) ∙ c.held_comm-x.ensures
 
 -- the steps add nothing; what comes after them leaves the failures that were seen
-reads : (g : _) (c : After-advance g) (next : Next g.row.P.Denot) (left : List ℕ) (new : Record)
+reads : (g : _) (c : After-advance g) (next : Next g.row.P.Denot) (left : Prepared) (new : Record)
     → (c.args.whole ≡ false → FewerLeft (steps_left (g.W.Words.name c.args.words.now).limits c.args.self.now c.args.asked.now
     (Reading c.args.reading c.args.shrinks)) (g.W.Words.name c.args.words.now).limits new c.args.asked.now next)
     → Spends (steps_left (g.W.Words.name c.args.words.now).limits c.args.self.now c.args.asked.now (Reading c.args.reading c.args.shrinks))
@@ -55,8 +56,8 @@ reads : (g : _) (c : After-advance g) (next : Next g.row.P.Denot) (left : List �
     → (c.args.whole ≡ true → IsFurther (Reading c.args.reading c.args.shrinks) next) → new.seen ≡ c.args.self.now.seen → IsPast next
     → (AreSet (g.W.Words.sight c.args.pass.now).cached c.args.reading.comm c.args.reading.round c.args.reading.blocks
     → KnowsNext c.args.self.now c.args.asked.now (g.W.Words.sight c.advance.new.pass).cached next)
-    → Turns g.P.Meld.meld g.W.Words.alone (under_way c.args.asked.now (Reading c.args.reading c.args.shrinks) c.args.group.now.items) (local c.args.self.now (view_of g.P.Packed.pack (g.W.Words.name c.args.words.now) (g.W.Words.sight c.args.pass.now))) next left (local new (view_of g.P.Packed.pack (g.W.Words.name c.args.words.now) (g.W.Words.sight c.advance.new.pass)))
-    → TakesTurn g.P.Meld.meld g.W.Words.alone c.args.whole (under_way c.args.asked.now (Reading c.args.reading c.args.shrinks) c.args.group.now.items) (local c.args.self.now (view_of g.P.Packed.pack (g.W.Words.name c.args.words.now) (g.W.Words.sight c.args.pass.now))) (coming next left) (local new (view_of g.P.Packed.pack (g.W.Words.name c.args.words.now) (g.W.Words.sight c.advance.new.pass)))
+    → Turns g.P.Meld.meld g.W.Words.alone (under_way c.args.asked.now (Reading c.args.reading c.args.shrinks) c.args.prepared.now) (local c.args.self.now (view_of g.P.Packed.pack (g.W.Words.name c.args.words.now) (g.W.Words.sight c.args.pass.now))) next left (local new (view_of g.P.Packed.pack (g.W.Words.name c.args.words.now) (g.W.Words.sight c.advance.new.pass)))
+    → TakesTurn g.P.Meld.meld g.W.Words.alone c.args.whole (under_way c.args.asked.now (Reading c.args.reading c.args.shrinks) c.args.prepared.now) (local c.args.self.now (view_of g.P.Packed.pack (g.W.Words.name c.args.words.now) (g.W.Words.sight c.args.pass.now))) (coming next left) (local new (view_of g.P.Packed.pack (g.W.Words.name c.args.words.now) (g.W.Words.sight c.advance.new.pass)))
 reads g c next left new nearer spends further sees leads knows turns =
     let goes = c.advance.ensures.goes in
     let now = g.W.Words.sight c.args.pass.now in
@@ -90,7 +91,7 @@ returns-in-None g c =
     c.args.reading c.advance.new.self (g.W.Words.sight c.args.pass.now).steps after.steps takes.turns in
     reads g (goal.at.returns-in-None g c).After-advance _ _ _ (λ single. omega (arith, left, takes.some)) left (search rules) (search rules)
     (search rules) c.in-None.ensures.sets (λ alone only old before stands.
-    reading_goes g.P.Meld.meld (over g.P.Packed.pack (g.W.Words.name c.args.words.now)) c.args.asked.now c.args.reading c.args.shrinks c.args.group.now.items c.args.self.now
+    reading_goes g.P.Meld.meld (over g.P.Packed.pack (g.W.Words.name c.args.words.now)) c.args.asked.now c.args.reading c.args.shrinks c.args.prepared.now c.args.self.now
     (g.W.Words.sight c.args.pass.now)
     c.held_comm-x.result.now c.comm_of.result c.held_comm-x.ensures c.comm_of.ensures c.deref.result.now (members g (goal.at.returns-in-None g c).After-deref)
     alone old before stands
@@ -105,14 +106,14 @@ returns-in-Some-Missing g c =
     let after = g.W.Words.sight c.advance.new.pass in
     let at = (goal.at.returns-in-Some-Missing g c).After-deref in
     let own = c.args.self.now in
-    let group = c.args.group.now.items in
-    subst (λ (w : Record). TakesTurn g.P.Meld.meld g.W.Words.alone c.args.whole (under_way c.args.asked.now (Reading c.args.reading c.args.shrinks) group) (local own (view_at name start)) (coming (Ends Pending) group) (local w (view_at name after)))
+    let prepared = c.args.prepared.now in
+    subst (λ (w : Record). TakesTurn g.P.Meld.meld g.W.Words.alone c.args.whole (under_way c.args.asked.now (Reading c.args.reading c.args.shrinks) prepared) (local own (view_at name start)) (coming (Ends Pending) prepared) (local w (view_at name after)))
     (sym c.await_at.ensures)
-    (reads g (goal.at.returns-in-Some-Missing g c).After-advance (Ends Pending) group own (λ single. tt)
+    (reads g (goal.at.returns-in-Some-Missing g c).After-advance (Ends Pending) prepared own (λ single. tt)
     (reads_spend (g.W.Words.name c.args.words.now).limits own c.args.asked.now c.held_comm-x.result.now (held g at) c.args.shrinks c.deref.result.now
     (members g at) c.args.reading own (Ends Pending) start after (omega (arith, takes.turns)) tt)
     (λ whole. tt) refl tt (λ known of. absurd (cc of)) (λ alone only old before stands.
-    reading_pends g.P.Meld.meld name c.args.asked.now c.args.reading c.args.shrinks group own start
+    reading_pends g.P.Meld.meld name c.args.asked.now c.args.reading c.args.shrinks prepared own start
     c.held_comm-x.result.now c.comm_of.result c.held_comm-x.ensures c.comm_of.ensures c.deref.result.now
     (members g at) alone old before stands
     g.W.Words.alone only after c.advance.ensures.goes.of c.advance.ensures.goes.did c.advance.ensures.goes.onward
@@ -149,7 +150,7 @@ returns-in-Some-All g c =
     (λ are. known g (goal.at.returns-in-Some-All g c).After-advance _ c.decided.ensures.further
     ((rw c.in-Some-All.field-0-is at c.in-Some-All.ensures.sets) are)) (λ alone only old before stands.
     c.decided.ensures.turns alone old before
-    (reading_ends g.P.Meld.meld (over g.P.Packed.pack (g.W.Words.name c.args.words.now)) c.args.asked.now c.args.reading c.args.shrinks c.args.group.now.items c.args.self.now
+    (reading_ends g.P.Meld.meld (over g.P.Packed.pack (g.W.Words.name c.args.words.now)) c.args.asked.now c.args.reading c.args.shrinks c.args.prepared.now c.args.self.now
     (g.W.Words.sight c.args.pass.now)
     c.held_comm-x.result.now c.comm_of.result c.held_comm-x.ensures c.comm_of.ensures c.deref.result.now
     (members g (goal.at.returns-in-Some-All g c).After-deref) alone old before stands

@@ -36,7 +36,7 @@ abbrev StoodAt : (g : _) → After-read_on g → Bool → Record → Sight g.row
 StoodAt g c alone old before = Stands g.P.Meld.meld alone (local old (view_of g.P.Packed.pack (g.W.Words.name c.args.words.now) before)) (record {
   asked = c.args.asked.now;
   phase = AtReadingOn c.args.on c.args.made;
-  group = c.args.group.now.items;
+  prepared = c.args.prepared.now;
 }) (local c.args.self.now (view_of g.P.Packed.pack (g.W.Words.name c.args.words.now) (g.W.Words.sight c.args.pass.now)))
 
 -- how far the failures that are seen now reach
@@ -58,7 +58,7 @@ reached g c alone only old before s enough =
     let now = g.W.Words.sight c.args.pass.now in
     let after = g.W.Words.sight c.read_on.new.pass in
     let ensures = c.read_on.ensures in
-    has_reached g.P.Meld.meld alone (over g.P.Packed.pack (g.W.Words.name c.args.words.now)) c.args.asked.now c.args.on c.args.made c.args.group.now.items old before
+    has_reached g.P.Meld.meld alone (over g.P.Packed.pack (g.W.Words.name c.args.words.now)) c.args.asked.now c.args.on c.args.made c.args.prepared.now old before
     c.args.self.now now s c.read_on.new.self after
     (did_loosely alone g.W.Words.alone only [] now.seen after.seen ensures.goes.did) ensures.goes.onward ensures.kept ensures.goes_on ensures.begins
     c.read_on.new.on (at_failure g c alone old before s) enough
@@ -94,10 +94,10 @@ returns-then-on-made g c =
           let now = g.W.Words.sight c.args.pass.now in
           let after = g.W.Words.sight c.read_on.new.pass in
           let ensures = c.read_on.ensures in
-          reads_further g.P.Meld.meld alone (over g.P.Packed.pack (g.W.Words.name c.args.words.now)) c.args.asked.now c.args.on c.args.made c.args.group.now.items old before
+          reads_further g.P.Meld.meld alone (over g.P.Packed.pack (g.W.Words.name c.args.words.now)) c.args.asked.now c.args.on c.args.made c.args.prepared.now old before
           c.args.self.now now s c.read_on.new.self after
           (did_loosely alone g.W.Words.alone only [] now.seen after.seen ensures.goes.did) ensures.goes.onward ensures.kept ensures.goes_on ensures.begins
-          c.read_on.new.on c.args.group.now.items
+          c.read_on.new.on c.args.prepared.now
           (at_failure g (goal.at.returns-then-on-made g c).After-read_on alone old before s) c.if-on-made.true;
     }
 

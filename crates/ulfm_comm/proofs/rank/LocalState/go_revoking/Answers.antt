@@ -1,4 +1,4 @@
-use Rattle.std.proofs.Common.{rules, ◌≡◌, arith, Bool, List, ℕ, [], IsTrue, MatchBool, ap, refl, subst, sym, ◌∙◌}
+use Rattle.std.proofs.Common.{rules, ◌≡◌, arith, Bool, [], IsTrue, MatchBool, ap, refl, subst, sym, ◌∙◌}
 use Rattle.ulfm_words.proofs.Trails.{did_prefix}
 use Rattle.ulfm_comm.proofs.Wings.{turn_same}
 use Rattle.std.proofs.lemmas.Bool.{false≢true}
@@ -18,6 +18,7 @@ use Rattle.ulfm_comm.specs.Phase.{under_way}
 use Rattle.ulfm_comm.specs.Step.{coming}
 use Rattle.ulfm_model.specs.declared.event.Event.{Event}
 use Rattle.ulfm_comm.proofs.Wins.{Comes, tried_comes}
+use Rattle.ulfm_comm.specs.Prepared.{Prepared}
 
 pub set_revocation-requires-clause-within : goal.set_revocation-requires-clause-within
 set_revocation-requires-clause-within g c = rw c.comm_of.ensures (asked_below _ _ _ _ _ _ _ _ c.requires.stands.1.2.at.0 c.requires.of.legal
@@ -43,10 +44,10 @@ walks g c =
     (Revoke (comm_of c.args.asked.now)) (outcome g c)
 
 -- the revocation is answered by whether this call made it
-answered : (g : _) (c : After-set_revocation g) (group : List ℕ)
-    → Turns g.P.Meld.meld g.W.Words.alone (under_way c.args.asked.now Revoking group) (local c.args.self.now (view_of g.P.Packed.pack (g.W.Words.name c.args.words.now) (g.W.Words.sight c.args.pass.now))) (Ends (revoked c.set_revocation.result)) group (local c.args.self.now (view_of g.P.Packed.pack (g.W.Words.name c.args.words.now) (g.W.Words.sight c.set_revocation.new.pass)))
+answered : (g : _) (c : After-set_revocation g) (prepared : Prepared)
+    → Turns g.P.Meld.meld g.W.Words.alone (under_way c.args.asked.now Revoking prepared) (local c.args.self.now (view_of g.P.Packed.pack (g.W.Words.name c.args.words.now) (g.W.Words.sight c.args.pass.now))) (Ends (revoked c.set_revocation.result)) prepared (local c.args.self.now (view_of g.P.Packed.pack (g.W.Words.name c.args.words.now) (g.W.Words.sight c.set_revocation.new.pass)))
 answered g c =
-    λ group alone only old before stands.
+    λ prepared alone only old before stands.
     let name = over g.P.Packed.pack (g.W.Words.name c.args.words.now) in
     let own = c.args.self.now in
     let now = g.W.Words.sight c.args.pass.now in
@@ -60,15 +61,15 @@ answered g c =
     stands.at.0
 
 -- the exchange ends the call, with this reply
-ends : (g : _) (c : After-set_revocation g) (reply : Reply g.row.P.Denot) → revoked c.set_revocation.result ≡ reply → (group : List ℕ) (whole : Bool)
-    → TakesTurn g.P.Meld.meld g.W.Words.alone whole (under_way c.args.asked.now Revoking group) (local c.args.self.now (view_of g.P.Packed.pack (g.W.Words.name c.args.words.now) (g.W.Words.sight c.args.pass.now))) (coming (Ends reply) group) (local c.args.self.now (view_of g.P.Packed.pack (g.W.Words.name c.args.words.now) (g.W.Words.sight c.set_revocation.new.pass)))
-ends g c reply is = λ group whole.
+ends : (g : _) (c : After-set_revocation g) (reply : Reply g.row.P.Denot) → revoked c.set_revocation.result ≡ reply → (prepared : Prepared) (whole : Bool)
+    → TakesTurn g.P.Meld.meld g.W.Words.alone whole (under_way c.args.asked.now Revoking prepared) (local c.args.self.now (view_of g.P.Packed.pack (g.W.Words.name c.args.words.now) (g.W.Words.sight c.args.pass.now))) (coming (Ends reply) prepared) (local c.args.self.now (view_of g.P.Packed.pack (g.W.Words.name c.args.words.now) (g.W.Words.sight c.set_revocation.new.pass)))
+ends g c reply is = λ prepared whole.
     let name = over g.P.Packed.pack (g.W.Words.name c.args.words.now) in
     let own = c.args.self.now in
     let now = g.W.Words.sight c.args.pass.now in
     let after = g.W.Words.sight c.set_revocation.new.pass in
     let s = c.requires.stands.1 in
-    subst (λ r. TakesTurn g.P.Meld.meld g.W.Words.alone whole (under_way c.args.asked.now Revoking group) (local own (view_at name now)) (coming (Ends r) group) (local own (view_at name after))) is (record {
+    subst (λ r. TakesTurn g.P.Meld.meld g.W.Words.alone whole (under_way c.args.asked.now Revoking prepared) (local own (view_at name now)) (coming (Ends r) prepared) (local own (view_at name after))) is (record {
       walks = walks g c;
       beside = turn_same _ _ _ _ _ (λ w. w) (did_prefix g.W.Words.alone _ _ _ (walks g c).did) c.set_revocation.ensures.tries.caches;
       named = search rules;
@@ -82,7 +83,7 @@ ends g c reply is = λ group whole.
       looks = λ at. absurd (cc at);
       knows = λ known of. absurd (false≢true (sym (revoked_of_none g.row.P.Denot c.set_revocation.result) ∙ of));
       leads = tt;
-      turns = answered g c group;
+      turns = answered g c prepared;
     })
 
 pub returns-then-set_revocation-clause-turn : goal.returns-then-set_revocation-clause-turn

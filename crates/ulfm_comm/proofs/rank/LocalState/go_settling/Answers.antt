@@ -1,4 +1,4 @@
-use Rattle.std.proofs.Common.{rules, ◌≡◌, ℕ, arith, Bool, false, List, Some, ap, refl, sym, subst, ◌∙◌}
+use Rattle.std.proofs.Common.{rules, ◌≡◌, arith, Bool, false, Some, ap, refl, sym, subst, ◌∙◌}
 use Rattle.ulfm_comm.proofs.Wings.{settles_begins, settles_set, turn_settles}
 use Rattle.ulfm_model.specs.Records.{Record}
 use Rattle.ulfm_comm.proofs.StepAdds.{adds_settled, start_keeps}
@@ -23,6 +23,7 @@ use Rattle.std.proofs.Common.{IsTrue}
 use Rattle.ulfm_model.specs.declared.{event.Caller.TheVariants.{Rank}, event.Event.{Event}}
 use Rattle.ulfm_comm.specs.Proposals.{OffersOwn}
 use Rattle.ulfm_comm.proofs.Wins.{Comes, settles_comes}
+use Rattle.ulfm_comm.specs.Prepared.{Prepared}
 
 pub contribute-settled-requires-clause-fits : goal.contribute-settled-requires-clause-fits
 contribute-settled-requires-clause-fits g c =
@@ -45,14 +46,14 @@ contribute-settled-requires-clause-acked g c =
     c.held_comm-x.ensures (seen_is _ _ _ _ _ _ _ _ p)
 
 -- the start is answered as its exchange says
-answered : (g : _) (c : After-end_start g) (group : List ℕ)
-    → Turns g.P.Meld.meld g.W.Words.alone (under_way c.args.asked.now (Settling c.args.request c.args.offer) group) (local c.args.self.now (view_of g.P.Packed.pack (g.W.Words.name c.args.words.now) (g.W.Words.sight c.args.pass.now))) (Ends (reply_of (λ _. Started) c.end_start.result)) group (local c.end_start.new.self (view_of g.P.Packed.pack (g.W.Words.name c.args.words.now) (g.W.Words.sight c.contribute-settled.new.pass)))
+answered : (g : _) (c : After-end_start g) (prepared : Prepared)
+    → Turns g.P.Meld.meld g.W.Words.alone (under_way c.args.asked.now (Settling c.args.request c.args.offer) prepared) (local c.args.self.now (view_of g.P.Packed.pack (g.W.Words.name c.args.words.now) (g.W.Words.sight c.args.pass.now))) (Ends (reply_of (λ _. Started) c.end_start.result)) prepared (local c.end_start.new.self (view_of g.P.Packed.pack (g.W.Words.name c.args.words.now) (g.W.Words.sight c.contribute-settled.new.pass)))
 answered g c =
-    λ group alone only old before stands.
+    λ prepared alone only old before stands.
     let held = c.held_comm-x.ensures in
     let name = over g.P.Packed.pack (g.W.Words.name c.args.words.now) in
     subst (λ r. Answered g.P.Meld.meld alone c.args.asked.now (local old (view_at name before)) (reply_of (λ _. Started) r) (local c.end_start.new.self (view_at name (g.W.Words.sight c.contribute-settled.new.pass)))) (sym c.end_start.ensures.result)
-    (start_answered g.P.Meld.meld alone g.W.Words.alone only name c.args.asked.now c.args.request c.args.offer group old before c.args.self.now
+    (start_answered g.P.Meld.meld alone g.W.Words.alone only name c.args.asked.now c.args.request c.args.offer prepared old before c.args.self.now
     (g.W.Words.sight c.args.pass.now) (g.W.Words.sight c.contribute-settled.new.pass)
     (omega (arith, c.contribute-settled.ensures.one.steps)) stands c.held_comm-x.result.now (rw (← c.comm_of.ensures) held) c.contribute-settled.result
     c.end_start.new.self c.contribute-settled.ensures.of c.contribute-settled.ensures.settles (rw (← c.comm_of-2.ensures) c.end_start.ensures.leaves))
@@ -88,15 +89,15 @@ named g c =
     (x.next_agreement, subst (λ n. IsOneStep (SlotAt n x.next_agreement own.number) false now after) there c.contribute-settled.ensures.one)
 
 -- the exchange ends the call, with this reply
-ends : (g : _) (c : After-end_start g) (reply : Reply g.row.P.Denot) → reply_of (λ _. Started) c.end_start.result ≡ reply → (group : List ℕ) (whole : Bool)
-    → TakesTurn g.P.Meld.meld g.W.Words.alone whole (under_way c.args.asked.now (Settling c.args.request c.args.offer) group) (local c.args.self.now (view_of g.P.Packed.pack (g.W.Words.name c.args.words.now) (g.W.Words.sight c.args.pass.now))) (coming (Ends reply) group) (local c.end_start.new.self (view_of g.P.Packed.pack (g.W.Words.name c.args.words.now) (g.W.Words.sight c.contribute-settled.new.pass)))
-ends g c reply is = λ group whole.
+ends : (g : _) (c : After-end_start g) (reply : Reply g.row.P.Denot) → reply_of (λ _. Started) c.end_start.result ≡ reply → (prepared : Prepared) (whole : Bool)
+    → TakesTurn g.P.Meld.meld g.W.Words.alone whole (under_way c.args.asked.now (Settling c.args.request c.args.offer) prepared) (local c.args.self.now (view_of g.P.Packed.pack (g.W.Words.name c.args.words.now) (g.W.Words.sight c.args.pass.now))) (coming (Ends reply) prepared) (local c.end_start.new.self (view_of g.P.Packed.pack (g.W.Words.name c.args.words.now) (g.W.Words.sight c.contribute-settled.new.pass)))
+ends g c reply is = λ prepared whole.
     record {
       walks = walks_settled g.P.Meld.meld g.W.Words.alone (over g.P.Packed.pack (g.W.Words.name c.args.words.now)) c.args.self.now.number (g.W.Words.sight c.args.pass.now)
           (g.W.Words.sight c.contribute-settled.new.pass)
           c.contribute-settled.ensures.of c.contribute-settled.ensures.one.steps c.contribute-settled.ensures.cached c.args.self.now c.held_comm-x.result.now
           c.args.offer c.contribute-settled.result refl c.contribute-settled.ensures.settles;
-      beside = turn_settles _ (under_way c.args.asked.now (Settling c.args.request c.args.offer) group) c.args.request c.args.offer _ reply _ refl
+      beside = turn_settles _ (under_way c.args.asked.now (Settling c.args.request c.args.offer) prepared) c.args.request c.args.offer _ reply _ refl
           (settles_begins g.W.Words.alone (g.W.Words.sight c.args.pass.now).seen (g.W.Words.sight c.contribute-settled.new.pass).seen c.args.self.now c.held_comm-x.result.now c.args.offer
           c.contribute-settled.result c.contribute-settled.ensures.settles)
           c.contribute-settled.ensures.caches c.held_comm-x.result.now (rw (← c.comm_of.ensures) c.held_comm-x.ensures)
@@ -120,7 +121,7 @@ ends g c reply is = λ group whole.
           absurd (false≢true (sym none ∙ (ap is_of_round is ∙ of)));
       leads = search rules;
       turns = λ alone only old before stands.
-          subst (λ r. Answered g.P.Meld.meld alone c.args.asked.now (local old (view_of g.P.Packed.pack (g.W.Words.name c.args.words.now) before)) r (local c.end_start.new.self (view_of g.P.Packed.pack (g.W.Words.name c.args.words.now) (g.W.Words.sight c.contribute-settled.new.pass)))) is (answered g c group alone only old before stands);
+          subst (λ r. Answered g.P.Meld.meld alone c.args.asked.now (local old (view_of g.P.Packed.pack (g.W.Words.name c.args.words.now) before)) r (local c.end_start.new.self (view_of g.P.Packed.pack (g.W.Words.name c.args.words.now) (g.W.Words.sight c.contribute-settled.new.pass)))) is (answered g c prepared alone only old before stands);
     }
 
 pub returns-in-Ok-clause-turn : goal.returns-in-Ok-clause-turn

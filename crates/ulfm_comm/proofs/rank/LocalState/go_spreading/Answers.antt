@@ -72,7 +72,7 @@ own_place g c contributing = record {
 }
 
 pub returns-then-not-spread-clause-turn : goal.returns-then-not-spread-clause-turn
-returns-then-not-spread-clause-turn g c = λ group whole.
+returns-then-not-spread-clause-turn g c = λ prepared whole.
     let limits = (g.W.Words.name c.args.words.now).limits in
     let now = g.W.Words.sight c.args.pass.now in
     let after = g.W.Words.sight c.spread.new.pass in
@@ -94,13 +94,13 @@ returns-then-not-spread-clause-turn g c = λ group whole.
       knows = λ known of. absurd (cc of);
       leads = tt;
       turns = λ alone only old before stands.
-          spread_before g.P.Meld.meld alone g.W.Words.alone only (over g.P.Packed.pack (g.W.Words.name c.args.words.now)) c.args.asked.now c.args.request c.args.offer group old before own now after
+          spread_before g.P.Meld.meld alone g.W.Words.alone only (over g.P.Packed.pack (g.W.Words.name c.args.words.now)) c.args.asked.now c.args.request c.args.offer prepared old before own now after
           (omega (arith, e.step.steps)) stands c.held_comm-x.result.now (rw (← c.comm_of.ensures) c.held_comm-x.ensures) e.of e.did
           (rw (c.spreading.ensures.comm, c.spreading.ensures.round, c.spreading.ensures.rank) at e.stood c.if-not-spread.true);
     }
 
 pub returns-clause-turn : goal.returns-clause-turn
-returns-clause-turn g c = λ group whole.
+returns-clause-turn g c = λ prepared whole.
     let limits = (g.W.Words.name c.args.words.now).limits in
     let now = g.W.Words.sight c.args.pass.now in
     let after = g.W.Words.sight c.spread.new.pass in
@@ -122,7 +122,7 @@ returns-clause-turn g c = λ group whole.
       knows = λ known. tt;
       leads = refl;
       turns = λ alone only old before stands.
-          spread_goes g.P.Meld.meld alone g.W.Words.alone only (over g.P.Packed.pack (g.W.Words.name c.args.words.now)) c.args.asked.now c.args.request c.args.offer group old before own now after
+          spread_goes g.P.Meld.meld alone g.W.Words.alone only (over g.P.Packed.pack (g.W.Words.name c.args.words.now)) c.args.asked.now c.args.request c.args.offer prepared old before own now after
           (omega (arith, e.step.steps)) stands c.held_comm-x.result.now (rw (← c.comm_of.ensures) c.held_comm-x.ensures) e.of e.did
           (subst (λ o. IsSpreadIn (view_of g.P.Packed.pack (g.W.Words.name c.args.words.now) after) c.held_comm-x.result.now.comm c.held_comm-x.result.now.next_agreement own.number o) c.spreading.ensures.offer
           (rw (c.spreading.ensures.comm, c.spreading.ensures.round, c.spreading.ensures.rank) at e.set c.if-not-spread.false));

@@ -9,10 +9,11 @@ use Rattle.ulfm_comm.specs.declared.phases.phase.Next.TheVariants.{Ends, Goes as
 use Rattle.ulfm_comm.proofs.{AmongOthers.{did_loosely}, Stands.{stands_lasts}, StepsLeft.{reads_few}}
 use Rattle.ulfm_comm.proofs.rank.LocalState.go_unread.Goals as goal
 use Rattle.ulfm_comm.proofs.rank.LocalState.go_unread.Goals.{After-waits_still}
+use Rattle.ulfm_comm.specs.Prepared.{unprepared}
 
 pub waits_still-requires-clause-stands : goal.waits_still-requires-clause-stands
 waits_still-requires-clause-stands g c =
-    let k = c.requires.peeked in ([], (k.0, k.1, c.unread-phase.ensures.turns [] false k.0 k.1 k.2))
+    let k = c.requires.peeked in (unprepared, (k.0, k.1, c.unread-phase.ensures.turns unprepared false k.0 k.1 k.2))
 
 pub returns-then-not-whole-clause-goes : goal.returns-then-not-whole-clause-goes
 returns-then-not-whole-clause-goes g c =
@@ -22,7 +23,7 @@ pub returns-then-not-whole-clause-spends : goal.returns-then-not-whole-clause-sp
 returns-then-not-whole-clause-spends g c = omega (arith, c.unread-phase.ensures.nearer)
 
 pub returns-then-not-whole-clause-turns : goal.returns-then-not-whole-clause-turns
-returns-then-not-whole-clause-turns g c = λ group alone only old before h. c.unread-phase.ensures.turns group alone old before h
+returns-then-not-whole-clause-turns g c = λ prepared alone only old before h. c.unread-phase.ensures.turns prepared alone old before h
 
 -- a load at most
 goes : (g : _) (c : After-waits_still g) → Goes g.P.Meld.meld g.W.Words.alone false 1 (view_at (over g.P.Packed.pack (g.W.Words.name c.args.words.now)) (g.W.Words.sight c.args.pass.now)) (view_at (over g.P.Packed.pack (g.W.Words.name c.args.words.now)) (g.W.Words.sight c.waits_still.new.pass))
@@ -55,16 +56,16 @@ returns-in-None-clause-turns g c =
     let now = g.W.Words.sight c.args.pass.now in
     let after = g.W.Words.sight c.waits_still.new.pass in
     let went = c.waits_still.ensures.goes in
-    λ group alone only old before h.
-    subst (λ (w : Record). Stands g.P.Meld.meld alone (local old (view_at name before)) (under_way c.args.asked.now c.unread-phase.result group) (local w (view_at name after)))
+    λ prepared alone only old before h.
+    subst (λ (w : Record). Stands g.P.Meld.meld alone (local old (view_at name before)) (under_way c.args.asked.now c.unread-phase.result prepared) (local w (view_at name after)))
     (sym c.waits_still.ensures.kept)
-    (stands_lasts g.P.Meld.meld alone name old before (under_way c.args.asked.now c.unread-phase.result group) c.args.self.now now after
-    (c.unread-phase.ensures.turns group alone old before h)
+    (stands_lasts g.P.Meld.meld alone name old before (under_way c.args.asked.now c.unread-phase.result prepared) c.args.self.now now after
+    (c.unread-phase.ensures.turns prepared alone old before h)
     (record { did = did_loosely alone g.W.Words.alone only [] now.seen after.seen went.did; cached = went.cached; onward = went.onward }) went.of)
 
 pub returns-in-Some-clause-turns : goal.returns-in-Some-clause-turns
-returns-in-Some-clause-turns g c = λ group alone only old before h.
-    c.in-Some.ensures.pends group alone only old before (c.unread-phase.ensures.turns group alone old before h)
+returns-in-Some-clause-turns g c = λ prepared alone only old before h.
+    c.in-Some.ensures.pends prepared alone only old before (c.unread-phase.ensures.turns prepared alone old before h)
 
 pub returns-then-not-whole-clause-knows : goal.returns-then-not-whole-clause-knows
 returns-then-not-whole-clause-knows g c = λ cached known. c.unread-phase.ensures.knows cached known

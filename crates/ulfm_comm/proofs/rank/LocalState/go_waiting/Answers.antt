@@ -18,6 +18,7 @@ use Rattle.ulfm_comm.proofs.rank.LocalState.go_waiting.Goals.{After-advance, Aft
 use Rattle.ulfm_comm.specs.Local.{stance, local}
 use Rattle.ulfm_comm.specs.Phase.{under_way}
 use Rattle.ulfm_comm.specs.Step.{coming}
+use Rattle.ulfm_comm.specs.Prepared.{Prepared}
 
 -- one more on both sides
 one_more : (after left now most : ℕ) → after + left ≤ now + most → after + (left + 1) ≤ now + (most + 1)
@@ -78,11 +79,11 @@ advance-requires-clause-round g c =
     (members g (goal.at.advance-requires-clause-round g c).After-deref) c.failures.ensures false stands.0 stands.1 stands.2
 
 pub returns-in-None-clause-checks : goal.returns-in-None-clause-checks
-returns-in-None-clause-checks g c = λ group. tt
+returns-in-None-clause-checks g c = λ prepared. tt
 
 pub returns-in-Some-clause-checks : goal.returns-in-Some-clause-checks
-returns-in-Some-clause-checks g c = λ group alone only old before stands.
-    waiting_checks g.P.Meld.meld (over g.P.Packed.pack (g.W.Words.name c.args.words.now)) c.args.asked.now c.args.arrivals group c.args.self.now
+returns-in-Some-clause-checks g c = λ prepared alone only old before stands.
+    waiting_checks g.P.Meld.meld (over g.P.Packed.pack (g.W.Words.name c.args.words.now)) c.args.asked.now c.args.arrivals prepared c.args.self.now
     (g.W.Words.sight c.args.pass.now) c.requires.of
     c.held_comm-x.result.now c.comm_of.result c.held_comm-x.ensures c.comm_of.ensures c.deref.result.now c.failures.result.now
     (members g (goal.at.returns-in-Some-clause-checks g c).After-deref) c.failures.ensures alone old before stands
@@ -103,9 +104,9 @@ waits : (g : _) (c : After-advance g) (next : Next g.row.P.Denot) → (c.args.wh
     → (c.args.whole ≡ true → IsFurther (Waiting c.args.arrivals) next) → LeadsTo (Waiting c.args.arrivals) next
     → KnowsNext c.args.self.now c.args.asked.now (g.W.Words.sight c.advance.new.pass).cached next
     → AlsoSpends (also_left (g.W.Words.name c.args.words.now).limits c.args.self.now c.args.asked.now (Waiting c.args.arrivals)) (g.W.Words.name c.args.words.now).limits c.args.asked.now (stance c.args.self.now (g.W.Words.sight c.args.pass.now)) next (stance c.args.self.now (g.W.Words.sight c.advance.new.pass))
-    → ((group : List ℕ) → Turns g.P.Meld.meld g.W.Words.alone (under_way c.args.asked.now (Waiting c.args.arrivals) group) (local c.args.self.now (view_of g.P.Packed.pack (g.W.Words.name c.args.words.now) (g.W.Words.sight c.args.pass.now))) next group (local c.args.self.now (view_of g.P.Packed.pack (g.W.Words.name c.args.words.now) (g.W.Words.sight c.advance.new.pass))))
-    → (group : List ℕ) → TakesTurn g.P.Meld.meld g.W.Words.alone c.args.whole (under_way c.args.asked.now (Waiting c.args.arrivals) group) (local c.args.self.now (view_of g.P.Packed.pack (g.W.Words.name c.args.words.now) (g.W.Words.sight c.args.pass.now))) (coming next group) (local c.args.self.now (view_of g.P.Packed.pack (g.W.Words.name c.args.words.now) (g.W.Words.sight c.advance.new.pass)))
-waits g c next nearer spends further leads knows also turns = λ group.
+    → ((prepared : Prepared) → Turns g.P.Meld.meld g.W.Words.alone (under_way c.args.asked.now (Waiting c.args.arrivals) prepared) (local c.args.self.now (view_of g.P.Packed.pack (g.W.Words.name c.args.words.now) (g.W.Words.sight c.args.pass.now))) next prepared (local c.args.self.now (view_of g.P.Packed.pack (g.W.Words.name c.args.words.now) (g.W.Words.sight c.advance.new.pass))))
+    → (prepared : Prepared) → TakesTurn g.P.Meld.meld g.W.Words.alone c.args.whole (under_way c.args.asked.now (Waiting c.args.arrivals) prepared) (local c.args.self.now (view_of g.P.Packed.pack (g.W.Words.name c.args.words.now) (g.W.Words.sight c.args.pass.now))) (coming next prepared) (local c.args.self.now (view_of g.P.Packed.pack (g.W.Words.name c.args.words.now) (g.W.Words.sight c.advance.new.pass)))
+waits g c next nearer spends further leads knows also turns = λ prepared.
     let goes = c.advance.ensures.goes in
     record {
       walks = record { of = goes.of; own = []; did = goes.did; onward = goes.onward; cached = goes.cached };
@@ -121,7 +122,7 @@ waits g c next nearer spends further leads knows also turns = λ group.
       looks = λ at. absurd (cc at);
       knows = λ known. knows;
       leads = leads;
-      turns = turns group;
+      turns = turns prepared;
     }
 
 pub returns-in-None-clause-turn : goal.returns-in-None-clause-turn
@@ -137,8 +138,8 @@ returns-in-None-clause-turn g c =
     (steps_left limits c.args.self.now c.args.asked.now (Waiting c.advance.new.self)) now.steps
     (steps_left limits c.args.self.now c.args.asked.now (Waiting c.args.arrivals)) spends takes.some) spends
     (λ whole. absurd (false≢true (sym c.in-None.ensures.done ∙ whole))) refl tt
-    (also_waits limits c.args.asked.now c.args.self.now now after c.args.arrivals c.advance.new.self spends) (λ group alone only old before stands.
-    waiting_goes g.P.Meld.meld (over g.P.Packed.pack (g.W.Words.name c.args.words.now)) c.args.asked.now c.args.arrivals group c.args.self.now
+    (also_waits limits c.args.asked.now c.args.self.now now after c.args.arrivals c.advance.new.self spends) (λ prepared alone only old before stands.
+    waiting_goes g.P.Meld.meld (over g.P.Packed.pack (g.W.Words.name c.args.words.now)) c.args.asked.now c.args.arrivals prepared c.args.self.now
     (g.W.Words.sight c.args.pass.now) c.requires.of
     c.held_comm-x.result.now c.comm_of.result c.held_comm-x.ensures c.comm_of.ensures c.deref.result.now c.failures.result.now
     (members g (goal.at.returns-in-None-clause-turn g c).After-deref) c.failures.ensures alone old before stands
@@ -156,8 +157,8 @@ returns-in-Some-clause-turn g c =
     (members g at) c.failures.ensures c.args.arrivals now.steps after.steps (ended after.steps _ takes.turns) in
     waits g (goal.at.returns-in-Some-clause-turn g c).After-advance _ (λ single. fewer after.steps 1 now.steps
     (steps_left limits c.args.self.now c.args.asked.now (Waiting c.args.arrivals)) spends takes.some) spends (λ whole. nearest) refl tt
-    (also_checks limits c.args.asked.now c.args.self.now now after c.args.arrivals c.in-Some.missing spends) (λ group alone only old before stands.
-    waiting_ends g.P.Meld.meld (over g.P.Packed.pack (g.W.Words.name c.args.words.now)) c.args.asked.now c.args.arrivals group c.args.self.now
+    (also_checks limits c.args.asked.now c.args.self.now now after c.args.arrivals c.in-Some.missing spends) (λ prepared alone only old before stands.
+    waiting_ends g.P.Meld.meld (over g.P.Packed.pack (g.W.Words.name c.args.words.now)) c.args.asked.now c.args.arrivals prepared c.args.self.now
     (g.W.Words.sight c.args.pass.now) c.requires.of
     c.held_comm-x.result.now c.comm_of.result c.held_comm-x.ensures c.comm_of.ensures c.deref.result.now c.failures.result.now
     (members g (goal.at.returns-in-Some-clause-turn g c).After-deref) c.failures.ensures alone old before stands

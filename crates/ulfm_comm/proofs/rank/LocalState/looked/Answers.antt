@@ -6,14 +6,14 @@ use Rattle.ulfm_comm.proofs.rank.LocalState.looked.Goals as goal
 
 pub returns-in_default-clause-turns : goal.returns-in_default-clause-turns
 returns-in_default-clause-turns g c =
-    λ group alone old before j.
+    λ prepared alone old before j.
     just_missing g.P.Meld.meld alone (over g.P.Packed.pack (g.W.Words.name c.args.words.now)) c.args.asked.now old before c.args.self.now
     (g.W.Words.sight c.args.pass.now) j c.requires.of
     (ap (held_at c.args.self.now) (sym c.comm_of.ensures) ∙ c.in_default.ensures.held)
 
 pub returns-in-Some-refusal-clause-turns : goal.returns-in-Some-refusal-clause-turns
 returns-in-Some-refusal-clause-turns g c =
-    λ group alone old before j.
+    λ prepared alone old before j.
     just_refused g.P.Meld.meld alone (over g.P.Packed.pack (g.W.Words.name c.args.words.now)) c.args.asked.now old before c.args.self.now
     (g.W.Words.sight c.args.pass.now) j c.requires.of c.in-Some.x.now
     (ap (held_at c.args.self.now) (sym c.comm_of.ensures) ∙ c.in-Some.ensures.held) _ (sym c.refusal.ensures ∙ c.in-Some-refusal.is)

@@ -49,7 +49,7 @@ rises g c =
 
 pub returns-in-Agree-clause-turns : goal.returns-in-Agree-clause-turns
 returns-in-Agree-clause-turns g c =
-    λ group alone old before j.
+    λ prepared alone old before j.
     record {
       fits = j.fits;
       mine = j.mine;
@@ -63,7 +63,7 @@ returns-in-Agree-clause-turns g c =
 
 pub returns-in-Shrink-clause-turns : goal.returns-in-Shrink-clause-turns
 returns-in-Shrink-clause-turns g c =
-    λ group alone old before j.
+    λ prepared alone old before j.
     record {
       fits = j.fits;
       mine = j.mine;
@@ -77,7 +77,7 @@ returns-in-Shrink-clause-turns g c =
 
 pub returns-in-Barrier-clause-turns : goal.returns-in-Barrier-clause-turns
 returns-in-Barrier-clause-turns g c =
-    λ group alone old before j.
+    λ prepared alone old before j.
     record {
       fits = j.fits;
       mine = j.mine;
@@ -92,7 +92,7 @@ returns-in-Barrier-clause-turns g c =
 
 pub returns-in-Revoke-clause-turns : goal.returns-in-Revoke-clause-turns
 returns-in-Revoke-clause-turns g c =
-    λ group alone old before j.
+    λ prepared alone old before j.
     record {
       fits = j.fits;
       mine = j.mine;
@@ -106,7 +106,7 @@ returns-in-Revoke-clause-turns g c =
 
 pub returns-in-IsRevoked-clause-turns : goal.returns-in-IsRevoked-clause-turns
 returns-in-IsRevoked-clause-turns g c =
-    λ group alone old before j.
+    λ prepared alone old before j.
     record {
       fits = j.fits;
       mine = j.mine;
@@ -139,7 +139,7 @@ acknowledge_known-requires-in-FailureAck g c =
 pub returns-in-GetFailed-clause-turns : goal.returns-in-GetFailed-clause-turns
 returns-in-GetFailed-clause-turns g c =
     let at = (goal.at.returns-in-GetFailed-clause-turns g c).After-held_comm-x in
-    λ group alone old before j.
+    λ prepared alone old before j.
     subst (λ a. Answered g.P.Meld.meld alone a (local old (view_of g.P.Packed.pack (g.W.Words.name c.args.words.now) before)) (FailedGroup c.known.result) (local c.args.self.now (view_of g.P.Packed.pack (g.W.Words.name c.args.words.now) (g.W.Words.sight c.args.pass.now)))) (sym c.in-GetFailed.is)
     (just_counted g.P.Meld.meld alone (over g.P.Packed.pack (g.W.Words.name c.args.words.now)) _ _ old before c.args.self.now (g.W.Words.sight c.args.pass.now) c.requires.of
     c.held_comm-x.result.now (held_for g at _ c.in-GetFailed.is) _ (c.known.ensures ∙ ap (λ w. min 1024 (length (filter (has w) c.args.self.now.seen))) (c.deref.ensures.value ∙ ap (λ (y : Held). y.group) c.x.view_is))
@@ -148,7 +148,7 @@ returns-in-GetFailed-clause-turns g c =
 pub returns-in-FailureGetAcked-clause-turns : goal.returns-in-FailureGetAcked-clause-turns
 returns-in-FailureGetAcked-clause-turns g c =
     let at = (goal.at.returns-in-FailureGetAcked-clause-turns g c).After-held_comm-x in
-    λ group alone old before j.
+    λ prepared alone old before j.
     subst (λ a. Answered g.P.Meld.meld alone a (local old (view_of g.P.Packed.pack (g.W.Words.name c.args.words.now) before)) (FailedGroup c.known-in-FailureGetAcked.result) (local c.args.self.now (view_of g.P.Packed.pack (g.W.Words.name c.args.words.now) (g.W.Words.sight c.args.pass.now)))) (sym c.in-FailureGetAcked.is)
     (just_listed g.P.Meld.meld alone (over g.P.Packed.pack (g.W.Words.name c.args.words.now)) _ _ old before c.args.self.now (g.W.Words.sight c.args.pass.now) c.requires.of
     c.held_comm-x.result.now (held_for g at _ c.in-FailureGetAcked.is) _ (c.known-in-FailureGetAcked.ensures ∙ ap₂ (λ m w. min m (length (filter (has w) c.args.self.now.seen))) (ap (λ (y : Held). y.acked) c.x.view_is) (c.deref-in-FailureGetAcked.ensures.value ∙ ap (λ (y : Held). y.group) c.x.view_is))
@@ -157,7 +157,7 @@ returns-in-FailureGetAcked-clause-turns g c =
 pub returns-in-Ack-clause-turns : goal.returns-in-Ack-clause-turns
 returns-in-Ack-clause-turns g c =
     let at = (goal.at.returns-in-Ack-clause-turns g c).After-held_comm-x in
-    λ group alone old before j.
+    λ prepared alone old before j.
     subst (λ a. Answered g.P.Meld.meld alone a (local old (view_of g.P.Packed.pack (g.W.Words.name c.args.words.now) before)) (Acked c.acknowledge_known.result) (local c.acknowledge_known.new.self (view_of g.P.Packed.pack (g.W.Words.name c.args.words.now) (g.W.Words.sight c.args.pass.now)))) (sym c.in-Ack.is)
     (just_acked g.P.Meld.meld alone (over g.P.Packed.pack (g.W.Words.name c.args.words.now)) _ _ old before c.args.self.now (g.W.Words.sight c.args.pass.now) c.requires.of
     c.held_comm-x.result.now (held_for g at _ c.in-Ack.is) _ _ _ (c.acknowledge_known.ensures.count c.held_comm-x.result.now (held_for g at _ c.in-Ack.is)) c.acknowledge_known.ensures.kept
@@ -166,7 +166,7 @@ returns-in-Ack-clause-turns g c =
 pub returns-in-FailureAck-clause-turns : goal.returns-in-FailureAck-clause-turns
 returns-in-FailureAck-clause-turns g c =
     let at = (goal.at.returns-in-FailureAck-clause-turns g c).After-held_comm-x in
-    λ group alone old before j.
+    λ prepared alone old before j.
     subst (λ a. Answered g.P.Meld.meld alone a (local old (view_of g.P.Packed.pack (g.W.Words.name c.args.words.now) before)) (Acked c.acknowledge_known-in-FailureAck.result) (local c.acknowledge_known-in-FailureAck.new.self (view_of g.P.Packed.pack (g.W.Words.name c.args.words.now) (g.W.Words.sight c.args.pass.now)))) (sym c.in-FailureAck.is)
     (just_acked_all g.P.Meld.meld alone (over g.P.Packed.pack (g.W.Words.name c.args.words.now)) _ _ old before c.args.self.now (g.W.Words.sight c.args.pass.now) c.requires.of
     c.held_comm-x.result.now (held_for g at _ c.in-FailureAck.is) _ _ (c.acknowledge_known-in-FailureAck.ensures.count c.held_comm-x.result.now (held_for g at _ c.in-FailureAck.is)) c.acknowledge_known-in-FailureAck.ensures.kept
@@ -175,7 +175,7 @@ returns-in-FailureAck-clause-turns g c =
 pub returns-in-Free-clause-turns : goal.returns-in-Free-clause-turns
 returns-in-Free-clause-turns g c =
     let at = (goal.at.returns-in-Free-clause-turns g c).After-held_comm-x in
-    λ group alone old before j.
+    λ prepared alone old before j.
     subst (λ a. Answered g.P.Meld.meld alone a (local old (view_of g.P.Packed.pack (g.W.Words.name c.args.words.now) before)) Freed (local c.release.new.self (view_of g.P.Packed.pack (g.W.Words.name c.args.words.now) (g.W.Words.sight c.args.pass.now))))
     (sym c.in-Free.is)
     (just_freed g.P.Meld.meld alone (over g.P.Packed.pack (g.W.Words.name c.args.words.now)) _ _ old before c.args.self.now (g.W.Words.sight c.args.pass.now) c.requires.of

@@ -9,7 +9,7 @@ proposed-requires-clause-stands g c =
     let p = c.requires.stood in
     let name = over g.P.Packed.pack (g.W.Words.name c.args.words.now) in
     let now = g.W.Words.sight c.args.pass.now in (
-      c.way.inside.group.items,
+      c.way.inside.prepared,
       (
         p.0,
         p.1,

@@ -14,8 +14,9 @@ use Rattle.ulfm_steps.specs.declared.item.Item.TheVariants.{Comm as OfComm}
 use Rattle.ulfm_model.specs.declared.limits.Limits.{Limits}
 use Rattle.ulfm_model.specs.Terms.{comm_of}
 use Rattle.ulfm_comm.proofs.Spawning.{ends_full, ends_out, ends_self_failed, full_alone, held_is, number_is}
+use Rattle.ulfm_comm.specs.Prepared.{HasPlaces}
 use Rattle.ulfm_comm.proofs.rank.LocalState.reached.Goals as goal
-use Rattle.ulfm_comm.proofs.rank.LocalState.reached.Goals.{After-has_rank}
+use Rattle.ulfm_comm.proofs.rank.LocalState.reached.Goals.{After-has_rank, After-is_err}
 
 -- whether the rank is among the failures that reach so far
 among : (g : _) (c : After-has_rank g) → c.has_rank.result ≡ has (take c.args.reach c.args.self.now.seen) c.args.self.now.number
@@ -52,12 +53,20 @@ returns-then-limits-eq1-clause-turns g c = λ alone old before r.
     (full_alone g.P.Meld.meld alone name (comm_of c.args.asked.now) c.args.made.round now c.requires.of one) (sym there ∙ c.if-has_rank.false)
     (c.close.ensures ∙ ap (closed c.args.self.now) c.comm_of-comm.ensures)
 
+-- what was prepared, where the memory was there
+prepares : (g : _) (c : After-is_err g) → c.is_err.result ≡ false
+    → ((x : Held) → held_at c.args.self.now (comm_of c.args.asked.now) ≡ Some x
+    → c.make_room.new.prepared.members ≡ without x.group (take c.args.reach c.args.self.now.seen))
+    × HasPlaces c.args.self.now.held c.make_room.new.prepared.places
+prepares g c right =
+    let ok = sym c.is_err.ensures.value ∙ right in (
+      λ x held. ok_of c.make_room.result _ c.make_room.ensures.members ok x (ap (held_at c.args.self.now) c.comm_of-comm.ensures ∙ held),
+      ok_of c.make_room.result _ c.make_room.ensures.places ok,
+    )
+
 pub returns-then-limits-eq1-clause-memory : goal.returns-then-limits-eq1-clause-memory
 returns-then-limits-eq1-clause-memory g c = λ is x held.
-    ok_of c.make_room.result ((x : Held) → held_at c.args.self.now c.comm_of-comm.result ≡ Some x
-    → c.make_room.new.group.items ≡ without x.group (take c.args.reach c.args.self.now.seen)) c.make_room.ensures
-    (sym c.is_err.ensures.value ∙ c.if-is_err.false)
-    x (ap (held_at c.args.self.now) c.comm_of-comm.ensures ∙ held)
+    let there = prepares g (goal.at.returns-then-limits-eq1-clause-memory g c).After-is_err c.if-is_err.false in (there.0 x held, there.1)
 
 pub returns-clause-turns : goal.returns-clause-turns
 returns-clause-turns g c = λ alone old before r.
@@ -74,9 +83,7 @@ returns-clause-turns g c = λ alone old before r.
     let some = c.requires.of.may_open.in_range.some_comms in
     let limits = ap (λ (l : Limits). l.comms) c.limits.ensures.limits in
     let several = c.if-limits-eq1.false in
-    let left = ok_of c.make_room.result ((x : Held) → held_at c.args.self.now c.comm_of-comm.result ≡ Some x
-    → c.make_room.new.group.items ≡ without x.group (take c.args.reach c.args.self.now.seen)) c.make_room.ensures
-    (sym c.is_err.ensures.value ∙ c.if-is_err.false) in
+    let prepared = prepares g (goal.at.returns-clause-turns g c).After-is_err c.if-is_err.false in
     record {
       fits = r.fits;
       mine = ap (λ (a : Call _). (traits_of a).by) r.polls;
@@ -92,11 +99,12 @@ returns-clause-turns g c = λ alone old before r.
           lowest = c.lowest_id.ensures;
           reads = r.reads;
           stays = sym there ∙ c.if-has_rank.false;
-          left = left r.x (ap (held_at c.args.self.now) c.comm_of-comm.ensures ∙ held);
+          left = prepared.0 r.x held;
           item = item;
           mine = ap (λ (a : Append). a.by) c.new.ensures ∙ ap ByRank (c.number-number.ensures ∙ number);
           passed = λ j lt. absurd (omega (arith, lt, index));
           more = subst (λ (i : Item). c.new.result.index < room i name.limits) (sym item) (omega (arith, index, some, limits, several));
         },
+        prepared.1,
       );
     }

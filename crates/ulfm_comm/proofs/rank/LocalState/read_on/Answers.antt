@@ -60,7 +60,8 @@ invariant_of-self g c =
       room = record {
         may_open = was.may_open;
         room = omega (arith, was.room, c.advance.ensures.room);
-        enough = was.enough;
+        few = was.few;
+        more = was.more;
         ids = was.ids;
         contexts = was.contexts;
       };

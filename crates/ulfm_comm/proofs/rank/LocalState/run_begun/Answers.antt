@@ -1,4 +1,4 @@
-use Rattle.std.proofs.Common.{[], false, ap, arith, refl, subst, sym, ◌∙◌}
+use Rattle.std.proofs.Common.{false, ap, arith, refl, subst, sym, ◌∙◌}
 use Rattle.ulfm_comm.proofs.Wings.{try_seen}
 use Rattle.ulfm_model.specs.Records.{Record, held_at}
 use Rattle.ulfm_comm.specs.{Phase.{NextBelow}, Step.{Walks}}
@@ -7,6 +7,7 @@ use Rattle.ulfm_comm.proofs.{AlsoLeft.{also_resumes, looks_resumed}, Known.{next
 use Rattle.ulfm_comm.proofs.{Others.{not_resumed}, StepsLeft.{resumed_left}}
 use Rattle.ulfm_comm.proofs.rank.LocalState.run_begun.Goals as goal
 use Rattle.ulfm_words.specs.Steps.{view_of, over}
+use Rattle.ulfm_comm.specs.Prepared.{unprepared}
 
 -- what is nearer than a look that goes on is nearer than one that begins
 further : {P : Type 0} (next : Next P) → NextBelow 8 next → NextBelow 9 next
@@ -20,7 +21,7 @@ run_looking-requires-clause-stands g c =
     let same = ap (λ (w : Record). w.limits.ranks) p.2.at.1 ∙ ap (λ l. l.ranks) p.2.fits.same_limits in (
       p.0,
       p.1,
-      begins_looking g.P.Meld.meld _ (over g.P.Packed.pack (g.W.Words.name c.args.words.now)) c.args.asked.now p.0 p.1 [] own own
+      begins_looking g.P.Meld.meld _ (over g.P.Packed.pack (g.W.Words.name c.args.words.now)) c.args.asked.now p.0 p.1 unprepared own own
           (g.W.Words.sight c.args.pass.now) c.requires.of (not_resumed own _ same c.requires.some) p.2,
     )
 
@@ -35,7 +36,7 @@ returns g c =
     let same = ap (λ (w : Record). w.limits.ranks) stood.2.at.1 ∙ ap (λ l. l.ranks) stood.2.fits.same_limits in
     let resumed = not_resumed own _ same c.requires.some in
     let fewer = resumed_left limits own own c.args.asked.now same (omega (arith, c.requires.of.may_open.in_range.some_ranks)) resumed in
-    let within = begun_within g.P.Meld.meld false (over g.P.Packed.pack (g.W.Words.name c.args.words.now)) c.args.asked.now stood.0 stood.1 [] own now c.requires.of
+    let within = begun_within g.P.Meld.meld false (over g.P.Packed.pack (g.W.Words.name c.args.words.now)) c.args.asked.now stood.0 stood.1 unprepared own now c.requires.of
     stood.2 in
     record {
       next = r.next;
@@ -61,7 +62,7 @@ returns g c =
         leads = tt;
         turns = λ alone only old before u.
             t.turns alone only old before
-            (begins_looking g.P.Meld.meld alone (over g.P.Packed.pack (g.W.Words.name c.args.words.now)) c.args.asked.now old before [] c.args.self.now own
+            (begins_looking g.P.Meld.meld alone (over g.P.Packed.pack (g.W.Words.name c.args.words.now)) c.args.asked.now old before unprepared c.args.self.now own
             (g.W.Words.sight c.args.pass.now) c.requires.of resumed u);
       };
       past = r.past;

@@ -1,4 +1,4 @@
-use Rattle.std.proofs.Common.{ℕ, Bool, List, [], false, ap, arith, refl, sym, ◌∙◌}
+use Rattle.std.proofs.Common.{Bool, false, ap, arith, refl, sym, ◌∙◌}
 use Rattle.ulfm_words.specs.Steps.{over, view_of, Sight}
 use Rattle.ulfm_model.specs.{Records.{Held, Record, held_at}}
 use Rattle.ulfm_model.specs.declared.{call.Request.TheVariants.{Agree as OfAgree}, contribution.Offer.TheVariants.{Flag}, refusal.Refusal.TheVariants.{NoSuchComm}, reply.Reply.TheVariants.{Refused}}
@@ -8,6 +8,7 @@ use Rattle.ulfm_comm.specs.declared.phases.phase.Phase.TheVariants.{Spreading}
 use Rattle.ulfm_comm.proofs.{AlsoLeft.{follows_behind, follows_ends}, Known.{refused_stand}, Look.{just_missing, just_passed, just_refused, starts_agree}, StepsLeft.{behind_left}}
 use Rattle.ulfm_comm.proofs.rank.LocalState.run_looked.Goals as goal
 use Rattle.ulfm_comm.proofs.rank.LocalState.run_looked.Goals.{In-Agree}
+use Rattle.ulfm_comm.specs.Prepared.{Prepared, unprepared}
 
 pub returns-in_default : goal.returns-in_default
 returns-in_default g c = record {
@@ -17,7 +18,7 @@ returns-in_default g c = record {
   nearer = tt;
   also = follows_ends (g.W.Words.name c.args.words.now).limits c.args.self.now c.args.asked.now _ _ refl;
   knows = λ cached of. absurd (cc of);
-  turns = λ group alone old before j.
+  turns = λ prepared alone old before j.
       just_missing g.P.Meld.meld alone (over g.P.Packed.pack (g.W.Words.name c.args.words.now)) c.args.asked.now old before c.args.self.now
       (g.W.Words.sight c.args.pass.now) j c.requires.of
       (ap (held_at c.args.self.now) (sym c.comm_of.ensures) ∙ c.in_default.ensures.held);
@@ -34,7 +35,7 @@ returns-in-Some-refusal g c = record {
   knows = λ cached of.
       refused_stand c.args.self.now c.in-Some.x.now c.args.asked.now c.in-Some-refusal.refusal cached
       (ap (held_at c.args.self.now) (sym c.comm_of.ensures) ∙ c.in-Some.ensures.held) (sym c.refusal.ensures ∙ c.in-Some-refusal.is);
-  turns = λ group alone old before j.
+  turns = λ prepared alone old before j.
       just_refused g.P.Meld.meld alone (over g.P.Packed.pack (g.W.Words.name c.args.words.now)) c.args.asked.now old before c.args.self.now
       (g.W.Words.sight c.args.pass.now) j c.requires.of c.in-Some.x.now
       (ap (held_at c.args.self.now) (sym c.comm_of.ensures) ∙ c.in-Some.ensures.held) _ (sym c.refusal.ensures ∙ c.in-Some-refusal.is);
@@ -50,11 +51,11 @@ passes g c = record {
 }
 
 -- so it stands before its first exchange
-spreads : (g : _) (c : In-Agree g) (group : List ℕ) (alone : Bool) (old : Record) (before : Sight g.row.P.Denot)
+spreads : (g : _) (c : In-Agree g) (prepared : Prepared) (alone : Bool) (old : Record) (before : Sight g.row.P.Denot)
     → JustLooked g.P.Meld.meld alone c.args.asked.now (local old (view_of g.P.Packed.pack (g.W.Words.name c.args.words.now) before)) (local c.args.self.now (view_of g.P.Packed.pack (g.W.Words.name c.args.words.now) (g.W.Words.sight c.args.pass.now)))
-    → Stands g.P.Meld.meld alone (local old (view_of g.P.Packed.pack (g.W.Words.name c.args.words.now) before)) (under_way c.args.asked.now (Spreading (OfAgree c.x.inside.next_agreement) (Flag c.in-Agree.value)) group) (local c.args.self.now (view_of g.P.Packed.pack (g.W.Words.name c.args.words.now) (g.W.Words.sight c.args.pass.now)))
+    → Stands g.P.Meld.meld alone (local old (view_of g.P.Packed.pack (g.W.Words.name c.args.words.now) before)) (under_way c.args.asked.now (Spreading (OfAgree c.x.inside.next_agreement) (Flag c.in-Agree.value)) prepared) (local c.args.self.now (view_of g.P.Packed.pack (g.W.Words.name c.args.words.now) (g.W.Words.sight c.args.pass.now)))
 unfolding passes
-spreads g c group alone old before j =
+spreads g c prepared alone old before j =
     let may = passes g c in
     record {
       fits = j.fits;
@@ -70,7 +71,7 @@ spreads g c group alone old before j =
 pub run_spreading-requires-clause-stands : goal.run_spreading-requires-clause-stands
 run_spreading-requires-clause-stands g c =
     let just = c.requires.just in
-    (just.0, just.1, spreads g (goal.at.run_spreading-requires-clause-stands g c).In-Agree [] false just.0 just.1 just.2)
+    (just.0, just.1, spreads g (goal.at.run_spreading-requires-clause-stands g c).In-Agree unprepared false just.0 just.1 just.2)
 
 pub returns-in-Agree : goal.returns-in-Agree
 returns-in-Agree g c =

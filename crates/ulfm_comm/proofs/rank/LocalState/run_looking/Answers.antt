@@ -16,6 +16,7 @@ use Rattle.ulfm_comm.proofs.{Known.{below_past, next_same}, Look.{just_declared}
 use Rattle.ulfm_comm.proofs.rank.LocalState.run_looking.Goals as goal
 use Rattle.ulfm_comm.proofs.rank.LocalState.run_looking.Goals.{After-look_on}
 use Rattle.ulfm_comm.specs.Local.{local, stance}
+use Rattle.ulfm_comm.specs.Prepared.{unprepared}
 
 -- the look has ended: the loads that it has saved are left for what comes next
 ends_look : (g : _) (c : After-look_on g) → c.look_on.result ≡ true → (new : Record) (next : Next g.row.P.Denot)
@@ -153,7 +154,7 @@ returns g c =
             let goes = did_loosely alone g.W.Words.alone only [] now.seen after.seen c.look_on.ensures.goes.did in
             let own = c.look_on.ensures.kept ∙ ap (λ (w : Record). record w { seen = c.look_on.new.self.seen }) u.at.1 in
             let number = ap (λ (w : Record). w.number) c.look_on.ensures.kept ∙ ap (λ (w : Record). w.number) u.at.1 in
-            r.turns [] alone old before
+            r.turns unprepared alone old before
             (record {
               fits = u.fits;
               mine = u.mine;

@@ -38,7 +38,7 @@ knows g c known =
     (c.loop-next.invariant.knows known)))
 
 -- no word beside was tried that may not be
-beside : (g : _) (c : After-go g) → TriesTurn g.W.Words.alone (under_way c.args.asked.now c.args.phase c.args.group.items) (local c.args.self.now (view_at (over g.P.Packed.pack (g.W.Words.name c.args.words.now)) (g.W.Words.sight c.args.pass.now))) c.go.result
+beside : (g : _) (c : After-go g) → TriesTurn g.W.Words.alone (under_way c.args.asked.now c.args.phase c.args.prepared) (local c.args.self.now (view_at (over g.P.Packed.pack (g.W.Words.name c.args.words.now)) (g.W.Words.sight c.args.pass.now))) c.go.result
     (local c.go.new.self (view_at (over g.P.Packed.pack (g.W.Words.name c.args.words.now)) (g.W.Words.sight c.go.new.pass)))
 beside g c = turns_then _ _ _ _ _ _ _ _ _ _ c.loop-next.invariant.kept c.loop-next.invariant.beside c.go.ensures.turn.beside
 
@@ -56,7 +56,7 @@ sees g c known =
     ap (λ (w : Record). polled_by w c.args.asked.now) inv.kept in
     sees_next own c.args.asked.now now.cached (g.W.Words.sight c.go.new.pass).cached c.go.ensures.turn.walks.cached own.seen c.loop-next.self.seen
     c.go.new.self.seen c.loop-next.phase inv.past c.go.ensures.turn.sees
-    (λ reads. ap is_shrink (sym same) ∙ stands_shrinks g.P.Meld.meld false name c.args.asked.now still.0 still.1 c.loop-next.group.items c.loop-next.self now
+    (λ reads. ap is_shrink (sym same) ∙ stands_shrinks g.P.Meld.meld false name c.args.asked.now still.0 still.1 c.loop-next.prepared c.loop-next.self now
     c.loop-next.phase reads still.2.at) (inv.knows known) (inv.sees known)
 
 pub loop-next-init : goal.loop-next-init
@@ -99,20 +99,20 @@ loop-next-preserved g c =
     let inv = c.loop-next.invariant in
     let still = inv.still in
     let stands = turn.turns false (λ here. absurd (false≢true here)) still.0 still.1 still.2 in
-    let goes = subst (λ next. NextIs g.P.Meld.meld false asked (local still.0 (view_at name still.1)) next c.go.new.group.items (local new (view_at name after))) c.in-Goes.is stands in
+    let goes = subst (λ next. NextIs g.P.Meld.meld false asked (local still.0 (view_at name still.1)) next c.go.new.prepared (local new (view_at name after))) c.in-Goes.is stands in
     record {
       of = turn.walks.of;
       begins = prefix_trans start.seen now.seen after.seen inv.begins (did_prefix g.W.Words.alone _ now.seen after.seen turn.walks.did);
       cached = prefix_trans start.cached now.cached after.cached inv.cached turn.walks.cached;
-      beside = subst (λ next. TriesTurn g.W.Words.alone (under_way asked c.args.phase c.args.group.items) (local own (view_at name start)) next (local new (view_at name after))) c.in-Goes.is (beside g at);
+      beside = subst (λ next. TriesTurn g.W.Words.alone (under_way asked c.args.phase c.args.prepared) (local own (view_at name start)) next (local new (view_at name after))) c.in-Goes.is (beside g at);
       onward = within _ _ _ inv.onward turn.walks.onward;
       past = subst (λ next. IsPast next) c.in-Goes.is (leads_past c.loop-next.phase c.go.result inv.past turn.leads);
-      stands = λ old before u. subst (λ next. NextIs g.P.Meld.meld g.W.Words.alone asked (local old (view_at name before)) next c.go.new.group.items (local new (view_at name after))) c.in-Goes.is
+      stands = λ old before u. subst (λ next. NextIs g.P.Meld.meld g.W.Words.alone asked (local old (view_at name before)) next c.go.new.prepared (local new (view_at name after))) c.in-Goes.is
           (turn.turns g.W.Words.alone (λ here. here) old before (inv.stands old before u));
       still = (still.0, still.1, goes);
-      kept = keeps own mid still.0 new inv.kept (stands_own g.P.Meld.meld false name asked still.0 still.1 c.loop-next.group.items mid now c.loop-next.phase
+      kept = keeps own mid still.0 new inv.kept (stands_own g.P.Meld.meld false name asked still.0 still.1 c.loop-next.prepared mid now c.loop-next.phase
           still.2.at)
-          (stands_own g.P.Meld.meld false name asked still.0 still.1 c.go.new.group.items new after c.in-Goes.next goes.at);
+          (stands_own g.P.Meld.meld false name asked still.0 still.1 c.go.new.prepared new after c.in-Goes.next goes.at);
       spent = within _ _ _ (subst (λ next. Spends (steps_left name.limits mid asked c.loop-next.phase) name.limits new asked next now after) c.in-Goes.is
           turn.spends) inv.spent;
       also = λ all.
@@ -145,7 +145,7 @@ returns-in-Ends g c =
       of = walks.of;
       begins = prefix_trans start.seen now.seen after.seen inv.begins (did_prefix g.W.Words.alone _ now.seen after.seen walks.did);
       cached = prefix_trans start.cached now.cached after.cached inv.cached walks.cached;
-      beside = subst (λ next. TriesTurn g.W.Words.alone (under_way asked c.args.phase c.args.group.items) (local own (view_at name start)) next (local new (view_at name after))) c.in-Ends.is (beside g at);
+      beside = subst (λ next. TriesTurn g.W.Words.alone (under_way asked c.args.phase c.args.prepared) (local own (view_at name start)) next (local new (view_at name after))) c.in-Ends.is (beside g at);
       onward = within _ _ _ inv.onward walks.onward;
       spends = omega (arith, spends, inv.spent);
       also = λ all.
@@ -156,6 +156,6 @@ returns-in-Ends g c =
           omega (arith, few);
       sees = sees g at;
       knows = λ known. subst (λ next. KnowsNext own asked after.cached next) c.in-Ends.is (knows g at known);
-      turns = λ old before u. subst (λ next. NextIs g.P.Meld.meld g.W.Words.alone asked (local old (view_at name before)) next c.go.new.group.items (local new (view_at name after))) c.in-Ends.is
+      turns = λ old before u. subst (λ next. NextIs g.P.Meld.meld g.W.Words.alone asked (local old (view_at name before)) next c.go.new.prepared (local new (view_at name after))) c.in-Ends.is
           (turn.turns g.W.Words.alone (λ here. here) old before (inv.stands old before u));
     }

@@ -20,12 +20,12 @@ invariant-loop-next g l =
       of : IsView g.P.Meld.meld (view_at name now);
       begins : IsPrefix start.seen now.seen;
       cached : IsPrefix start.cached now.cached;
-      beside : TriesTurn g.W.Words.alone (under_way l.asked l.initial.phase l.initial.group.items) (local own (view_at name start)) (Goes l.phase) (local l.self (view_at name now));
+      beside : TriesTurn g.W.Words.alone (under_way l.asked l.initial.phase l.initial.prepared) (local own (view_at name start)) (Goes l.phase) (local l.self (view_at name now));
       onward : start.steps ≤ now.steps;
       past : is_looking l.phase ≡ false;
-      stands : (old : Record) (before : Sight g.row.P.Denot) → Stands g.P.Meld.meld g.W.Words.alone (local old (view_at name before)) (record { asked = l.asked; phase = l.initial.phase; group = l.initial.group.items }) (local own (view_at name start))
-          → Stands g.P.Meld.meld g.W.Words.alone (local old (view_at name before)) (record { asked = l.asked; phase = l.phase; group = l.group.items }) (local l.self (view_at name now));
-      still : StillStands g.P.Meld.meld (under_way l.asked l.phase l.group.items) (local l.self (view_at name now));
+      stands : (old : Record) (before : Sight g.row.P.Denot) → Stands g.P.Meld.meld g.W.Words.alone (local old (view_at name before)) (record { asked = l.asked; phase = l.initial.phase; prepared = l.initial.prepared }) (local own (view_at name start))
+          → Stands g.P.Meld.meld g.W.Words.alone (local old (view_at name before)) (record { asked = l.asked; phase = l.phase; prepared = l.prepared }) (local l.self (view_at name now));
+      still : StillStands g.P.Meld.meld (under_way l.asked l.phase l.prepared) (local l.self (view_at name now));
       kept : l.self ≡ record own { seen = l.self.seen };
       spent : now.steps + steps_left name.limits l.self l.asked l.phase ≤ start.steps + steps_left name.limits own l.asked l.initial.phase;
       also : FindsSetIn own l.asked start.cached l.initial.phase → AlsoSpends (also_left name.limits own l.asked l.initial.phase) name.limits l.asked (stance own start) (Goes l.phase) (stance l.self now);

@@ -1,4 +1,4 @@
-use Rattle.std.proofs.Common.{[], false, ap, arith, sym, ◌∙◌}
+use Rattle.std.proofs.Common.{false, ap, arith, sym, ◌∙◌}
 use Rattle.ulfm_words.specs.Steps.{over}
 use Rattle.ulfm_model.specs.Records.{Held, held_at}
 use Rattle.ulfm_comm.specs.declared.phases.phase.Next.TheVariants.{Goes}
@@ -7,6 +7,7 @@ use Rattle.ulfm_comm.proofs.{AlsoLeft.{follows_peeks}, Known.{knows_none}, Steps
 use Rattle.ulfm_comm.proofs.{Holding.{holds}, Ready.{just_fits, ready_peeking}, Agreement.{some_member}}
 use Rattle.ulfm_comm.proofs.rank.LocalState.run_ready.Goals as goal
 use Rattle.ulfm_comm.proofs.rank.LocalState.run_ready.Goals.{After-new}
+use Rattle.ulfm_comm.specs.Prepared.{unprepared}
 
 pub run_peeking-requires-clause-stands : goal.run_peeking-requires-clause-stands
 run_peeking-requires-clause-stands g c =
@@ -15,7 +16,7 @@ run_peeking-requires-clause-stands g c =
       just.0,
       just.1,
       ready_peeking g.P.Meld.meld false (over g.P.Packed.pack (g.W.Words.name c.args.words.now)) c.args.asked.now just.0 just.1 c.args.self.now
-          (g.W.Words.sight c.args.pass.now) just.2 c.requires.of [] c.held_comm-x.result.now c.comm_of-comm.result c.held_comm-x.ensures c.comm_of-comm.ensures
+          (g.W.Words.sight c.args.pass.now) just.2 c.requires.of unprepared c.held_comm-x.result.now c.comm_of-comm.result c.held_comm-x.ensures c.comm_of-comm.ensures
           polls.0 polls.1 polls.2
           c.new.result c.in-Some.shrinks c.in-Some.round (sym (ap (λ (y : Held). y.request) c.x.view_is) ∙ c.in-Some.ensures)
           c.new.ensures.comm c.new.ensures.round c.new.ensures.side c.new.ensures.none c.new.ensures.first,
@@ -43,8 +44,8 @@ returns g c =
           c.held_comm-x.result.now held c.in-Some.round c.in-Some.shrinks c.new.result open_is
           (c.new.ensures.comm ∙ c.comm_of-comm.ensures) c.new.ensures.round c.new.ensures.side (some_member _ _ member);
       knows = λ cached. knows_none cached c.new.result.comm c.new.result.round c.new.result.blocks c.new.ensures.none;
-      turns = λ group alone old before j.
-          ready_peeking g.P.Meld.meld alone name c.args.asked.now old before c.args.self.now now j c.requires.of group c.held_comm-x.result.now
+      turns = λ prepared alone old before j.
+          ready_peeking g.P.Meld.meld alone name c.args.asked.now old before c.args.self.now now j c.requires.of prepared c.held_comm-x.result.now
           c.comm_of-comm.result c.held_comm-x.ensures c.comm_of-comm.ensures polls.0 polls.1 polls.2 c.new.result c.in-Some.shrinks c.in-Some.round open_is
           c.new.ensures.comm c.new.ensures.round c.new.ensures.side c.new.ensures.none c.new.ensures.first;
       runs = c.run_peeking.ensures;

@@ -1,4 +1,4 @@
-use Rattle.std.proofs.Common.{List, false, ◌≡◌, ◌+◌, ◌<◌, ◌++◌, ◌∷◌, [], nat_eq, None, refl, ap, sym, ◌∙◌, subst, arith, ℕ}
+use Rattle.std.proofs.Common.{List, false, ◌≡◌, ◌+◌, ◌<◌, ◌≤◌, ◌++◌, ◌∷◌, [], nat_eq, None, refl, ap, ap₂, sym, ◌∙◌, subst, arith, ℕ, length, vec_capacity}
 use Rattle.std.specs.List.{AllByRecursion}
 use Rattle.std.proofs.lemmas.Grind.{common_steps}
 use Rattle.ulfm_model.specs.{Answers.{closed}, Records.{Held, Record, change_at}}
@@ -8,11 +8,13 @@ use Rattle.ulfm_steps.specs.declared.item.Item.{Item}
 use Rattle.ulfm_steps.specs.declared.item.Item.TheVariants.{Comm as OfComm}
 use Rattle.ulfm_steps.specs.Rounds.{round_on}
 use Rattle.ulfm_comm.specs.Spawning.{IsMadeBy}
-use Rattle.ulfm_comm.proofs.Helds.{room_left, room_pushed}
+use Rattle.ulfm_comm.proofs.Helds.{room_left, room_moved, room_pushed}
 use Rattle.ulfm_comm.proofs.Spawn.{full_of, makes, number_fits}
 use Rattle.ulfm_comm.proofs.rank.LocalState.spawn.Goals as goal
-use Rattle.ulfm_comm.proofs.rank.LocalState.spawn.Goals.{In-Some-place_in, After-take_in}
+use Rattle.ulfm_comm.proofs.rank.LocalState.spawn.Goals.{In-Some-place_in, After-move_in, After-take_in}
 use Rattle.ulfm_words.specs.Steps.{view_of, over}
+use Rattle.ulfm_laws.specs.Ranges.{payload_bits}
+use Rattle.ulfm_comm.specs.Prepared.{Prepared}
 
 pub advance-requires-clause-passed : goal.advance-requires-clause-passed
 advance-requires-clause-passed g c =
@@ -61,29 +63,47 @@ overflow_add-number g c =
     (g.W.Words.sight c.args.pass.now) (g.W.Words.sight c.advance.new.pass) _ (made g (goal.at.overflow_add-number g c).In-Some-place_in may.0 may.1.item) in
     omega (arith, below)
 
+-- the context id of what is made is free
+fresh : (g : _) (c : After-move_in g) → AllByRecursion (λ i. nat_eq i c.args.context ≡ false) (contexts_of c.self.inside.held.items)
+fresh g c = subst (λ (own : Record). AllByRecursion (λ i. nat_eq i c.args.context ≡ false) (contexts_of own.held)) (sym c.self.view_is) c.requires.holds.fresh
+
+pub move_in-requires-clause-empty : goal.move_in-requires-clause-empty
+move_in-requires-clause-empty g c = c.members.invariant
+
+pub move_in-requires-clause-places : goal.move_in-requires-clause-places
+move_in-requires-clause-places g c = λ few.
+    let held = ap (λ (own : Record). length own.held) c.self.view_is in
+    let places = ap (λ (p : Prepared). p.places) (c.members.view_is ∙ c.replace.ensures.value) in
+    subst (λ n. payload_bits ≤ n) (sym places) (c.requires.places (sym held ∙ few))
+
 pub take_in-requires : goal.take_in-requires
 take_in-requires g c =
-    let fresh = subst (λ (own : Record). AllByRecursion (λ i. nat_eq i c.args.context ≡ false) (contexts_of own.held))
-    (sym c.self.view_is) c.requires.holds.fresh in
-    let left = room_left _ _ _ c.args.context c.self.inside.held.items c.self.invariant.room c.requires.holds.id fresh in
-    omega (arith, left, c.self.inside.held.ok.0)
+    let at = (goal.at.take_in-requires g c).After-move_in in
+    let left = room_left _ _ _ (vec_capacity c.move_in.new.held) c.self.inside.held.items c.self.invariant.room c.move_in.ensures.moved c.move_in.ensures.stays
+    c.args.context c.requires.holds.id (fresh g at) in
+    omega (arith, left, ap length c.move_in.ensures.items)
 
 -- what is held afterwards
 items_are : (g : _) (c : After-take_in g) → c.take_in.new.held.items ≡ change_at c.args.comm (λ y. record y { request = None }) c.self.inside.held.items ++
-    new_held (c.in-Some-place_in.index + 1) c.args.context c.args.group.now.items ∷ []
-items_are g c = c.take_in.ensures.items ∙ (ap (λ made. change_at c.args.comm (λ y. record y { request = None }) c.self.inside.held.items ++ made ∷ [])
-    (c.new-made.ensures ∙ ap (λ (v : _). new_held (c.in-Some-place_in.index + 1) c.args.context v.items) c.replace-members.ensures.value))
+    new_held (c.in-Some-place_in.index + 1) c.args.context c.args.prepared.now.members ∷ []
+items_are g c =
+    let made = c.new-made.ensures ∙ ap (λ (p : Prepared). new_held (c.in-Some-place_in.index + 1) c.args.context p.members)
+    (c.members.view_is ∙ c.replace.ensures.value) in
+    c.take_in.ensures.items
+    ∙ ap₂ (λ hs x. change_at c.args.comm (λ y. record y { request = None }) hs ++ x ∷ []) c.move_in.ensures.items made
 
 pub invariant_of-self : goal.invariant_of-self
 invariant_of-self g c =
-    let fresh = subst (λ (own : Record). AllByRecursion (λ i. nat_eq i c.args.context ≡ false) (contexts_of own.held))
-    (sym c.self.view_is) c.requires.holds.fresh in
+    let moved = room_moved _ _ _ (vec_capacity c.move_in.new.held) c.self.inside.held.items c.self.invariant.room c.move_in.ensures.moved c.move_in.ensures.stays in
+    let more = c.take_in.ensures.room in
     record {
       below = c.self.invariant.below;
       others_are = c.self.invariant.others_are;
-      room = room_pushed _ _ _ _ c.args.comm (λ y. record y { request = None }) (new_held (c.in-Some-place_in.index + 1) c.args.context c.args.group.now.items)
+      room = room_pushed _ _ _ _ c.args.comm (λ y. record y { request = None })
+          (new_held (c.in-Some-place_in.index + 1) c.args.context c.args.prepared.now.members)
           c.self.inside.held.items c.take_in.new.held.items c.self.invariant.room (λ y. refl)
-          c.requires.holds.id fresh (items_are g (goal.at.invariant_of-self g c).After-take_in) c.take_in.ensures.room;
+          c.requires.holds.id (fresh g (goal.at.invariant_of-self g c).After-move_in) (items_are g (goal.at.invariant_of-self g c).After-take_in)
+          (omega (arith, moved.0, more)) (λ many. omega (arith, moved.1 many, more));
     }
 
 pub returns-clause-spawns : goal.returns-clause-spawns
@@ -102,7 +122,7 @@ returns-clause-spawns g c = λ k is.
         record_is =
             ap as_record items
             ∙ ap (λ (own : Record). let rest = closed own c.args.comm in record rest {
-              held = rest.held ++ new_held (c.in-Some-place_in.index + 1) c.args.context c.args.group.now.items ∷ [];
+              held = rest.held ++ new_held (c.in-Some-place_in.index + 1) c.args.context c.args.prepared.now.members ∷ [];
             }) c.self.view_is;
       },
     )

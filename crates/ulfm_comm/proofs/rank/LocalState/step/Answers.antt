@@ -12,12 +12,12 @@ use Rattle.ulfm_comm.specs.{Local.{local}, Proposals.{WinsNext}, Wings.{WingsIn,
 same : (g : _) (c : After-go-arg-4-1 g) → c.args.doing.now ≡ record {
   asked = c.doing.inside.asked;
   phase = c.replace-phase.result;
-  group = c.doing.inside.group.items;
+  prepared = c.doing.inside.prepared;
 }
 same g c = sym c.doing.view_is ∙ ap (λ phase. record {
   asked = c.doing.inside.asked;
   phase = phase;
-  group = c.doing.inside.group.items;
+  prepared = c.doing.inside.prepared;
 }) (sym c.replace-phase.ensures.value)
 
 pub go-requires-clause-stands : goal.go-requires-clause-stands
@@ -35,7 +35,7 @@ go-requires-clause-stands g c =
 pub turned : (g : _) (c : After-go g) → (alone : Bool) → (IsTrue alone → IsTrue g.W.Words.alone) → (old : Record) → (before stood : Sight g.row.P.Denot)
     → Stands g.P.Meld.meld alone (local old (view_of g.P.Packed.pack (g.W.Words.name c.args.words.now) before)) c.args.doing.now (local c.args.self.now (view_of g.P.Packed.pack (g.W.Words.name c.args.words.now) stood))
     → Waits alone stood (g.W.Words.sight c.args.pass.now)
-    → NextIs g.P.Meld.meld alone c.doing.inside.asked (local old (view_of g.P.Packed.pack (g.W.Words.name c.args.words.now) before)) c.go.result c.go.new.group.items (local c.go.new.self (view_of g.P.Packed.pack (g.W.Words.name c.args.words.now) (g.W.Words.sight c.go.new.pass)))
+    → NextIs g.P.Meld.meld alone c.doing.inside.asked (local old (view_of g.P.Packed.pack (g.W.Words.name c.args.words.now) before)) c.go.result c.go.new.prepared (local c.go.new.self (view_of g.P.Packed.pack (g.W.Words.name c.args.words.now) (g.W.Words.sight c.go.new.pass)))
 turned g c alone only old before stood u waits =
     let name = over g.P.Packed.pack (g.W.Words.name c.args.words.now) in
     let now = g.W.Words.sight c.args.pass.now in
@@ -47,7 +47,7 @@ turned g c alone only old before stood u waits =
 pub returns-in-Goes-clause-stands : goal.returns-in-Goes-clause-stands
 returns-in-Goes-clause-stands g c =
     λ alone only old before stood u waits.
-    subst (λ next. NextIs g.P.Meld.meld alone c.doing.inside.asked (local old (view_of g.P.Packed.pack (g.W.Words.name c.args.words.now) before)) next c.go.new.group.items (local c.go.new.self (view_of g.P.Packed.pack (g.W.Words.name c.args.words.now) (g.W.Words.sight c.go.new.pass)))) c.in-Goes.is
+    subst (λ next. NextIs g.P.Meld.meld alone c.doing.inside.asked (local old (view_of g.P.Packed.pack (g.W.Words.name c.args.words.now) before)) next c.go.new.prepared (local c.go.new.self (view_of g.P.Packed.pack (g.W.Words.name c.args.words.now) (g.W.Words.sight c.go.new.pass)))) c.in-Goes.is
     (turned g (goal.at.returns-in-Goes-clause-stands g c).After-go alone only old before stood u waits)
 
 pub returns-in-Ends-clause-stands : goal.returns-in-Ends-clause-stands
@@ -57,7 +57,7 @@ returns-in-Ends-clause-stands g c =
     let after = g.W.Words.sight c.go.new.pass in
     subst (λ (a : Call g.row.P.Denot). Answered g.P.Meld.meld alone a (local old (view_at name before)) c.in-Ends.reply (local c.go.new.self (view_at name after)))
     (ap (λ (doing : UnderWay g.row.P.Denot). doing.asked) c.doing.view_is)
-    (subst (λ next. NextIs g.P.Meld.meld alone c.doing.inside.asked (local old (view_at name before)) next c.go.new.group.items (local c.go.new.self (view_at name after))) c.in-Ends.is
+    (subst (λ next. NextIs g.P.Meld.meld alone c.doing.inside.asked (local old (view_at name before)) next c.go.new.prepared (local c.go.new.self (view_at name after))) c.in-Ends.is
     (turned g (goal.at.returns-in-Ends-clause-stands g c).After-go alone only old before stood u waits))
 
 -- what the step did

@@ -66,11 +66,11 @@ returns-clause-pends g c =
     let goes = c.load_missing.ensures.goes in
     let further = c.load_missing.ensures.loads c.if-not-load_missing.false in
     let missing = c.load_missing.ensures.missing c.if-not-load_missing.false in
-    λ group.
-    subst (λ (w : Record). Turns g.P.Meld.meld g.W.Words.alone (under_way asked c.args.phase.now group) (local own (view_at name now)) (Ends Pending) group (local w (view_at name after)))
+    λ prepared.
+    subst (λ (w : Record). Turns g.P.Meld.meld g.W.Words.alone (under_way asked c.args.phase.now prepared) (local own (view_at name now)) (Ends Pending) prepared (local w (view_at name after)))
     (sym (c.await_at.ensures ∙ c.take_awaited.ensures))
-    (subst (λ (phase : Phase g.row.P.Denot). Turns g.P.Meld.meld g.W.Words.alone (under_way asked phase group) (local own (view_at name now)) (Ends Pending) group (local own (view_at name after)))
+    (subst (λ (phase : Phase g.row.P.Denot). Turns g.P.Meld.meld g.W.Words.alone (under_way asked phase prepared) (local own (view_at name now)) (Ends Pending) prepared (local own (view_at name after)))
     (sym c.in-Reading.is)
     (λ alone only old before stands.
-    reading_pends g.P.Meld.meld name asked reading c.in-Reading.shrinks group own now c.held_comm-x.result.now c.comm_of.result (held g at) c.comm_of.ensures c.deref.result.now (members g at)
+    reading_pends g.P.Meld.meld name asked reading c.in-Reading.shrinks prepared own now c.held_comm-x.result.now c.comm_of.result (held g at) c.comm_of.ensures c.deref.result.now (members g at)
     alone old before stands g.W.Words.alone only after goes.of goes.did goes.onward reading refl refl further missing))
