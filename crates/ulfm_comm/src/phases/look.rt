@@ -116,6 +116,7 @@ impl<P: Packed, A: Allocator> LocalState<P, A> {
     }
 
     // What comes next where the record doesn't refuse the call.
+    #[inline(always)]
     pub(crate) fn passed<W: Words<P, A>>(
         &mut self,
         words: &W,

@@ -4,7 +4,7 @@ ghost use Rattle.std.specs.Prelude.{ℕ, ◌≡◌, ◌<◌, false, length};
 ghost use Rattle.ulfm_model.specs.declared.call.Call.TheVariants.{Poll as PollAsked};
 ghost use Rattle.ulfm_words.specs.Steps.{view_of, IsView};
 ghost use Rattle.ulfm_comm.specs.{Look.{Passes}, Phase.{StillStands, is_looking, under_way}, Step.{HasJustLooked, RunsBehind, RunsOn, RunsThrough}};
-ghost use Rattle.ulfm_comm.specs.declared.phases.phase.Phase.TheVariants.{Begun as AtBegun, Looking as AtLooking, Peeking as AtPeeking, Spreading as AtSpreading};
+ghost use Rattle.ulfm_comm.specs.declared.phases.phase.Phase.TheVariants.{Asking as AtAsking, Begun as AtBegun, Looking as AtLooking, Peeking as AtPeeking, Spreading as AtSpreading};
 ghost use Rattle.ulfm_comm.specs.{Local.{local}, Prepared.{unprepared}};
 
 use crate::phases::look::agreement;
@@ -131,10 +131,29 @@ impl<P: Packed, A: Allocator + Copy> LocalState<P, A> {
             (local self.new (view_of P.pack (W.name words.now) (W.sight pass.new))) }
     {
         match self.passed(words, pass, asked) {
-            Next::Goes(phase) => {
-                let prepared = NewComm::new(self.allocator());
-                self.run_on(words, pass, asked, phase, prepared)
-            }
+            Next::Goes(phase) => self.run_from(words, pass, asked, phase),
+            Next::Ends(reply) => reply,
+        }
+    }
+
+    // The load of the communicator's word of revocation, by which a call asks for it alone. The phase is known here, so that none is handed on.
+    #[inline(always)]
+    fn run_asking<W: Words<P, A>>(
+        &mut self,
+        words: &W,
+        pass: &mut W::Pass,
+        asked: &Call<P>,
+    ) -> Reply<P>
+        requires of { IsView P.meld (view_of P.pack (W.name words.now) (W.sight pass.old)) }
+        requires stands { StillStands P.meld (under_way asked.now AtAsking unprepared)
+            (local self.old (view_of P.pack (W.name words.now) (W.sight pass.old))) }
+        ensures { RunsOn P.meld W.alone (under_way asked.now AtAsking unprepared)
+            (local self.old (view_of P.pack (W.name words.now) (W.sight pass.old))) result
+            (local self.new (view_of P.pack (W.name words.now) (W.sight pass.new))) }
+    {
+        let mut prepared = NewComm::new(self.allocator());
+        match self.go(words, pass, asked, Phase::Asking, &mut prepared, true) {
+            Next::Goes(more) => self.run_on(words, pass, asked, more, prepared),
             Next::Ends(reply) => reply,
         }
     }
@@ -157,14 +176,14 @@ impl<P: Packed, A: Allocator + Copy> LocalState<P, A> {
             (local self.new (view_of P.pack (W.name words.now) (W.sight pass.new))) }
     {
         match self.go_spreading(words, pass, asked, request, offer) {
-            Next::Goes(next) => self.run_spread(words, pass, asked, next),
+            Next::Goes(next) => self.run_from(words, pass, asked, next),
             Next::Ends(reply) => reply,
         }
     }
 
-    // What comes behind the first of them: the second.
+    // What comes behind a look, or behind the first of two exchanges: the last step of a frequent call at once, or whatever else.
     #[inline(always)]
-    fn run_spread<W: Words<P, A>>(
+    fn run_from<W: Words<P, A>>(
         &mut self,
         words: &W,
         pass: &mut W::Pass,
@@ -181,6 +200,7 @@ impl<P: Packed, A: Allocator + Copy> LocalState<P, A> {
             Phase::Settling { request, offer } => {
                 self.go_settling(words, pass, asked, request, offer)
             }
+            Phase::Asking => self.run_asking(words, pass, asked),
             _ => {
                 let prepared = NewComm::new(self.allocator());
                 self.run_on(words, pass, asked, phase, prepared)

@@ -3,7 +3,7 @@ use Rattle.ulfm_words.specs.Steps.{over, view_at}
 use Rattle.ulfm_comm.specs.{Local.{local}, Phase.{under_way}, Step.{TakesTurn, coming}}
 use Rattle.ulfm_comm.specs.declared.phases.phase.Next.TheVariants.{Ends}
 use Rattle.ulfm_comm.proofs.Runs.{turn_ends}
-use Rattle.ulfm_comm.proofs.rank.LocalState.run_spread.Goals as goal
+use Rattle.ulfm_comm.proofs.rank.LocalState.run_from.Goals as goal
 use Rattle.ulfm_comm.specs.Prepared.{unprepared}
 
 pub returns-in-Settling : goal.returns-in-Settling
@@ -17,3 +17,6 @@ returns-in-Settling g c =
     turn_ends g.P.Meld.meld g.W.Words.alone true name asked c.args.phase unprepared own start c.requires.past c.requires.stands unprepared c.go_settling.result new after
     (subst (λ phase. TakesTurn g.P.Meld.meld g.W.Words.alone true (under_way asked phase unprepared) (local own (view_at name start)) (coming (Ends c.go_settling.result) unprepared) (local new (view_at name after)))
     (sym c.in-Settling.is) (c.go_settling.ensures.turn unprepared true))
+
+pub returns-in-Asking : goal.returns-in-Asking
+returns-in-Asking g c = rw c.in-Asking.is c.run_asking.ensures
