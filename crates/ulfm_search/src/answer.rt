@@ -5,19 +5,15 @@ ghost use Rattle.ulfm_model.specs.Words.{MayOpen};
 ghost use Rattle.ulfm_observed.specs.Refuted.{IsRefuted};
 ghost use Rattle.ulfm_search.specs.Answers.{Answers, AnswersLog, SaysNothing, rests_on};
 
-use crate::certain::{Hint, hint_of};
-use crate::reading::read_log;
-use crate::records::study_log;
 use crate::reducing::reduce;
 use crate::search::{Outcome, cost_of, search};
-use crate::study::Study;
-use crate::tables::{NONE, at, put};
 use crate::telling::{choose_cycle, say_lines, say_why};
-use crate::why::Why;
 use std::alloc::{AllocError, Allocator};
+use ulfm_graph::tables::{NONE, at, put};
 use ulfm_model::Limits;
 use ulfm_observed::{Log, LogLine, Step, confirm, print_log, refutes};
 use ulfm_script::{LastGroup, LineKind, RunFault};
+use ulfm_study::{Hint, Study, Why, hint_of, read_log, study_log};
 
 /// How much a search may cost, in nodes: some seconds.
 pub const BUDGET: u64 = 20_000_000;
@@ -30,12 +26,14 @@ const NOTHING: &[u8] = b"not explained: ";
 pub enum Answer<A: Allocator> {
     /// These lines are a legal trace that explains it.
     Explained {
+        /// How large its world is.
         limits: Limits,
+        /// The lines of the trace behind its header.
         steps: Vec<Step<A>, A>,
     },
-    /// No trace explains it, as the search found: `not explained: ` and why, lines that can't stand together, and on what that rests,
-    /// each line with its newline.
+    /// No trace explains it, as the search found.
     Nothing {
+        /// The text: `not explained: ` and why, lines that can't stand together, and on what that rests, each line with its newline.
         why: Vec<u8, A>,
         /// Whether it is proved that no trace explains it.
         proved: bool,
@@ -165,12 +163,16 @@ fn is_text<A: Allocator + Copy, B: Allocator>(
 /// What a search gave.
 #[derive(Drop)]
 enum Sought<A: Allocator> {
+    /// The lines of a trace, which is to be confirmed.
     Found(Vec<Step<A>, A>),
-    /// Why there is none, and whose lines may show it.
+    /// There is none.
     Nothing {
+        /// Why, in words, and the lines that can't stand together, each line with its newline.
         reason: Vec<u8, A>,
+        /// Whose lines may show it, if some may.
         hint: Option<Hint>,
     },
+    /// The budget was used up, or the end of a rank's lines was lost.
     GivenUp,
 }
 

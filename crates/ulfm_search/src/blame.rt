@@ -1,10 +1,8 @@
 //! Which of the choices a circle rests on: where it rests on none of the last ones, other ways of those are of no use.
 use crate::choice::{Choice, Fork, rank_at};
-use crate::deals::Deals;
-use crate::plan::Plan;
-use crate::study::Study;
-use crate::tables::{NONE, at, put};
 use std::alloc::{AllocError, Allocator};
+use ulfm_graph::tables::{NONE, at, put};
+use ulfm_study::{Deals, Plan, Study};
 
 /// How many of the choices a circle needs: up to the last one that put an edge of it in.
 pub(crate) fn needed<A: Allocator + Copy>(

@@ -1,11 +1,10 @@
 //! What of the log a written trace breaks: the forks of which it took no way.
-use crate::acts::{Act, Kind, Standing};
 use crate::choice::Fork;
-use crate::deals::tells_end;
-use crate::tables::{NONE, at, least, number, small};
 use crate::witness::{Source, Writer};
 use std::alloc::Allocator;
+use ulfm_graph::tables::{NONE, at, least, number, small};
 use ulfm_model::Refusal;
+use ulfm_study::{Act, Kind, Standing, tells_end};
 
 /// The first fork of which the written trace took no way.
 pub(crate) fn broken<A: Allocator + Copy, B: Allocator>(

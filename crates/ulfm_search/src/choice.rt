@@ -3,28 +3,68 @@
 /// Something of which one way has to hold.
 #[derive(Clone, Copy)]
 pub(crate) enum Fork {
-    /// An open start of a decided round: whether it took effect; and whether that is tried first.
-    Open { act: u32, counted: bool },
+    /// An open start of a decided round: whether it took effect.
+    Open {
+        /// The start: its place among the calls.
+        act: u32,
+        /// Whether that it took effect is tried first.
+        counted: bool,
+    },
     /// Who revoked a communicator, where nobody was told that it did: a call of it that is open, or was refused since its rank was declared.
-    Revoker { comm: u16 },
+    Revoker {
+        /// The number of the communicator.
+        comm: u16,
+    },
     /// Which round made a communicator that nobody was told of.
-    Maker { comm: u16 },
-    /// Who knew the last failure of a round's group: a contributor, or it was a rank that is left out. The rank that is tried first.
-    Knew { round: u32, count: u32, first: u16 },
-    /// Who of a round had to be missing where a poll was pending, and the rank that is tried first.
-    Missing { act: u32, first: u16 },
-    /// Whose arrival was missing, and seen failed, where a barrier's poll told of a failure; and the rank that is tried first.
-    Failed { act: u32, first: u16 },
-    /// Whose arrival was missing where a barrier's poll was pending, and the rank that is tried first.
-    Absent { act: u32, first: u16 },
+    Maker {
+        /// The number of the communicator.
+        comm: u16,
+    },
+    /// Who knew the last failure of a round's group: a contributor, or it was a rank that is left out.
+    Knew {
+        /// The round: its place among those of agreement.
+        round: u32,
+        /// The place of that failure in the line of failures, from 1.
+        count: u32,
+        /// The rank that is tried first.
+        first: u16,
+    },
+    /// Who of a round had to be missing where a poll was pending.
+    Missing {
+        /// The poll, or the start that its reply answered: its place among the calls.
+        act: u32,
+        /// The rank that is tried first.
+        first: u16,
+    },
+    /// Whose arrival was missing, and seen failed, where a barrier's poll told of a failure.
+    Failed {
+        /// The poll, or the start that its reply answered: its place among the calls.
+        act: u32,
+        /// The rank that is tried first.
+        first: u16,
+    },
+    /// Whose arrival was missing where a barrier's poll was pending.
+    Absent {
+        /// The poll: its place among the calls.
+        act: u32,
+        /// The rank that is tried first.
+        first: u16,
+    },
     /// A member whose arrival may not have been missing there, since it was seen failed; or that wasn't seen failed.
-    Seen { act: u32, rank: u16 },
+    Seen {
+        /// The poll: its place among the calls.
+        act: u32,
+        /// The member.
+        rank: u16,
+    },
 }
 
 /// One way of a fork, by its number.
 #[derive(Clone, Copy)]
 pub(crate) struct Choice {
+    /// Of what the way is one.
     pub(crate) fork: Fork,
+    /// The number of the way, from 0: a call's place, a round's place, how many ranks behind the one that is tried first, or which of two.
     pub(crate) way: u32,
 }
 

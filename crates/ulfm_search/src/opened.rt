@@ -1,14 +1,12 @@
 //! What is open from the start: starts that have no reply, revocations that nobody owns, and communicators that nobody was told of.
-use crate::acts::{Act, Kind, Standing};
 use crate::choice::Fork;
-use crate::deals::{Deal, Deals};
-use crate::rules::{tells_own, tells_revoked};
 use crate::solve::top;
-use crate::study::Study;
-use crate::tables::{NONE, at, greatest, number, put, small};
 use std::alloc::{AllocError, Allocator};
+use ulfm_graph::tables::{NONE, at, greatest, number, put, small};
 use ulfm_model::Reply;
 use ulfm_observed::Seen;
+use ulfm_study::rules::{tells_own, tells_revoked};
+use ulfm_study::{Act, Deal, Deals, Kind, Standing, Study};
 
 /// The forks that are open from the start, of which each has a way.
 pub(crate) fn opened<A: Allocator + Copy>(study: &Study<A>) -> Result<Vec<Fork, A>, AllocError> {

@@ -1,13 +1,9 @@
 //! Which replies can't stand together: replies are left out of a log that isn't explained, as long as it isn't.
-use crate::acts::Act;
-use crate::deals::Deals;
-use crate::plan::{Part, Plan};
 use crate::search::{Outcome, search};
-use crate::study::Study;
-use crate::tables::{NONE, at, number, put};
-use crate::why::Why;
 use std::alloc::{AllocError, Allocator};
+use ulfm_graph::tables::{NONE, at, number, put};
 use ulfm_observed::LogLine;
+use ulfm_study::{Act, Deals, Part, Plan, Study, Why};
 
 /// Whether a log isn't explained, as its replies are muted now.
 fn fails<A: Allocator + Copy, B: Allocator>(

@@ -2,12 +2,11 @@
 use crate::choice::{Choice, Fork};
 use crate::opened::opened;
 use crate::solve::{Judgement, judge};
-use crate::study::Study;
-use crate::tables::{at, put};
 use crate::ways::next_way;
-use crate::why::Why;
 use std::alloc::{AllocError, Allocator};
+use ulfm_graph::tables::{at, put};
 use ulfm_observed::{LogLine, Step};
+use ulfm_study::{Study, Why};
 
 /// How a search ended.
 #[derive(Drop)]

@@ -1,19 +1,14 @@
 //! One judgement: what was chosen, and whether an order and a trace come of it.
-use crate::acts::Standing;
 use crate::blame::needed;
 use crate::broken::broken;
 use crate::choice::{Choice, Fork};
-use crate::deals::Deals;
-use crate::plan::Plan;
-use crate::study::Study;
-use crate::tables::{NONE, at, count_up, greatest, number, put, small};
 use crate::ways::choose;
-use crate::why::Why;
 use crate::witness::{Source, Writer, write};
-use crate::{places, rules};
 use std::alloc::{AllocError, Allocator};
+use ulfm_graph::tables::{NONE, at, count_up, greatest, number, put, small};
 use ulfm_model::Refusal;
 use ulfm_observed::LogLine;
+use ulfm_study::{Deals, Plan, Standing, Study, Why, places, rules};
 
 /// What came of a judgement.
 #[derive(Drop)]
@@ -29,9 +24,13 @@ pub(crate) enum Judgement<A: Allocator> {
 /// What is decided and made, with these choices.
 #[derive(Drop)]
 pub(crate) struct Settled<A: Allocator> {
+    /// What is known of each round.
     pub(crate) deals: Deals<A>,
+    /// For each communicator the call that revoked it: its place among the calls; `NONE` where none is chosen or told.
     pub(crate) revokers: Vec<u32, A>,
+    /// For each communicator the round that made it: its place among those of agreement; `NONE` where none is chosen or told.
     pub(crate) makers: Vec<u32, A>,
+    /// The greatest number of a communicator that must have been made.
     pub(crate) top: u32,
 }
 

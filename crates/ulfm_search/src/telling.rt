@@ -1,15 +1,10 @@
 //! Why no trace explains a log, in words, with the lines that can't stand together.
-use crate::acts::Act;
-use crate::deals::Deals;
-use crate::plan::{Part, Plan};
-use crate::records::Ban;
-use crate::study::Study;
-use crate::tables::{NONE, number};
-use crate::why::Why;
 use std::alloc::{AllocError, Allocator};
+use ulfm_graph::tables::{NONE, at, number, put};
 use ulfm_laws::FlagAnd;
 use ulfm_observed::{LogLine, Seen};
 use ulfm_script::{flag_digits, print_number, print_point};
+use ulfm_study::{Act, Ban, Deals, Part, Plan, Study, Why};
 
 /// Appends a text.
 fn say<A: Allocator>(text: &mut Vec<u8, A>, words: &str) -> Result<(), AllocError> {
@@ -265,7 +260,7 @@ fn say_cycle<A: Allocator + Copy>(
             turned.wrapping_sub(cycle.len())
         };
         say(text, words)?;
-        say_node(text, study, &plan, crate::tables::at(cycle, place))?;
+        say_node(text, study, &plan, at(cycle, place))?;
         words = "; ";
     }
     if tells_failure(&plan, cycle) {
@@ -348,7 +343,7 @@ pub(crate) fn say_lines<A: Allocator + Copy, B: Allocator>(
 ) -> Result<(), AllocError> {
     let mut last = ulfm_script::LastGroup::new(alloc);
     for (i, line) in lines.iter().enumerate() {
-        if crate::tables::at(chosen, i) == 1 {
+        if at(chosen, i) == 1 {
             say_number(text, "  line ", line_number(number(i)))?;
             say(text, ": ")?;
             ulfm_observed::printing::print_item(text, &mut last, &line.item, &line.group)?;
@@ -367,7 +362,7 @@ pub(crate) fn choose_cycle<A: Allocator + Copy>(
     let plan = Plan::new(study)?;
     for node in cycle {
         if let Part::Line(line) = plan.part(*node) {
-            crate::tables::put(chosen, line as usize, 1);
+            put(chosen, line as usize, 1);
         }
     }
     Ok(())

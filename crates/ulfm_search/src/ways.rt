@@ -1,11 +1,8 @@
 //! The ways of each fork, and what each asks of an order.
-use crate::acts::{Kind, Standing};
 use crate::choice::{Choice, Fork, rank_at};
-use crate::deals::Deals;
-use crate::plan::Plan;
-use crate::study::Study;
-use crate::tables::{NONE, number, small};
 use std::alloc::{AllocError, Allocator};
+use ulfm_graph::tables::{NONE, number, small};
+use ulfm_study::{Deals, Kind, Plan, Standing, Study};
 
 /// Puts in what a choice asks; false where it can't be.
 pub(crate) fn choose<A: Allocator + Copy>(

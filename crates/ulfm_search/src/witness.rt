@@ -1,39 +1,44 @@
 //! The trace that an order of nodes is, and what of the log it breaks.
-use crate::acts::{Act, Kind, Standing};
-use crate::deals::{Deals, tells_end};
-use crate::plan::{Part, Plan};
-use crate::study::Study;
-use crate::tables::{NONE, at, bits_at, greatest, least, number, put, put_bits, small};
 use std::alloc::{AllocError, Allocator};
+use ulfm_graph::tables::{NONE, at, bits_at, greatest, least, number, put, put_bits, small};
 use ulfm_laws::counts::{Acked, Known};
 use ulfm_laws::{CtxMask, FlagAnd};
 use ulfm_model::contribution::{Contribution, MarkCount, Offer};
 use ulfm_model::event::{Caller, Event};
 use ulfm_model::{Call, Line, Refusal, Reply};
 use ulfm_observed::{Item, LogLine, Seen, Step};
+use ulfm_study::{Act, Deals, Kind, Part, Plan, Standing, Study, tells_end};
 
 /// What is written of a trace.
 #[derive(Drop)]
 pub(crate) struct Writer<A: Allocator> {
+    /// Where lines are allocated.
     alloc: A,
+    /// The lines, behind the header.
     pub(crate) steps: Vec<Step<A>, A>,
-    /// How many events there were, and how many failures.
+    /// How many events there were.
     events: u32,
+    /// How many of them were failures.
     failures: u32,
-    /// For each call how many events there were when it began, and how many failures its look found.
+    /// For each call how many events there were when it began, or when the poll began that ends it.
     begun: Vec<u32, A>,
+    /// For each call how many failures its last look found.
     looked: Vec<u32, A>,
-    /// How many events there were at a barrier's point.
+    /// For each call how many events there were at its look, or at its barrier's point.
     pointed: Vec<u32, A>,
-    /// For each rank the context ids that it doesn't hold; for each communicator its id.
+    /// For each rank the context ids that it doesn't hold: a bit for each.
     free: Vec<u64, A>,
+    /// For each communicator its context id; `NONE` where it isn't made yet.
     contexts: Vec<u32, A>,
-    /// For each round the value, the size of its failed group, whether it has an error, and the ids free at all.
+    /// For each round of agreement the flags of its contributors, under AND.
     value: Vec<u64, A>,
+    /// For each round of agreement the most failures of its communicator that a contributor or a mark knew: the size of its failed group.
     pub(crate) known: Vec<u32, A>,
+    /// For each round of agreement the fewest failures that a contributor had acknowledged; `NONE` where nobody contributed.
     acked: Vec<u32, A>,
+    /// For each round of agreement the context ids that are free at all its contributors: a bit for each.
     mask: Vec<u64, A>,
-    /// The call whose reply tells another context id, if there is one.
+    /// The call whose reply tells another context id: its place among the calls; `NONE` where there is none.
     pub(crate) wrong: u32,
 }
 
@@ -120,12 +125,17 @@ fn contribution_of(offer: Offer<FlagAnd>, known: u32, acked: u16) -> Contributio
 /// What a trace is written from.
 #[derive(Drop)]
 pub(crate) struct Source<'a, A: Allocator, B: Allocator> {
+    /// What is known of the log.
     pub(crate) study: &'a Study<A>,
+    /// The order of its nodes.
     pub(crate) plan: &'a Plan<A>,
+    /// What is known of each round.
     pub(crate) deals: &'a Deals<A>,
+    /// The lines of the log, behind its header.
     pub(crate) lines: &'a [LogLine<B>],
-    /// The call that revoked each communicator, and the round that made each.
+    /// For each communicator the call that revoked it: its place among the calls; `NONE` where none did.
     pub(crate) revokers: &'a [u32],
+    /// For each communicator the round that made it: its place among those of agreement; `NONE` where none did.
     pub(crate) makers: &'a [u32],
 }
 

@@ -1,14 +1,14 @@
 //! Who stands where in the line of failures.
 use crate::plan::Plan;
 use crate::study::Study;
-use crate::tables::{NONE, add_bits, at, bits_at, least, number, put, small};
 use crate::why::Why;
 use std::alloc::{AllocError, Allocator};
+use ulfm_graph::tables::{NONE, add_bits, at, bits_at, least, number, put, small};
 
 /// Puts every rank that must have failed at a place in the line of failures, and others where there must be more; why not, if it can't be.
 ///
 /// What is known of each is a window of places, and who comes before whom. Then the earliest deadline comes first. The nodes have an order.
-pub(crate) fn put_places<A: Allocator + Copy>(
+pub fn put_places<A: Allocator + Copy>(
     plan: &mut Plan<A>,
     study: &Study<A>,
 ) -> Result<Option<Why>, AllocError> {
@@ -229,7 +229,7 @@ fn empty<A: Allocator + Copy>(plan: &Plan<A>, study: &Study<A>, rank: usize) -> 
 }
 
 /// The line of a node: its own, or that of its call.
-pub(crate) fn line_of<A: Allocator + Copy>(plan: &Plan<A>, study: &Study<A>, node: u32) -> u32 {
+fn line_of<A: Allocator + Copy>(plan: &Plan<A>, study: &Study<A>, node: u32) -> u32 {
     match plan.part(node) {
         crate::plan::Part::Line(line) => line,
         crate::plan::Part::Look(act)
@@ -332,7 +332,7 @@ fn unplaced<A: Allocator + Copy>(plan: &Plan<A>, study: &Study<A>) -> u64 {
 }
 
 /// Puts in where each rank stands, and orders the nodes: failures as early as they may come. False where there is a cycle.
-pub(crate) fn order<A: Allocator + Copy>(
+pub fn order<A: Allocator + Copy>(
     plan: &mut Plan<A>,
     study: &Study<A>,
 ) -> Result<bool, AllocError> {

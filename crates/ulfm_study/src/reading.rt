@@ -40,7 +40,7 @@ fn take_line(text: &[u8], number: u32) -> Result<(&[u8], &[u8]), RunFault> {
 }
 
 /// The log that a text is.
-pub(crate) fn read_log<A: Allocator + Copy>(alloc: A, text: &[u8]) -> Result<Log<A>, RunFault> {
+pub fn read_log<A: Allocator + Copy>(alloc: A, text: &[u8]) -> Result<Log<A>, RunFault> {
     if text.is_empty() {
         let kind = LineKind::Header;
         return Err(RunFault::Line { number: 1, kind });
@@ -233,7 +233,9 @@ fn read_replied<A: Allocator + Copy>(
 /// Which of a reply's words are stars: the second, and the fourth.
 #[derive(Clone, Copy)]
 struct Stars {
+    /// Whether the second is one: a value that wasn't logged.
     second: bool,
+    /// Whether the fourth is one: a count or a context id that wasn't logged.
     fourth: bool,
 }
 

@@ -7,14 +7,17 @@ use ulfm_observed::Seen;
 
 /// Two ranks and a round of the world's communicator, of which their lines may tell what can't stand together.
 #[derive(Clone, Copy)]
-pub(crate) struct Hint {
-    pub(crate) one: u16,
-    pub(crate) other: u16,
-    pub(crate) round: u16,
+pub struct Hint {
+    /// The rank that was told something.
+    pub one: u16,
+    /// The rank that was told otherwise, or whose flag lacks a bit of what was told.
+    pub other: u16,
+    /// The number of the round on the world's communicator, from 0.
+    pub round: u16,
 }
 
 /// Whose lines may show a reason: two ranks that were told two decisions, or one and a contributor whose flag lacks a bit of its value.
-pub(crate) fn hint_of<A: Allocator + Copy>(study: &Study<A>, why: Why) -> Option<Hint> {
+pub fn hint_of<A: Allocator + Copy>(study: &Study<A>, why: Why) -> Option<Hint> {
     match why {
         Why::TwoDecisions { one, other } => pair_of(study, one, other),
         Why::Value { act } => lacking_one(study, act),

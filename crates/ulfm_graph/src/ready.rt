@@ -5,7 +5,9 @@ use std::alloc::{AllocError, Allocator};
 /// Nodes in the order in which they came, each taken once.
 #[derive(Drop)]
 struct Queue<A: Allocator> {
+    /// All that came, in their order.
     nodes: Vec<u32, A>,
+    /// How many of them were taken: the first ones.
     taken: usize,
 }
 
@@ -31,9 +33,13 @@ impl<A: Allocator + Copy> Queue<A> {
 /// The nodes that may be taken next, and for each other one how many have to be taken before it.
 #[derive(Drop)]
 pub(crate) struct Ready<A: Allocator> {
+    /// For each node how many have yet to be taken before it.
     left: Vec<u32, A>,
+    /// Those of class 0, which are taken before all others.
     low: Queue<A>,
+    /// Those of class 1.
     middle: Queue<A>,
+    /// Those of class 2 or more, which are taken last.
     high: Queue<A>,
 }
 

@@ -1,23 +1,30 @@
 //! What a log says of its calls, its rounds and its communicators, before any search.
 use crate::acts::{Act, Kind};
-use crate::tables::{NONE, at, number, put};
 use std::alloc::{AllocError, Allocator};
+use ulfm_graph::tables::{NONE, at, number, put};
 use ulfm_model::Limits;
 
 /// A round: its communicator, and its number there.
 #[derive(Clone, Copy)]
-pub(crate) struct Round {
-    pub(crate) comm: u16,
-    pub(crate) round: u16,
+pub struct Round {
+    /// The number of its communicator.
+    pub comm: u16,
+    /// Its number there, from 0.
+    pub round: u16,
 }
 
 /// The rounds of one sort that were begun, and who began each.
 #[derive(Drop)]
-pub(crate) struct Rounds<A: Allocator> {
+pub struct Rounds<A: Allocator> {
+    /// How many ranks the world has.
     ranks: usize,
+    /// How many rounds a communicator may have.
     rounds: usize,
+    /// For each communicator's rounds their places in the list; `NONE` where one wasn't begun.
     places: Vec<u32, A>,
-    pub(crate) list: Vec<Round, A>,
+    /// The rounds that were begun, in the order of their first starts.
+    pub list: Vec<Round, A>,
+    /// For each round of the list and each rank the call that began it: its place among the calls; `NONE` where none did.
     starts: Vec<u32, A>,
 }
 
@@ -55,7 +62,7 @@ impl<A: Allocator + Copy> Rounds<A> {
     }
 
     /// The call by which a rank began a round; none where it didn't.
-    pub(crate) fn start(&self, place: u32, rank: usize) -> u32 {
+    pub fn start(&self, place: u32, rank: usize) -> u32 {
         at(
             &self.starts,
             (place as usize).wrapping_mul(self.ranks).wrapping_add(rank),
@@ -71,7 +78,7 @@ impl<A: Allocator + Copy> Rounds<A> {
     }
 
     /// The round at a place.
-    pub(crate) fn round(&self, place: usize) -> Round {
+    pub fn round(&self, place: usize) -> Round {
         match self.list.get(place) {
             Some(round) => *round,
             None => Round { comm: 0, round: 0 },
@@ -81,37 +88,50 @@ impl<A: Allocator + Copy> Rounds<A> {
 
 /// What is known of a log.
 #[derive(Drop)]
-pub(crate) struct Study<A: Allocator> {
-    pub(crate) alloc: A,
+pub struct Study<A: Allocator> {
+    /// Where tables are allocated.
+    pub alloc: A,
+    /// How large its world is.
     pub(crate) limits: Limits,
-    pub(crate) ranks: usize,
-    pub(crate) comms: usize,
+    /// How many ranks the world has.
+    pub ranks: usize,
+    /// How many communicators the world may have.
+    pub comms: usize,
     /// How many lines the log has.
-    pub(crate) lines: usize,
-    /// Whether the order of lines is one in time, and whether all declarations are logged.
-    pub(crate) timed: bool,
-    pub(crate) logged: bool,
+    pub lines: usize,
+    /// Whether the order of lines is one in time.
+    pub timed: bool,
+    /// Whether all declarations are logged.
+    pub logged: bool,
     /// Whether the end of some rank's lines was lost.
-    pub(crate) lost: bool,
-    pub(crate) acts: Vec<Act, A>,
-    /// The call of each line; and for each line the one before it of the same caller.
-    pub(crate) act_at: Vec<u32, A>,
+    pub lost: bool,
+    /// The calls, in the order of their lines.
+    pub acts: Vec<Act, A>,
+    /// For each line its call, or the one that it answers: its place among the calls; `NONE` where it has none.
+    pub act_at: Vec<u32, A>,
+    /// For each line the one before it of the same caller, from 0; `NONE` where it is the first, or isn't a caller's.
     pub(crate) before: Vec<u32, A>,
-    pub(crate) agreements: Rounds<A>,
-    pub(crate) barriers: Rounds<A>,
-    /// For each communicator: the round that made it; how many ranks it lacks; the first line that told of it; and, for each rank, whether it has it.
-    pub(crate) made_by: Vec<u32, A>,
+    /// The rounds that agrees and shrinks began.
+    pub agreements: Rounds<A>,
+    /// The rounds that barriers began.
+    pub barriers: Rounds<A>,
+    /// For each communicator the round that made it: its place among those of agreement; `NONE` where nobody was told.
+    pub made_by: Vec<u32, A>,
+    /// For each communicator how many of the world's ranks it lacks; `NONE` where nobody was told of it.
     pub(crate) lacks: Vec<u32, A>,
-    pub(crate) told_at: Vec<u32, A>,
+    /// For each communicator the first line that told of it, from 0; `NONE` where none did.
+    pub told_at: Vec<u32, A>,
+    /// For each communicator and each rank 1 where the rank is a member; else 0.
     pub(crate) members: Vec<u32, A>,
-    /// The communicator that each round of agreement made; none where nobody was told.
+    /// For each round of agreement the number of the communicator that it made; `NONE` where nobody was told.
     pub(crate) makes: Vec<u32, A>,
-    /// The call that was to declare each rank: one that did, or the open one.
-    pub(crate) declared: Vec<u32, A>,
-    /// For each rank whether a reply names it as failed: its place in the line of failures, or 0 where that isn't told.
-    pub(crate) named: Vec<u32, A>,
-    /// Lines whose replies count for nothing, 1 where one does.
-    pub(crate) muted: Vec<u32, A>,
+    /// For each rank the call that declared it, or else the open one: its place among the calls; `NONE` where there is none.
+    pub declared: Vec<u32, A>,
+    /// For each rank its place in the line of failures, from 1, where a reply names it as failed, or 0 where that isn't told; `NONE` where
+    /// none names it.
+    pub named: Vec<u32, A>,
+    /// For each line, 1 where its reply counts for nothing; else 0.
+    pub muted: Vec<u32, A>,
 }
 
 impl<A: Allocator + Copy> Study<A> {
@@ -150,7 +170,7 @@ impl<A: Allocator + Copy> Study<A> {
     }
 
     /// Whether a rank is a member of a communicator.
-    pub(crate) fn is_member(&self, comm: u16, rank: usize) -> bool {
+    pub fn is_member(&self, comm: u16, rank: usize) -> bool {
         rank < self.ranks
             && at(
                 &self.members,
@@ -159,13 +179,13 @@ impl<A: Allocator + Copy> Study<A> {
     }
 
     /// How many ranks a communicator lacks; they are the first failures.
-    pub(crate) fn lacking(&self, comm: u16) -> u32 {
+    pub fn lacking(&self, comm: u16) -> u32 {
         let lacks = at(&self.lacks, comm as usize);
         if lacks == NONE { 0 } else { lacks }
     }
 
     /// The call at a place.
-    pub(crate) fn act(&self, place: u32) -> Option<Act> {
+    pub fn act(&self, place: u32) -> Option<Act> {
         match self.acts.get(place as usize) {
             Some(act) => Some(*act),
             None => None,
@@ -173,17 +193,17 @@ impl<A: Allocator + Copy> Study<A> {
     }
 
     /// Whether the reply to a call counts.
-    pub(crate) fn counts(&self, act: &Act) -> bool {
+    pub fn counts(&self, act: &Act) -> bool {
         act.reply != NONE && at(&self.muted, act.reply as usize) == 0
     }
 
     /// Whether a call polls, or was answered by its poll's reply.
-    pub(crate) fn polls(&self, act: &Act) -> bool {
+    pub fn polls(&self, act: &Act) -> bool {
         act.blocking || act.is(Kind::Poll)
     }
 
     /// What a poll asks for: the kind of its start.
-    pub(crate) fn asked_by(&self, act: &Act) -> Kind {
+    pub fn asked_by(&self, act: &Act) -> Kind {
         match self.act(act.start) {
             Some(start) => start.kind,
             None => act.kind,
@@ -191,7 +211,7 @@ impl<A: Allocator + Copy> Study<A> {
     }
 
     /// The communicator that a round of agreement made.
-    pub(crate) fn made(&self, place: u32) -> u32 {
+    pub fn made(&self, place: u32) -> u32 {
         at(&self.makes, place as usize)
     }
 }

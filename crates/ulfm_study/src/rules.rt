@@ -3,17 +3,14 @@ use crate::acts::{Act, Kind, Standing};
 use crate::deals::{Deals, tells_end};
 use crate::plan::Plan;
 use crate::study::Study;
-use crate::tables::{NONE, at, number, put, small};
 use crate::why::Why;
 use std::alloc::{AllocError, Allocator};
+use ulfm_graph::tables::{NONE, at, number, put, small};
 use ulfm_model::{Refusal, Reply};
 use ulfm_observed::{LogLine, Seen};
 
 /// Puts in what the order of the lines asks.
-pub(crate) fn lines<A: Allocator + Copy>(
-    plan: &mut Plan<A>,
-    study: &Study<A>,
-) -> Result<(), AllocError> {
+pub fn lines<A: Allocator + Copy>(plan: &mut Plan<A>, study: &Study<A>) -> Result<(), AllocError> {
     let mut last = NONE;
     for line in 0..study.lines {
         let node = number(line);
@@ -30,7 +27,7 @@ pub(crate) fn lines<A: Allocator + Copy>(
 }
 
 /// Puts in that failures come one after another.
-pub(crate) fn failures<A: Allocator + Copy>(
+pub fn failures<A: Allocator + Copy>(
     plan: &mut Plan<A>,
     study: &Study<A>,
 ) -> Result<(), AllocError> {
@@ -44,7 +41,7 @@ pub(crate) fn failures<A: Allocator + Copy>(
 }
 
 /// Puts in what each call asks.
-pub(crate) fn calls<A: Allocator + Copy, B: Allocator>(
+pub fn calls<A: Allocator + Copy, B: Allocator>(
     plan: &mut Plan<A>,
     study: &Study<A>,
     deals: &Deals<A>,
@@ -296,7 +293,7 @@ fn all_arrived<A: Allocator + Copy>(
 }
 
 /// The first barrier's poll that was done though a member never began it.
-pub(crate) fn missing<A: Allocator + Copy>(study: &Study<A>) -> Option<Why> {
+pub fn missing<A: Allocator + Copy>(study: &Study<A>) -> Option<Why> {
     for act in &study.acts {
         let done = match act.seen {
             Some(Seen::Whole(Reply::Done)) => true,
@@ -320,7 +317,7 @@ fn lacks_arrival<A: Allocator + Copy>(study: &Study<A>, act: &Act) -> bool {
 }
 
 /// Puts in what each decided round asks.
-pub(crate) fn rounds<A: Allocator + Copy>(
+pub fn rounds<A: Allocator + Copy>(
     plan: &mut Plan<A>,
     study: &Study<A>,
     deals: &Deals<A>,
@@ -377,7 +374,7 @@ fn decided<A: Allocator + Copy>(
 }
 
 /// Puts in that who was told that there is no room isn't in the group that its round decided.
-pub(crate) fn roomless<A: Allocator + Copy>(
+pub fn roomless<A: Allocator + Copy>(
     plan: &mut Plan<A>,
     study: &Study<A>,
     deals: &Deals<A>,
@@ -412,7 +409,7 @@ fn outside_group<A: Allocator + Copy>(
 }
 
 /// Puts in what communicators' members say of the failures, and that communicators are made one after another.
-pub(crate) fn groups<A: Allocator + Copy>(
+pub fn groups<A: Allocator + Copy>(
     plan: &mut Plan<A>,
     study: &Study<A>,
     top: u32,
@@ -446,7 +443,7 @@ fn group<A: Allocator + Copy>(plan: &mut Plan<A>, study: &Study<A>, comm: u16) {
 }
 
 /// Puts in what is told of revocations; who made each that nobody was told of stands in the table. Why not, if it can't be.
-pub(crate) fn revocations<A: Allocator + Copy>(
+pub fn revocations<A: Allocator + Copy>(
     plan: &mut Plan<A>,
     study: &Study<A>,
     makers: &mut [u32],
@@ -520,7 +517,7 @@ fn revoked_by<A: Allocator + Copy>(
 }
 
 /// Whether a reply says that its call revoked.
-pub(crate) fn tells_own(act: &Act) -> bool {
+pub fn tells_own(act: &Act) -> bool {
     match act.seen {
         Some(Seen::Whole(Reply::Revoked)) => true,
         _ => false,
@@ -528,7 +525,7 @@ pub(crate) fn tells_own(act: &Act) -> bool {
 }
 
 /// Whether a reply says that a communicator was revoked.
-pub(crate) fn tells_revoked(act: &Act) -> bool {
+pub fn tells_revoked(act: &Act) -> bool {
     match act.seen {
         Some(
             Seen::Whole(Reply::Revoked | Reply::AlreadyRevoked | Reply::Standing { revoked: true }),

@@ -1,31 +1,35 @@
 //! What was decided of each round: who contributed, what that combines to, and what was told of it.
 use crate::acts::{Act, Kind, Standing};
 use crate::study::Study;
-use crate::tables::{NONE, at, least, number, put};
 use crate::why::Why;
 use std::alloc::{AllocError, Allocator};
+use ulfm_graph::tables::{NONE, at, least, number, put};
 use ulfm_model::{Refusal, Reply};
 use ulfm_observed::Seen;
 
 /// What is known of a round of agreement.
 #[derive(Clone, Copy)]
-pub(crate) struct Deal {
+pub struct Deal {
     /// Whether it was decided.
-    pub(crate) decided: bool,
-    /// The call that told so first, and the one that told the count first.
-    pub(crate) told: u32,
-    pub(crate) counted_by: u32,
-    /// The size of its failed group; none where nothing tells it.
-    pub(crate) count: u32,
-    /// 1 where an error was told, 0 where none was.
-    pub(crate) raised: u32,
-    /// The flags of those who are known to have contributed, combined; and of all that do.
-    pub(crate) sure: u64,
-    pub(crate) value: u64,
-    /// The least that a contributor had acknowledged.
-    pub(crate) acked: u32,
-    pub(crate) agrees: bool,
-    pub(crate) shrinks: bool,
+    pub decided: bool,
+    /// The call that told so first: its place among the calls; `NONE` where none did.
+    pub told: u32,
+    /// The call by which the count is known: its place among the calls; `NONE` where none tells it.
+    pub counted_by: u32,
+    /// The size of its failed group, in ranks; `NONE` where nothing tells it.
+    pub count: u32,
+    /// 1 where an error was told, 0 where it was told that there is none; `NONE` where neither was.
+    pub raised: u32,
+    /// The flags of those who are known to have contributed, under AND.
+    pub sure: u64,
+    /// The flags of all that contribute, under AND.
+    pub value: u64,
+    /// The fewest failures that a contributor had acknowledged; `NONE` where nobody contributed.
+    pub acked: u32,
+    /// Whether some contributor agrees.
+    pub agrees: bool,
+    /// Whether some contributor shrinks.
+    pub shrinks: bool,
 }
 
 impl Deal {
@@ -48,17 +52,18 @@ impl Deal {
 
 /// What is known of all rounds of agreement.
 #[derive(Drop)]
-pub(crate) struct Deals<A: Allocator> {
-    pub(crate) list: Vec<Deal, A>,
-    /// For each call, 1 where it is an open start that took effect.
-    pub(crate) counted: Vec<u32, A>,
-    /// For each round of a barrier, 1 where all arrived.
-    pub(crate) done: Vec<u32, A>,
+pub struct Deals<A: Allocator> {
+    /// What is known of each round, by its place among the rounds of agreement.
+    list: Vec<Deal, A>,
+    /// For each call, 1 where it is an open start that took effect; else 0.
+    pub counted: Vec<u32, A>,
+    /// For each round of a barrier, 1 where all arrived; else 0.
+    pub done: Vec<u32, A>,
 }
 
 impl<A: Allocator + Copy> Deals<A> {
     /// What the replies tell.
-    pub(crate) fn new(study: &Study<A>) -> Result<Deals<A>, AllocError> {
+    pub fn new(study: &Study<A>) -> Result<Deals<A>, AllocError> {
         let alloc = study.alloc;
         let mut deals = Deals {
             list: vec![in alloc; Deal::new(); study.agreements.list.len()]?,
@@ -99,7 +104,7 @@ impl<A: Allocator + Copy> Deals<A> {
     }
 
     /// What is known of a round.
-    pub(crate) fn deal(&self, round: u32) -> Deal {
+    pub fn deal(&self, round: u32) -> Deal {
         match self.list.get(round as usize) {
             Some(deal) => *deal,
             None => Deal::new(),
@@ -107,19 +112,19 @@ impl<A: Allocator + Copy> Deals<A> {
     }
 
     /// Whether a round was decided.
-    pub(crate) fn is_decided(&self, round: u32) -> bool {
+    pub fn is_decided(&self, round: u32) -> bool {
         self.deal(round).decided
     }
 
     /// Takes it that a round was decided, though nobody was told.
-    pub(crate) fn decide(&mut self, round: u32) {
+    pub fn decide(&mut self, round: u32) {
         if let Some(deal) = self.list.get_mut(round as usize) {
             deal.decided = true;
         }
     }
 
     /// The call by which a rank contributed to a round; none where it didn't.
-    pub(crate) fn contribution(&self, study: &Study<A>, round: u32, rank: usize) -> u32 {
+    pub fn contribution(&self, study: &Study<A>, round: u32, rank: usize) -> u32 {
         let start = study.agreements.start(round, rank);
         match study.act(start) {
             Some(act) => {
@@ -134,7 +139,7 @@ impl<A: Allocator + Copy> Deals<A> {
     }
 
     /// The call by which a rank arrived in a barrier's round; none where it didn't.
-    pub(crate) fn arrival(&self, study: &Study<A>, round: u32, rank: usize) -> u32 {
+    pub fn arrival(&self, study: &Study<A>, round: u32, rank: usize) -> u32 {
         let start = study.barriers.start(round, rank);
         match study.act(start) {
             Some(act) => {
@@ -151,7 +156,7 @@ impl<A: Allocator + Copy> Deals<A> {
     }
 
     /// Combines what the contributors of each decided round gave.
-    pub(crate) fn combine_all(&mut self, study: &Study<A>) {
+    pub fn combine_all(&mut self, study: &Study<A>) {
         for round in 0..self.list.len() {
             if self.is_decided(number(round)) {
                 self.combine(study, number(round));
@@ -191,7 +196,7 @@ impl<A: Allocator + Copy> Deals<A> {
     }
 
     /// Why a reply can't be, by what was contributed and told, if it can't.
-    pub(crate) fn fault(&self, study: &Study<A>, act: &Act, place: u32) -> Option<Why> {
+    pub fn fault(&self, study: &Study<A>, act: &Act, place: u32) -> Option<Why> {
         if !study.counts(act) || !tells_end(study, act) || study.asked_by(act) == Kind::Barrier {
             return None;
         }
@@ -245,7 +250,7 @@ impl<A: Allocator + Copy> Deals<A> {
 }
 
 /// Whether a poll was answered by what ends its request, other than by the rank's own failure.
-pub(crate) fn tells_end<A: Allocator + Copy>(study: &Study<A>, act: &Act) -> bool {
+pub fn tells_end<A: Allocator + Copy>(study: &Study<A>, act: &Act) -> bool {
     if act.standing != Standing::Answered || !study.polls(act) {
         return false;
     }

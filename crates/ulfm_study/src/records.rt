@@ -1,8 +1,8 @@
 //! The records of ranks, by their own replies: what of a log they forbid.
 use crate::acts::{Act, Kind, Standing};
 use crate::study::Study;
-use crate::tables::{NONE, at, number, put};
 use std::alloc::{AllocError, Allocator};
+use ulfm_graph::tables::{NONE, at, number, put, small};
 use ulfm_laws::FlagAnd;
 use ulfm_model::call::MOST_FAILURES;
 use ulfm_model::{Call, Caller, Refusal, Reply};
@@ -10,7 +10,7 @@ use ulfm_observed::{Failures, Item, Log, Order, Seen};
 
 /// Why the records alone forbid a line.
 #[derive(Clone, Copy, PartialEq, Eq)]
-pub(crate) enum Ban {
+pub enum Ban {
     /// A call by a caller that has one open.
     Open,
     /// A reply to a caller that has no call open.
@@ -32,20 +32,27 @@ pub(crate) enum Ban {
 /// What each rank holds.
 #[derive(Drop)]
 struct Records<A: Allocator> {
+    /// How many ranks the world has.
     ranks: usize,
+    /// How many communicators the world may have.
     comms: usize,
-    /// For each caller its open call and its last line: the outside's first.
+    /// For each caller, the outside first, its open call: its place among the calls; `NONE` where it has none.
     open: Vec<u32, A>,
+    /// For each caller, the outside first, its last line: its place in the log, from 0; `NONE` where it has none.
     last: Vec<u32, A>,
-    /// For each rank, 1 where it was refused for good.
+    /// For each rank, 1 where it was refused for good; else 0.
     refused: Vec<u32, A>,
-    /// For each rank and communicator: 1 where it is held; what is acknowledged; the next rounds; the open request.
+    /// For each rank's communicator, 1 where the rank holds it; else 0.
     held: Vec<u32, A>,
+    /// For each rank's communicator, how many failures the rank has acknowledged there.
     acked: Vec<u32, A>,
+    /// For each rank's communicator, the number of its next round of agreement, from 0.
     agreement: Vec<u32, A>,
+    /// For each rank's communicator, the number of its next round of a barrier, from 0.
     barrier: Vec<u32, A>,
+    /// For each rank's communicator, the start that isn't answered yet: its place among the calls; `NONE` where there is none.
     request: Vec<u32, A>,
-    /// For each rank, the communicator of its open shrink.
+    /// For each rank, the number of the communicator of its open shrink; `NONE` where it has none.
     shrink: Vec<u32, A>,
 }
 
@@ -128,7 +135,7 @@ fn act_of(asked: &Call<FlagAnd>, line: u32) -> Act {
 }
 
 /// What the log says, or the first line that the records forbid, from 0, and why.
-pub(crate) fn study_log<A: Allocator + Copy, B: Allocator>(
+pub fn study_log<A: Allocator + Copy, B: Allocator>(
     alloc: A,
     log: &Log<B>,
 ) -> Result<(Study<A>, Option<(u32, Ban)>), AllocError> {
@@ -316,7 +323,7 @@ fn take_answer<A: Allocator + Copy>(
     group: &[u16],
 ) -> Result<Option<Ban>, AllocError> {
     let cell = records.cell(act.rank, act.comm);
-    act.acked = crate::tables::small(at(&records.acked, cell));
+    act.acked = small(at(&records.acked, cell));
     match (act.kind, act.seen) {
         (Kind::Get, Some(Seen::Whole(Reply::FailedGroup { .. }))) => {
             name_all(study, act.comm, group);
@@ -442,15 +449,13 @@ fn begin<A: Allocator + Copy>(
     if act.is(Kind::Barrier) {
         let round = at(&records.barrier, cell);
         put(&mut records.barrier, cell, round.wrapping_add(1));
-        act.round = study.barriers.place(act.comm, crate::tables::small(round))?;
+        act.round = study.barriers.place(act.comm, small(round))?;
         study.barriers.begin(act.round, act.rank, place);
         return Ok(());
     }
     let round = at(&records.agreement, cell);
     put(&mut records.agreement, cell, round.wrapping_add(1));
-    act.round = study
-        .agreements
-        .place(act.comm, crate::tables::small(round))?;
+    act.round = study.agreements.place(act.comm, small(round))?;
     study.agreements.begin(act.round, act.rank, place);
     if act.is(Kind::Shrink) {
         put(&mut records.shrink, act.rank as usize, u32::from(act.comm));
@@ -623,7 +628,7 @@ fn open_call<A: Allocator + Copy>(
         return Ok(());
     }
     let cell = records.cell(act.rank, act.comm);
-    act.acked = crate::tables::small(at(&records.acked, cell));
+    act.acked = small(at(&records.acked, cell));
     if act.starts() {
         begin(study, records, act, place, cell)?;
     }
