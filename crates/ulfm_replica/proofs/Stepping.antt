@@ -236,8 +236,8 @@ module _ {P : Type 0} (by : Rules P) (words : Name) (own later : Record) (now af
   own_same : (request : Request) (offer : Offer P) → was.phase ≡ Spreading request offer → later ≡ own
   own_same request offer spread =
       let stands = s.stands false (λ here. absurd (cc here)) may.0 may.1 may.2 may.3 may.4 in
-      let one = stands_own by.meld false (over by.pack words) was.asked may.0 may.1 was.group own may.2 was.phase may.3.at in
-      let two = stands_own by.meld false (over by.pack words) is.asked may.0 may.1 is.group later after is.phase stands.at in
+      let one = stands_own by.meld false (over by.pack words) was.asked may.0 may.1 was.prepared own may.2 was.phase may.3.at in
+      let two = stands_own by.meld false (over by.pack words) is.asked may.0 may.1 is.prepared later after is.phase stands.at in
       let seen : later.seen ≡ own.seen = subst (λ (f : Phase P). StepSees f own.seen later.seen) spread s.stepped.sees in
       two ∙ (ap (λ xs. record may.0 { seen = xs }) seen ∙ sym one)
 

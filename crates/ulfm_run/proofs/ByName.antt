@@ -13,6 +13,7 @@ use Rattle.ulfm_comm.specs.declared.phases.phase.{Phase.{Phase}, Phase.TheVarian
 use Rattle.ulfm_comm.specs.Local.{local}
 use Rattle.ulfm_model.specs.Follows.{step_of}
 use Rattle.ulfm_run.proofs.{ByPhase.{in_look}, Stepped.{did_is}}
+use Rattle.ulfm_comm.specs.Prepared.{Prepared}
 
 -- what stands behind a history is known by it
 pub get_last : {E : Type 0} (xs : List E) (x : E) → slice_get (xs ++ x ∷ []) (length xs) ≡ Some x
@@ -82,10 +83,10 @@ pub look_named : {P : Type 0} (phase : Phase P) → is_looking phase ≡ true �
 look_named {P} = in_look (λ (phase : Phase P). next_step phase ≡ Some step.List) refl refl
 
 -- the event of a step is told by the one that the call makes next, where it says by which
-module _ {P : Type 0} (meld : P → P → P) (name : Named P) (asked : Call P) (old : Record) (before : Sight P) (group : List ℕ) (was : Record) (stood : Sight P) (own : Record) (reply : Option (Reply P)) (x y : History P) (event : Event P)
+module _ {P : Type 0} (meld : P → P → P) (name : Named P) (asked : Call P) (old : Record) (before : Sight P) (prepared : Prepared) (was : Record) (stood : Sight P) (own : Record) (reply : Option (Reply P)) (x y : History P) (event : Event P)
     (added : x ++ record { by = Rank own.number; event = event } ∷ [] ≡ y) (n : StepName) (is : step_of event ≡ Some n) where
   abbrev Here : Phase P → Type 0
-  Here phase = StandsAt meld false asked (local old (view_at name before)) phase group (local was (view_at name stood))
+  Here phase = StandsAt meld false asked (local old (view_at name before)) phase prepared (local was (view_at name stood))
 
   quiet : (phase : Phase P) → Did true [] x y → next_step phase ≡ Some n
   quiet phase did = absurd (none_came (record { by = Rank own.number; event = event }) x y added (did_quiet true x y did refl))

@@ -52,7 +52,7 @@ sits_next name now pass own found doing (inl begun) = has_next doing.phase (λ i
 sits_next name now pass own found doing (inr called) =
     has_next doing.phase
     (λ is.
-    let at = subst (λ phase. StandsAt flag_meld false doing.asked (local called.old (view_at (flag_words name) called.before)) phase doing.group (local own (view_at (flag_words name) called.stood))) is called.stands.at in
+    let at = subst (λ phase. StandsAt flag_meld false doing.asked (local called.old (view_at (flag_words name) called.before)) phase doing.prepared (local own (view_at (flag_words name) called.stood))) is called.stands.at in
     absurd (cc (at.0, called.in_use)))
 
 -- the step that is named is one atomic step

@@ -17,6 +17,7 @@ use Rattle.ulfm_comm.proofs.{Polls.{not_refused}, WholeCall.{held_before}}
 use Rattle.ulfm_comm.specs.Local.{frame, local}
 use Rattle.ulfm_comm.specs.Spawning.{decided_as}
 use Rattle.ulfm_run.proofs.ByPhase.{in_look}
+use Rattle.ulfm_comm.specs.Prepared.{Prepared}
 
 -- a history between two that are one
 pub squeeze : {E : Type 0} (a b c : List E) → IsPrefix a b → IsPrefix b c → a ≡ c → b ≡ c
@@ -49,7 +50,7 @@ poll_passes : (P : Type 0) (old : Record) (c : ℕ) (x : Held) (request : Reques
 poll_passes P old c x request held open_is =
     ap (λ w. refusal_on {P = P} old w (call.Poll old.number c)) held ∙ ap (λ r. first_refusal ((not (is_some r), Idle) ∷ [])) open_is
 
-module _ {P : Type 0} (meld : P → P → P) (name : Named P) (asked : Call P) (old : Record) (before : Sight P) (group : List ℕ) (own : Record) (now : Sight P) (in_use : IsFalse old.refused) where
+module _ {P : Type 0} (meld : P → P → P) (name : Named P) (asked : Call P) (old : Record) (before : Sight P) (prepared : Prepared) (own : Record) (now : Sight P) (in_use : IsFalse old.refused) where
   -- where exactly what the look found was seen
   just_found : (look : History P) → IsPrefix before.seen look → IsPrefix look now.seen → own ≡ record old { seen = failures look } → IsFalse (has (failures look) old.number) → refusal_of old asked ≡ None → Found asked old own before.seen now.seen
   just_found look begins ends record_is not_declared not_refused =
@@ -91,7 +92,7 @@ module _ {P : Type 0} (meld : P → P → P) (name : Named P) (asked : Call P) (
   looked_found : (p : HasLooked (frame meld name.limits false) asked (moment old before.seen) (moment own now.seen)) → Found asked old own before.seen now.seen
   looked_found l = just_found l.look (did_prefix false [] before.seen l.look l.looked.did) (did_prefix false [] l.look now.seen l.waited) l.looked.record_is l.looked.not_declared l.passed
 
-  pub found_by_phase : (phase : Phase P) → is_looking phase ≡ false → StandsAt meld false asked (local old (view_at name before)) phase group (local own (view_at name now)) → Found asked old own before.seen now.seen
+  pub found_by_phase : (phase : Phase P) → is_looking phase ≡ false → StandsAt meld false asked (local old (view_at name before)) phase prepared (local own (view_at name now)) → Found asked old own before.seen now.seen
   found_by_phase Over past p = absurd (cc (p.0, in_use))
   found_by_phase Begun past p = absurd (cc past)
   found_by_phase Looking past p = absurd (cc past)
@@ -109,7 +110,7 @@ module _ {P : Type 0} (meld : P → P → P) (name : Named P) (asked : Call P) (
       let m = p.1.marked in
       polled_found (comm_of asked) m.look p.1.x _ refl p.0 m.looked (prefix_trans m.look m.marked now.seen (did_prefix false (entries_by (Rank old.number) m.marks.own) m.look m.marked m.marks.did) (did_prefix false [] m.marked now.seen m.waited)) m.held m.open_is
   found_by_phase (ReadingOn on made) past p = decided_found made.round made.count made.mask p.1 p.0 p.2
-  found_by_phase (Spawning append context reach) past p = decided_found p.1.round p.1.count p.1.mask p.1.x p.0 p.1.decided
+  found_by_phase (Spawning append context reach) past p = decided_found p.1.0.round p.1.0.count p.1.0.mask p.1.0.x p.0 p.1.0.decided
   found_by_phase (Waiting arrivals) past p =
       let w = p.3 in polled_found (comm_of asked) w.look p.2 _ refl p.0 w.looked (did_prefix false [] w.look now.seen w.waited) w.held w.open_is
   found_by_phase (Checking missing) past p =
@@ -126,6 +127,6 @@ found_all asked old own before now f same =
 pub begins_again : {P : Type 0} (meld : P → P → P) (name : Named P) (old : Record) (before : Sight P) (doing : UnderWay P) (own : Record) (now : Sight P) → is_looking doing.phase ≡ true → Stands meld false (local old (view_at name before)) doing (local own (view_at name now)) → IsView meld (view_at name now) → IsPrefix before.seen now.seen
     → Stands meld false (local old (view_at name now)) doing (local own (view_at name now))
 begins_again {P} meld name old before doing own now looking s of begins =
-    let At : Phase P → Sight P → Type 0 = λ phase start. StandsAt meld false doing.asked (local old (view_at name start)) phase doing.group (local own (view_at name now)) in
+    let At : Phase P → Sight P → Type 0 = λ phase start. StandsAt meld false doing.asked (local old (view_at name start)) phase doing.prepared (local own (view_at name now)) in
     let again = in_look (λ (phase : Phase P). At phase before → At phase now) (λ p. (p.0, p.1, did_none false now.seen)) (λ p. (p.0, p.1, did_none false now.seen, p.3)) doing.phase looking in
     record { fits = fits_stays meld name.limits before.seen now.seen old begins of.legal s.fits; mine = s.mine; onward = omega arith; at = again s.at }

@@ -18,6 +18,7 @@ use Rattle.ulfm_model.specs.Traces.{MayCome, Traced, Under, after, call_by, reco
 use Rattle.ulfm_model.proofs.Callers.{find_change}
 use Rattle.ulfm_run.specs.Stepping.{FoundAt, HasBegun, HasCalled}
 use Rattle.ulfm_run.proofs.{ByPhase.{found_by_check, in_look}, Ending.{ends_so, may_list}, LookedAt.{begins_again, found_all, found_by_phase, squeeze}, Replying.{reply_answers}, Reseen.{reseen}, Turns.{EndsSo, LooksOn}}
+use Rattle.ulfm_comm.specs.Prepared.{Prepared}
 
 -- a look makes no event
 pub no_event : {P : Type 0} (own : Record) (asked : Call P) (phase : Phase P) (reply : Option (Reply P)) (old new : History P) → is_looking phase ≡ true → StepAdds true own asked phase reply old new → new ≡ old
@@ -25,9 +26,9 @@ no_event {P} own asked phase reply old new looking =
     in_look (λ (at : Phase P). StepAdds true own asked at reply old new → new ≡ old) (λ did. did_quiet true old new did refl) (λ did. did_quiet true old new did refl) phase looking
 
 -- in its look, a call's rank has its number
-same_number : {P : Type 0} (meld : P → P → P) (name : Over P) (asked : Call P) (old : Record) (before : Sight P) (group : List ℕ) (own : Record) (now : Sight P) (phase : Phase P) → is_looking phase ≡ true → StandsAt meld false asked (local old (view_at name before)) phase group (local own (view_at name now)) → own.number ≡ old.number
-same_number {P} meld name asked old before group own now =
-    in_look (λ (phase : Phase P). StandsAt meld false asked (local old (view_at name before)) phase group (local own (view_at name now)) → own.number ≡ old.number) (λ p. ap (λ (w : Record). w.number) p.1) (λ p. ap (λ (w : Record). w.number) p.1)
+same_number : {P : Type 0} (meld : P → P → P) (name : Over P) (asked : Call P) (old : Record) (before : Sight P) (prepared : Prepared) (own : Record) (now : Sight P) (phase : Phase P) → is_looking phase ≡ true → StandsAt meld false asked (local old (view_at name before)) phase prepared (local own (view_at name now)) → own.number ≡ old.number
+same_number {P} meld name asked old before prepared own now =
+    in_look (λ (phase : Phase P). StandsAt meld false asked (local old (view_at name before)) phase prepared (local own (view_at name now)) → own.number ≡ old.number) (λ p. ap (λ (w : Record). w.number) p.1) (λ p. ap (λ (w : Record). w.number) p.1)
 
 -- all that a call's last look found was seen, whatever it polls
 sees_all : {P : Type 0} (b : Bool) (look after : History P) (seen : List ℕ) → Sees b (failures look) after seen → failures look ≡ failures after → seen ≡ failures after
@@ -35,12 +36,12 @@ sees_all false look after seen sees all = sees ∙ all
 sees_all true look after seen sees all = squeeze (failures look) seen (failures after) sees.0 sees.1 all
 
 -- a barrier's poll that makes its last load at the look's end found at the look who is missing
-found_now : {P : Type 0} (meld : P → P → P) (limits : Limits) (asked : Call P) (name : Over P) (old : Record) (before : Sight P) (group : List ℕ) (own : Record) (now : Sight P) (found : ℕ) (phase : Phase P) → StandsAt meld false asked (local old (view_at name before)) phase group (local own (view_at name now))
+found_now : {P : Type 0} (meld : P → P → P) (limits : Limits) (asked : Call P) (name : Over P) (old : Record) (before : Sight P) (prepared : Prepared) (own : Record) (now : Sight P) (found : ℕ) (phase : Phase P) → StandsAt meld false asked (local old (view_at name before)) phase prepared (local own (view_at name now))
     → name.limits ≡ limits → before.seen ≡ now.seen → found ≡ length now.seen → FoundAt meld limits (comm_of asked) (moment old before.seen) (moment own now.seen) found phase
-found_now {P} meld limits asked name old before group own now found phase p limits_is still found_is =
-    found_by_check (λ (at : Phase P). StandsAt meld false asked (local old (view_at name before)) at group (local own (view_at name now))) meld limits (comm_of asked) old before.seen own now.seen found go phase p
+found_now {P} meld limits asked name old before prepared own now found phase p limits_is still found_is =
+    found_by_check (λ (at : Phase P). StandsAt meld false asked (local old (view_at name before)) at prepared (local own (view_at name now))) meld limits (comm_of asked) old before.seen own now.seen found go phase p
   where
-    go : (missing : Missing) → StandsAt meld false asked (local old (view_at name before)) (Checking missing) group (local own (view_at name now)) → FoundAt meld limits (comm_of asked) (moment old before.seen) (moment own now.seen) found (Checking missing)
+    go : (missing : Missing) → StandsAt meld false asked (local old (view_at name before)) (Checking missing) prepared (local own (view_at name now)) → FoundAt meld limits (comm_of asked) (moment old before.seen) (moment own now.seen) found (Checking missing)
     go missing p =
         let i = p.2 in
         let w = i.waits in
@@ -59,7 +60,7 @@ module _ {P : Type 0} (meld : P → P → P) (name : Over P) (now : Traced P) (p
   -- the look goes on
   goes_on : is_looking doing'.phase ≡ true → Stands meld false (local h.old (view_at name pass)) doing' (local own' (view_at name after_it)) → (own'.number ≡ own.number) × HasBegun meld name now after_it own' doing'
   goes_on looking stands =
-      let number' : own'.number ≡ own.number = same_number meld name doing'.asked h.old pass doing'.group own' after_it doing'.phase looking stands.at ∙ sym h.number in (
+      let number' : own'.number ≡ own.number = same_number meld name doing'.asked h.old pass doing'.prepared own' after_it doing'.phase looking stands.at ∙ sym h.number in (
         number',
         record {
           limits = h.limits;
@@ -128,7 +129,7 @@ module _ {P : Type 0} (meld : P → P → P) (name : Over P) (now : Traced P) (p
             no_own = λ no_poll. h.own_is;
             not_declared = subst (λ w. IsFalse (has (failures w) h.old.number)) (sym still) alive;
             not_refused = passes;
-            found_at = found_now meld name.limits doing'.asked name h.old pass doing'.group own' after_it found' doing'.phase stands.at refl still found_is';
+            found_at = found_now meld name.limits doing'.asked name h.old pass doing'.prepared own' after_it found' doing'.phase stands.at refl still found_is';
           },
         )
 
@@ -165,7 +166,7 @@ module _ {P : Type 0} (meld : P → P → P) (name : Over P) (now : Traced P) (p
       go : (b : Bool) → is_looking doing'.phase ≡ b → Comes None
       go true looking = let on = goes_on looking stands in inl (refl, on.0, on.1)
       go false past =
-          let f = found_by_phase meld name doing'.asked h.old pass doing'.group own' after_it h.in_use doing'.phase past stands.at in
+          let f = found_by_phase meld name doing'.asked h.old pass doing'.prepared own' after_it h.in_use doing'.phase past stands.at in
           let all = found_all doing'.asked h.old own' pass.seen after_it.seen f still in
           inr (may_look all.1, ends_on all.1 past stands f.same (subst (λ s. IsFalse (has s h.old.number)) all.0 f.not_declared) f.not_refused)
 

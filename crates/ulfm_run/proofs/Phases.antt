@@ -10,6 +10,7 @@ use Rattle.ulfm_comm.specs.{Exchange.{StartsWith}, Look.{Looked as HasFound}, Ph
 use Rattle.ulfm_comm.specs.declared.phases.phase.{Phase.{Phase}, Phase.TheVariants.{Over, Begun, Looking, Spreading, Settling, Arriving, Revoking, Asking, Peeking, Marking, Reading, ReadingOn, Spawning, Waiting, Checking}}
 use Rattle.ulfm_comm.proofs.{Polls.{polls_it}, WholeCall.{held_before}}
 use Rattle.ulfm_comm.specs.Local.{local}
+use Rattle.ulfm_comm.specs.Prepared.{Prepared}
 
 seen_same : (own old : Record) (s : List ℕ) → own ≡ record old { seen = s } → own ≡ record old { seen = own.seen }
 seen_same own old s is = is ∙ ap (λ w. record old { seen = w }) (sym (ap (λ (r : Record). r.seen) is))
@@ -38,9 +39,9 @@ starts_no_poll old own x request other offer (call.Free rank c) starts polls = s
 abbrev pub IsBarrier : {P : Type 0} → Phase P → Type 0
 IsBarrier {P} phase = ((arrivals : Arrivals) × (phase ≡ Waiting arrivals)) ⊎ ((missing : Missing) × (phase ≡ Checking missing))
 
-module _ {P : Type 0} (meld : P → P → P) (alone : Bool) (name : Named P) (asked : Call P) (old : Record) (before : Sight P) (group : List ℕ) (own : Record) (now : Sight P) (in_use : IsFalse old.refused) where
+module _ {P : Type 0} (meld : P → P → P) (alone : Bool) (name : Named P) (asked : Call P) (old : Record) (before : Sight P) (prepared : Prepared) (own : Record) (now : Sight P) (in_use : IsFalse old.refused) where
   -- of the record only what was seen is new
-  pub stands_same : (phase : Phase P) → is_looking phase ≡ false → StandsAt meld alone asked (local old (view_at name before)) phase group (local own (view_at name now)) → own ≡ record old { seen = own.seen }
+  pub stands_same : (phase : Phase P) → is_looking phase ≡ false → StandsAt meld alone asked (local old (view_at name before)) phase prepared (local own (view_at name now)) → own ≡ record old { seen = own.seen }
   stands_same Over past p = absurd (cc (p.0, in_use))
   stands_same Begun past p = absurd (cc past)
   stands_same Looking past p = absurd (cc past)
@@ -53,17 +54,17 @@ module _ {P : Type 0} (meld : P → P → P) (alone : Bool) (name : Named P) (as
   stands_same (Marking marks blocks shrinks) past p = seen_same own old _ p.1.looked.record_is
   stands_same (Reading reading shrinks) past p = seen_same own old _ p.1.marked.looked.record_is
   stands_same (ReadingOn on made) past p = p.2.own_is ∙ ap (λ (w : Record). record w { seen = own.seen }) p.2.marked.looked.record_is
-  stands_same (Spawning append context reach) past p = p.1.decided.own_is ∙ ap (λ (w : Record). record w { seen = own.seen }) p.1.decided.marked.looked.record_is
+  stands_same (Spawning append context reach) past p = p.1.0.decided.own_is ∙ ap (λ (w : Record). record w { seen = own.seen }) p.1.0.decided.marked.looked.record_is
   stands_same (Waiting arrivals) past p = seen_same own old _ p.3.looked.record_is
   stands_same (Checking missing) past p = seen_same own old _ p.2.waits.looked.record_is
 
   -- one that comes by a communicator polls a shrink
-  pub making_shrinks : (phase : Phase P) → is_making phase ≡ true → StandsAt meld alone asked (local old (view_at name before)) phase group (local own (view_at name now)) → is_shrink (polled_by old asked) ≡ true
+  pub making_shrinks : (phase : Phase P) → is_making phase ≡ true → StandsAt meld alone asked (local old (view_at name before)) phase prepared (local own (view_at name now)) → is_shrink (polled_by old asked) ≡ true
   making_shrinks (ReadingOn on made) making p =
       ap is_shrink (ap (polled_by old) p.0 ∙ polls_it meld name.limits alone before.seen old p.2.mid (comm_of asked) true made.round p.1 p.2.decided p.2.marked)
   making_shrinks (Spawning append context reach) making p =
-      let d = p.1.decided in
-      ap is_shrink (ap (polled_by old) p.0 ∙ polls_it meld name.limits alone before.seen old d.mid (comm_of asked) true p.1.round p.1.x d.decided d.marked)
+      let d = p.1.0.decided in
+      ap is_shrink (ap (polled_by old) p.0 ∙ polls_it meld name.limits alone before.seen old d.mid (comm_of asked) true p.1.0.round p.1.0.x d.decided d.marked)
   making_shrinks Over making p = absurd (cc making)
   making_shrinks Begun making p = absurd (cc making)
   making_shrinks Looking making p = absurd (cc making)
@@ -84,7 +85,7 @@ module _ {P : Type 0} (meld : P → P → P) (alone : Bool) (name : Named P) (as
       ap (polled_by old) polls ∙ (ap request_of (held_before meld name.limits alone before.seen look old own looked (comm_of asked) (Some x) (subst (λ w. held_at own w ≡ Some x) c_is held)) ∙ open_is)
 
   -- the poll of a barrier does nothing else behind its look
-  pub barrier_phase : (k : ℕ) → polled_by old asked ≡ Some (Barrier k) → (phase : Phase P) → is_looking phase ≡ false → StandsAt meld alone asked (local old (view_at name before)) phase group (local own (view_at name now)) → IsBarrier phase
+  pub barrier_phase : (k : ℕ) → polled_by old asked ≡ Some (Barrier k) → (phase : Phase P) → is_looking phase ≡ false → StandsAt meld alone asked (local old (view_at name before)) phase prepared (local own (view_at name now)) → IsBarrier phase
   barrier_phase k polls (Waiting arrivals) past p = inl (arrivals, refl)
   barrier_phase k polls (Checking missing) past p = inr (missing, refl)
   barrier_phase k polls Over past p = absurd (cc (p.0, in_use))
@@ -104,11 +105,11 @@ module _ {P : Type 0} (meld : P → P → P) (alone : Bool) (name : Named P) (as
   barrier_phase k polls (ReadingOn on made) past p =
       let is = ap (polled_by old) p.0 ∙ polls_it meld name.limits alone before.seen old p.2.mid (comm_of asked) true made.round p.1 p.2.decided p.2.marked in absurd (cc (sym is ∙ polls))
   barrier_phase k polls (Spawning append context reach) past p =
-      let d = p.1.decided in
-      let is = ap (polled_by old) p.0 ∙ polls_it meld name.limits alone before.seen old d.mid (comm_of asked) true p.1.round p.1.x d.decided d.marked in absurd (cc (sym is ∙ polls))
+      let d = p.1.0.decided in
+      let is = ap (polled_by old) p.0 ∙ polls_it meld name.limits alone before.seen old d.mid (comm_of asked) true p.1.0.round p.1.0.x d.decided d.marked in absurd (cc (sym is ∙ polls))
 
   -- a barrier's poll that makes its last load is one
-  pub checking_polls : (missing : Missing) (p : StandsAt meld alone asked (local old (view_at name before)) (Checking missing) group (local own (view_at name now))) → polled_by old asked ≡ Some (Barrier p.2.k)
+  pub checking_polls : (missing : Missing) (p : StandsAt meld alone asked (local old (view_at name before)) (Checking missing) prepared (local own (view_at name now))) → polled_by old asked ≡ Some (Barrier p.2.k)
   checking_polls missing p = let w = p.2.waits in open_polls (comm_of asked) w.look p.2.x (Barrier p.2.k) refl p.0 w.looked w.held w.open_is
 
 -- but where it comes by a communicator, a step behind the look leaves what was seen

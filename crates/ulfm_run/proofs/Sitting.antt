@@ -19,6 +19,7 @@ use Rattle.ulfm_model.proofs.Callers.{same_rank}
 use Rattle.ulfm_run.specs.declared.told.{Answer.{Answer}, StepTold.{StepTold}}
 use Rattle.ulfm_run.specs.{Seats.{AreToldBy, MayList, Seated, Sits, SitsAt, TellsBegin, TellsPiece, entries_of, event_piece, has_looked, call_steps_left, look_piece, piece_of, reply_piece, wants_in}, Stepping.{HasBegun, HasCalled, IsIdle, point_of, reply_told}}
 use Rattle.ulfm_run.proofs.{Beginning.{begun, may_call, refused}, ByName.{event_named, get_last, look_named}, ByPhase.{in_look}, LooksOn.{looks_on, no_event}, Nexts.{reply_next}, Reseen.{reseen}, Stepped.{comes}, Turns.{EndsSo, LooksOn, NextAt, SaysStep}}
+use Rattle.ulfm_comm.specs.Prepared.{Prepared}
 
 -- The lines of a call that begins.
 module _ {P : Type 0} (meld : P → P → P) (name : Over P) (own : Record) (found : ℕ) (pass : Sight P) (asked : Call P) (mine : (traits_of asked).by ≡ Rank own.number) where
@@ -158,7 +159,7 @@ module _ {P : Type 0} (meld : P → P → P) (name : Over P) (before later : Sig
   event_is now (inl h) seen e n is by =
       let none : event ≡ None = read_none before.seen later.seen event reads (sym (no_event own doing.asked doing.phase result before.seen later.seen h.looking adds)) in absurd (cc (none, is))
   event_is now (inr h) seen e n is by =
-      event_named meld name doing.asked h.old h.before doing.group own h.stood own result before.seen later.seen e (ap (λ v. before.seen ++ entries_of r v) (sym is) ∙ seen) n by doing.phase h.stands.at adds
+      event_named meld name doing.asked h.old h.before doing.prepared own h.stood own result before.seen later.seen e (ap (λ v. before.seen ++ entries_of r v) (sym is) ∙ seen) n by doing.phase h.stands.at adds
 
   abbrev Then : Option (Reply P) → Traced P → Type 0
   Then q t = NextAt meld name r c point found' q later own' doing' t
@@ -319,9 +320,9 @@ may_step meld name now pass own found doing (inl h) = (h.old, pass, pass, h.stan
 may_step meld name now pass own found doing (inr h) = (h.old, h.before, h.stood, h.stands, h.waits)
 
 -- in a look of a record only what was seen is new
-begun_same : {P : Type 0} (meld : P → P → P) (name : Over P) (asked : Call P) (old : Record) (before : Sight P) (group : List ℕ) (own : Record) (now : Sight P) (phase : Phase P) → is_looking phase ≡ true → StandsAt meld false asked (local old (view_at name before)) phase group (local own (view_at name now)) → own ≡ reseen old own.seen
-begun_same {P} meld name asked old before group own now =
-    in_look (λ (phase : Phase P). StandsAt meld false asked (local old (view_at name before)) phase group (local own (view_at name now)) → own ≡ reseen old own.seen) (λ p. p.1 ∙ ap (λ (w : Record). reseen old w.seen) (sym p.1)) (λ p. p.1)
+begun_same : {P : Type 0} (meld : P → P → P) (name : Over P) (asked : Call P) (old : Record) (before : Sight P) (prepared : Prepared) (own : Record) (now : Sight P) (phase : Phase P) → is_looking phase ≡ true → StandsAt meld false asked (local old (view_at name before)) phase prepared (local own (view_at name now)) → own ≡ reseen old own.seen
+begun_same {P} meld name asked old before prepared own now =
+    in_look (λ (phase : Phase P). StandsAt meld false asked (local old (view_at name before)) phase prepared (local own (view_at name now)) → own ≡ reseen old own.seen) (λ p. p.1 ∙ ap (λ (w : Record). reseen old w.seen) (sym p.1)) (λ p. p.1)
 
 -- only the poll of a shrink runs out of memory
 module _ {P : Type 0} (meld : P → P → P) (name : Over P) (before later : Sight P) (own own' : Record) (found : ℕ) (doing doing' : UnderWay P) (result : Option (Reply P))
@@ -338,7 +339,7 @@ module _ {P : Type 0} (meld : P → P → P) (name : Over P) (before later : Sig
 
   pub polls_shrink : (now : Traced P) → SitsAt meld name now before own found (Some doing) → IsTrue (is_shrink (polled_by own doing.asked))
   polls_shrink now (inl h) =
-      shrinks h.old before h.in_use (begun_same meld name doing.asked h.old before doing.group own before doing.phase h.looking h.stands.at)
+      shrinks h.old before h.in_use (begun_same meld name doing.asked h.old before doing.prepared own before doing.phase h.looking h.stands.at)
       (stands false (λ alone. absurd (cc alone)) h.old before before h.stands (waits_none before))
   polls_shrink now (inr h) = shrinks h.old h.before h.in_use h.own_same (stands false (λ alone. absurd (cc alone)) h.old h.before h.stood h.stands h.waits)
 

@@ -128,7 +128,7 @@ module _ {P : Type 0} (meld : P → P → P) (name : Named P) (now : Traced P) (
   seen_then other = go (is_making doing.phase) refl
     where
       go : (b : Bool) → is_making doing.phase ≡ b → own'.seen ≡ look
-      go true making = absurd (cc (making_shrinks meld false name doing.asked h.old h.before doing.group own h.stood h.in_use doing.phase making h.stands.at, other))
+      go true making = absurd (cc (making_shrinks meld false name doing.asked h.old h.before doing.prepared own h.stood h.in_use doing.phase making h.stands.at, other))
       go false not = seen_stays doing.phase h.past not own.seen own'.seen s.sees ∙ h.sees not
 
   -- the event of a step
@@ -188,7 +188,7 @@ module _ {P : Type 0} (meld : P → P → P) (name : Named P) (now : Traced P) (
         → ((traits_of doing.asked).polls ≡ false → u.own ≡ []) → (own'.number ≡ own.number) × HasCalled meld name t after_it own' found' doing'
     goes_on leads stands found' found_at no_own =
         let past = stays_past doing.phase doing'.phase h.past leads in
-        let same = stands_same meld false name doing'.asked h.old h.before doing'.group own' after_it h.in_use doing'.phase past stands.at in
+        let same = stands_same meld false name doing'.asked h.old h.before doing'.prepared own' after_it h.in_use doing'.phase past stands.at in
         let number : own.number ≡ own'.number = own_number ∙ sym (ap (λ (w : Record). w.number) same) in (
           sym number,
           record {
@@ -302,7 +302,7 @@ module _ {P : Type 0} (meld : P → P → P) (name : Named P) (now : Traced P) (
   stands_now = stands_lasts meld false name h.old h.before doing own h.stood pass h.stands h.waits of_old
 
   classified : (k : ℕ) → polled_by h.old doing.asked ≡ Some (Barrier k) → IsBarrier doing.phase
-  classified k polls = barrier_phase meld false name doing.asked h.old h.before doing.group own h.stood h.in_use k polls doing.phase h.past h.stands.at
+  classified k polls = barrier_phase meld false name doing.asked h.old h.before doing.prepared own h.stood h.in_use k polls doing.phase h.past h.stands.at
 
   -- a barrier's poll that makes its last load next has just found who is missing
   module _ (going : result ≡ None) (stands : Stands meld false (local h.old (view_at name h.before)) doing' (local own' (view_at name after_it))) (found' : ℕ) (found_is : found' ≡ length after_it.seen) where
@@ -310,10 +310,10 @@ module _ {P : Type 0} (meld : P → P → P) (name : Named P) (now : Traced P) (
     FoundIn phase = FoundAt meld name.limits (comm_of doing'.asked) (moment h.old start) (moment own' after_it.seen) found' phase
 
     found_checking : (missing : Missing) → doing'.phase ≡ Checking missing → FoundIn (Checking missing)
-    found_checking missing is = go (classified at.2.k (ap (polled_by h.old) (sym asked') ∙ checking_polls meld false name doing'.asked h.old h.before doing'.group own' after_it h.in_use missing at))
+    found_checking missing is = go (classified at.2.k (ap (polled_by h.old) (sym asked') ∙ checking_polls meld false name doing'.asked h.old h.before doing'.prepared own' after_it h.in_use missing at))
       where
-        at : StandsAt meld false doing'.asked (local h.old (view_at name h.before)) (Checking missing) doing'.group (local own' (view_at name after_it))
-        at = subst (λ phase. StandsAt meld false doing'.asked (local h.old (view_at name h.before)) phase doing'.group (local own' (view_at name after_it))) is stands.at
+        at : StandsAt meld false doing'.asked (local h.old (view_at name h.before)) (Checking missing) doing'.prepared (local own' (view_at name after_it))
+        at = subst (λ phase. StandsAt meld false doing'.asked (local h.old (view_at name h.before)) phase doing'.prepared (local own' (view_at name after_it))) is stands.at
 
         next_is : next_of result doing'.phase ≡ next_of None (Checking missing)
         next_is = ap₂ next_of going is
@@ -364,7 +364,7 @@ module _ {P : Type 0} (meld : P → P → P) (name : Named P) (now : Traced P) (
         (answered false (λ alone. absurd (cc alone)) (record { old = h.old; before = start; fits = h.stands.fits; polls = polls; earlier = there.0; checking = there.1 }))
       where
         polls : doing.asked ≡ call.Poll h.old.number (comm_of doing.asked)
-        polls = let at = subst (λ phase. StandsAt meld false doing.asked (local h.old (view_at name h.before)) phase doing.group (local own (view_at name h.stood))) phase_is h.stands.at in at.0
+        polls = let at = subst (λ phase. StandsAt meld false doing.asked (local h.old (view_at name h.before)) phase doing.prepared (local own (view_at name h.stood))) phase_is h.stands.at in at.0
 
         there : FoundAt meld name.limits (comm_of doing.asked) (moment h.old start) (moment own pass.seen) found (Checking missing)
         there = subst (FoundAt meld name.limits (comm_of doing.asked) (moment h.old start) (moment own pass.seen) found) phase_is h.found_at
