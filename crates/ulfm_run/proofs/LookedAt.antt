@@ -110,7 +110,7 @@ module _ {P : Type 0} (meld : P → P → P) (name : Named P) (asked : Call P) (
       let m = p.1.marked in
       polled_found (comm_of asked) m.look p.1.x _ refl p.0 m.looked (prefix_trans m.look m.marked now.seen (did_prefix false (entries_by (Rank old.number) m.marks.own) m.look m.marked m.marks.did) (did_prefix false [] m.marked now.seen m.waited)) m.held m.open_is
   found_by_phase (ReadingOn on made) past p = decided_found made.round made.count made.mask p.1 p.0 p.2
-  found_by_phase (Spawning append context reach) past p = decided_found p.1.0.round p.1.0.count p.1.0.mask p.1.0.x p.0 p.1.0.decided
+  found_by_phase (Spawning append context reach) past p = decided_found p.1.round p.1.count p.1.mask p.1.x p.0 p.1.decided
   found_by_phase (Waiting arrivals) past p =
       let w = p.3 in polled_found (comm_of asked) w.look p.2 _ refl p.0 w.looked (did_prefix false [] w.look now.seen w.waited) w.held w.open_is
   found_by_phase (Checking missing) past p =

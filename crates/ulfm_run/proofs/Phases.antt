@@ -54,7 +54,7 @@ module _ {P : Type 0} (meld : P → P → P) (alone : Bool) (name : Named P) (as
   stands_same (Marking marks blocks shrinks) past p = seen_same own old _ p.1.looked.record_is
   stands_same (Reading reading shrinks) past p = seen_same own old _ p.1.marked.looked.record_is
   stands_same (ReadingOn on made) past p = p.2.own_is ∙ ap (λ (w : Record). record w { seen = own.seen }) p.2.marked.looked.record_is
-  stands_same (Spawning append context reach) past p = p.1.0.decided.own_is ∙ ap (λ (w : Record). record w { seen = own.seen }) p.1.0.decided.marked.looked.record_is
+  stands_same (Spawning append context reach) past p = p.1.decided.own_is ∙ ap (λ (w : Record). record w { seen = own.seen }) p.1.decided.marked.looked.record_is
   stands_same (Waiting arrivals) past p = seen_same own old _ p.3.looked.record_is
   stands_same (Checking missing) past p = seen_same own old _ p.2.waits.looked.record_is
 
@@ -63,8 +63,8 @@ module _ {P : Type 0} (meld : P → P → P) (alone : Bool) (name : Named P) (as
   making_shrinks (ReadingOn on made) making p =
       ap is_shrink (ap (polled_by old) p.0 ∙ polls_it meld name.limits alone before.seen old p.2.mid (comm_of asked) true made.round p.1 p.2.decided p.2.marked)
   making_shrinks (Spawning append context reach) making p =
-      let d = p.1.0.decided in
-      ap is_shrink (ap (polled_by old) p.0 ∙ polls_it meld name.limits alone before.seen old d.mid (comm_of asked) true p.1.0.round p.1.0.x d.decided d.marked)
+      let d = p.1.decided in
+      ap is_shrink (ap (polled_by old) p.0 ∙ polls_it meld name.limits alone before.seen old d.mid (comm_of asked) true p.1.round p.1.x d.decided d.marked)
   making_shrinks Over making p = absurd (cc making)
   making_shrinks Begun making p = absurd (cc making)
   making_shrinks Looking making p = absurd (cc making)
@@ -105,8 +105,8 @@ module _ {P : Type 0} (meld : P → P → P) (alone : Bool) (name : Named P) (as
   barrier_phase k polls (ReadingOn on made) past p =
       let is = ap (polled_by old) p.0 ∙ polls_it meld name.limits alone before.seen old p.2.mid (comm_of asked) true made.round p.1 p.2.decided p.2.marked in absurd (cc (sym is ∙ polls))
   barrier_phase k polls (Spawning append context reach) past p =
-      let d = p.1.0.decided in
-      let is = ap (polled_by old) p.0 ∙ polls_it meld name.limits alone before.seen old d.mid (comm_of asked) true p.1.0.round p.1.0.x d.decided d.marked in absurd (cc (sym is ∙ polls))
+      let d = p.1.decided in
+      let is = ap (polled_by old) p.0 ∙ polls_it meld name.limits alone before.seen old d.mid (comm_of asked) true p.1.round p.1.x d.decided d.marked in absurd (cc (sym is ∙ polls))
 
   -- a barrier's poll that makes its last load is one
   pub checking_polls : (missing : Missing) (p : StandsAt meld alone asked (local old (view_at name before)) (Checking missing) prepared (local own (view_at name now))) → polled_by old asked ≡ Some (Barrier p.2.k)
