@@ -130,6 +130,17 @@ static void put_other(int class)
     put("reply %" PRIu64 " other %d\n", stamp(), class);
 }
 
+/* Tells that a call was answered by this word, or what went wrong. It answers what the call gave. */
+static int told(int given, const char *word)
+{
+    int class = class_of(given);
+    if (class == MPI_SUCCESS)
+        put("reply %" PRIu64 " %s\n", stamp(), word);
+    else
+        put_other(class);
+    return given;
+}
+
 /* Opens the file, once it is known who this is. */
 static void begin(void)
 {
@@ -281,13 +292,7 @@ int MPIX_Comm_revoke(MPI_Comm comm)
     if (on == NULL)
         return PMPIX_Comm_revoke(comm);
     put("call %" PRIu64 " revoke %d\n", stamp(), on->number);
-    int given = PMPIX_Comm_revoke(comm);
-    int class = class_of(given);
-    if (class == MPI_SUCCESS)
-        put("reply %" PRIu64 " revoked\n", stamp());
-    else
-        put_other(class);
-    return given;
+    return told(PMPIX_Comm_revoke(comm), "revoked");
 }
 
 int MPI_Barrier(MPI_Comm comm)
@@ -367,11 +372,6 @@ int MPIX_Comm_is_revoked(MPI_Comm comm, int *flag)
         return PMPIX_Comm_is_revoked(comm, flag);
     put("call %" PRIu64 " isrevoked %d\n", stamp(), on->number);
     int given = PMPIX_Comm_is_revoked(comm, flag);
-    int class = class_of(given);
-    if (class == MPI_SUCCESS)
-        put("reply %" PRIu64 " %s\n", stamp(), *flag ? "yes" : "no");
-    else
-        put_other(class);
-    return given;
+    return told(given, given == MPI_SUCCESS && *flag ? "yes" : "no");
 }
 #endif

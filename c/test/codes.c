@@ -21,6 +21,13 @@ static void closed(uint16_t count)
     EQUAL(ulfm_close(&outside), ULFM_SUCCESS);
 }
 
+/* The outside declares a rank. */
+static void declared(uint16_t rank)
+{
+    bool first;
+    EQUAL(ulfm_fail(&outside, rank, &first), ULFM_SUCCESS);
+}
+
 /* Each call of a rank with this handle and communicator answers this code, and writes nothing. */
 static void all_answer(ulfm_handle *handle, uint16_t comm, int code)
 {
@@ -228,7 +235,7 @@ static void requests_are_checked(void)
             EQUAL(ulfm_poll(&ranks[0], 0, &reply), ULFM_SUCCESS);
             EQUAL(reply.kind, ULFM_DONE);
         } else if (round == 1) {
-            EQUAL(ulfm_fail(&outside, 1, &first), ULFM_SUCCESS);
+            declared(1);
             EQUAL(ulfm_poll(&ranks[0], 0, &reply), ULFM_ERR_PROC_FAILED);
         } else {
             EQUAL(ulfm_revoke(&ranks[0], 0, &first), ULFM_SUCCESS);
@@ -265,13 +272,12 @@ static void lists_are_cut(void)
 {
     uint16_t list[4] = {UNTOUCHED, UNTOUCHED, UNTOUCHED, UNTOUCHED}, acknowledged = 9;
     size_t count = 9;
-    bool first;
     opened(4, 1, 1);
     EQUAL(ulfm_get_failed(&ranks[0], 0, list, 4, &count), ULFM_SUCCESS);
     EQUAL(count, 0);
     EQUAL(list[0], UNTOUCHED);
-    EQUAL(ulfm_fail(&outside, 3, &first), ULFM_SUCCESS);
-    EQUAL(ulfm_fail(&outside, 1, &first), ULFM_SUCCESS);
+    declared(3);
+    declared(1);
     EQUAL(ulfm_get_failed(&ranks[0], 0, list, 0, &count), ULFM_SUCCESS);
     EQUAL(count, 2);
     EQUAL(list[0], UNTOUCHED);
@@ -296,12 +302,11 @@ static void acknowledged_are_listed(void)
 {
     uint16_t list[4] = {UNTOUCHED, UNTOUCHED, UNTOUCHED, UNTOUCHED}, acknowledged = 9;
     size_t count = 9;
-    bool first;
     opened(4, 1, 1);
     EQUAL(ulfm_failure_ack(&ranks[0], 0, &acknowledged), ULFM_SUCCESS);
     EQUAL(acknowledged, 0);
-    EQUAL(ulfm_fail(&outside, 3, &first), ULFM_SUCCESS);
-    EQUAL(ulfm_fail(&outside, 1, &first), ULFM_SUCCESS);
+    declared(3);
+    declared(1);
     EQUAL(ulfm_failure_get_acked(&ranks[0], 0, list, 4, &count), ULFM_SUCCESS);
     EQUAL(count, 0);
     EQUAL(list[0], UNTOUCHED);
@@ -333,7 +338,6 @@ static void missing_are_told(void)
     uint32_t steps = 0;
     size_t count = UNTOUCHED;
     ulfm_reply reply;
-    bool first;
     opened(4, 2, 3);
     EQUAL(ulfm_missing(&ranks[0], 0, list, 4, &count), ULFM_ERR_IDLE);
     EQUAL(ulfm_missing(&ranks[0], 1, list, 4, &count), ULFM_ERR_COMM);
@@ -352,7 +356,7 @@ static void missing_are_told(void)
     EQUAL(ulfm_last_steps(&ranks[0], &steps), ULFM_SUCCESS);
     EQUAL(steps, 3); /* those of its start */
     /* who is declared is left out by a poll, and then isn't missing */
-    EQUAL(ulfm_fail(&outside, 3, &first), ULFM_SUCCESS);
+    declared(3);
     EQUAL(ulfm_missing(&ranks[2], 0, list, 0, &count), ULFM_SUCCESS);
     EQUAL(count, 2);
     EQUAL(ulfm_poll(&ranks[2], 0, &reply), ULFM_SUCCESS);
@@ -362,7 +366,7 @@ static void missing_are_told(void)
     EQUAL(list[0], 1);
     /* also a rank that is declared is answered, and the last to come leaves nobody */
     EQUAL(ulfm_iagree(&ranks[1], 0, 1), ULFM_SUCCESS);
-    EQUAL(ulfm_fail(&outside, 0, &first), ULFM_SUCCESS);
+    declared(0);
     EQUAL(ulfm_missing(&ranks[0], 0, list, 4, &count), ULFM_SUCCESS);
     EQUAL(count, 0);
     EQUAL(list[0], 1);
@@ -387,7 +391,7 @@ static void ranks_know_themselves(void)
     uint16_t list[4] = {UNTOUCHED, UNTOUCHED, UNTOUCHED, UNTOUCHED}, number = 9, made = 9;
     uint32_t steps = 9;
     size_t count = 9;
-    bool first, is;
+    bool is;
     opened(4, 2, 2);
     for (uint16_t rank = 0; rank < 4; rank++) {
         EQUAL(ulfm_rank(&ranks[rank], &number), ULFM_SUCCESS);
@@ -401,8 +405,8 @@ static void ranks_know_themselves(void)
     EQUAL(count, 4);
     EQUAL(list[1], 1);
     EQUAL(list[2], UNTOUCHED);
-    EQUAL(ulfm_fail(&outside, 2, &first), ULFM_SUCCESS);
-    EQUAL(ulfm_fail(&outside, 0, &first), ULFM_SUCCESS);
+    declared(2);
+    declared(0);
     /* it hasn't looked yet */
     EQUAL(ulfm_failures(&ranks[1], list, 4, &count), ULFM_SUCCESS);
     EQUAL(count, 0);

@@ -1,8 +1,7 @@
 //! A stored log read, its entries fed one by one, and the lines of what came of it.
-ghost use Rattle.std.specs.Prelude.{◌≡◌, ◌++◌, ◌∷◌, [], IfErr, IfOk, OnOk};
+ghost use Rattle.std.specs.Prelude.{◌≡◌, ◌++◌, ◌∷◌, [], IfErr, IfOk, OnOk, length};
 ghost use Rattle.ulfm_model.specs.Words.{MayOpen};
 ghost use Rattle.ulfm_script.specs.Ends.{IsTextOf};
-ghost use Rattle.ulfm_audit.specs.declared.auditing.AuditFault.TheVariants.{Memory};
 ghost use Rattle.ulfm_audit.specs.Audits.{AuditsEntries, AuditsText, FailsFor, Stands, Takes, TakesPieces};
 ghost use Rattle.ulfm_audit.specs.Texts.{end_text, entry_line};
 
@@ -36,14 +35,6 @@ pub enum AuditFault {
     Read,
 }
 
-impl From<AllocError> for AuditFault {
-    ghost from_gives = { λ _ e. e ≡ Memory };
-
-    fn from(_error: AllocError) -> AuditFault {
-        AuditFault::Memory
-    }
-}
-
 /// Reads the stored log of a world that the reader gives, and tells the history that it makes, in lines that end in one newline each.
 ///
 /// Each entry that is legal behind those before has its line, as traces have it. Behind one that decides an agreement round stands what the round decided,
@@ -70,7 +61,10 @@ pub fn audit<A: Allocator + Copy + Drop, R: Read>(
     let Some(limits) = read_head(head) else {
         return Err(AuditFault::Log);
     };
-    Ok(audit_entries(alloc, limits, entries)?)
+    match audit_entries(alloc, limits, entries) {
+        Ok(text) => Ok(text),
+        Err(_) => Err(AuditFault::Memory),
+    }
 }
 
 /// The reader's whole text.
@@ -88,6 +82,14 @@ fn read_all<A: Allocator, R: Read>(alloc: A, reader: &mut R) -> Result<Vec<u8, A
     }
 }
 
+/// A log under audit: the words and the tables that its entries make, and the lines of what came of them.
+#[derive(Drop)]
+struct Auditing<A: Allocator> {
+    pass: PlainPass<FlagAnd, A>,
+    numbers: Numbers<FlagAnd, A>,
+    text: Vec<u8, A>,
+}
+
 /// The lines of the history that these bytes behind a head make.
 fn audit_entries<A: Allocator + Copy + Drop>(
     alloc: A,
@@ -97,73 +99,90 @@ fn audit_entries<A: Allocator + Copy + Drop>(
     requires { MayOpen limits }
     ensures { IfOk result (λ shown. AuditsEntries limits bytes.now shown.items) }
 {
-    let mut pass = PlainPass::new(alloc, limits)?;
-    let mut numbers = Numbers::new(alloc, limits.ranks)?;
-    let mut text = Vec::new(alloc);
+    let pass = PlainPass::new(alloc, limits)?;
+    let numbers = Numbers::new(alloc, limits.ranks)?;
+    let text = Vec::new(alloc);
+    let mut told = Auditing {
+        pass,
+        numbers,
+        text,
+    };
     let (pieces, cut) = bytes.as_chunks::<ENTRY_BYTES>();
-    take_pieces(alloc, limits, &mut pass, &mut numbers, &mut text, pieces)?;
+    told.take_pieces(alloc, limits, pieces)?;
     let whole = &bytes[..bytes.len() - cut.len()];
-    print_end(&mut text, pieces.len(), pass.count(), digest_of(whole))?;
+    told.print_end(pieces.len(), digest_of(whole))?;
+    let Auditing { text, .. } = told;
     Ok(text)
 }
 
-/// Takes pieces of a log, one by one.
-fn take_pieces<A: Allocator + Copy + Drop>(
-    alloc: A,
-    limits: Limits,
-    pass: &mut PlainPass<FlagAnd, A>,
-    numbers: &mut Numbers<FlagAnd, A>,
-    text: &mut Vec<u8, A>,
-    pieces: &[[u8; ENTRY_BYTES]],
-) -> Result<(), AllocError>
-    requires { Stands limits pass.old numbers.old }
-    ensures takes { OnOk result (TakesPieces limits pieces.now pass.old.seen pass.new.seen text.old.items text.new.items) }
-    ensures stands { OnOk result (Stands limits pass.new numbers.new) }
-{
-    'pieces: for piece in pieces {
-        take_piece(alloc, limits, pass, numbers, text, piece)?;
+impl<A: Allocator + Copy + Drop> Auditing<A> {
+    /// Takes pieces of a log, one by one.
+    fn take_pieces(
+        &mut self,
+        alloc: A,
+        limits: Limits,
+        pieces: &[[u8; ENTRY_BYTES]],
+    ) -> Result<(), AllocError>
+        requires { Stands limits self.old.pass self.old.numbers }
+        ensures takes { OnOk result (TakesPieces limits pieces.now self.old.pass.seen self.new.pass.seen self.old.text.items self.new.text.items) }
+        ensures stands { OnOk result (Stands limits self.new.pass self.new.numbers) }
+    {
+        'pieces: for piece in pieces {
+            self.take_piece(alloc, limits, piece)?;
+        }
+        Ok(())
     }
-    Ok(())
-}
 
-/// Takes a piece of a log: where it is an entry's bytes, that entry.
-fn take_piece<A: Allocator + Copy + Drop>(
-    alloc: A,
-    limits: Limits,
-    pass: &mut PlainPass<FlagAnd, A>,
-    numbers: &mut Numbers<FlagAnd, A>,
-    text: &mut Vec<u8, A>,
-    piece: &[u8; ENTRY_BYTES],
-) -> Result<(), AllocError>
-    requires { Stands limits pass.old numbers.old }
-    ensures takes { OnOk result (TakesPieces limits (piece.now ∷ []) pass.old.seen pass.new.seen text.old.items text.new.items) }
-    ensures stands { OnOk result (Stands limits pass.new numbers.new) }
-{
-    match entry_of(piece) {
-        Some(entry) => take_entry(alloc, limits, pass, numbers, text, &entry),
-        None => Ok(()),
+    /// Takes a piece of a log: where it is an entry's bytes, that entry.
+    fn take_piece(
+        &mut self,
+        alloc: A,
+        limits: Limits,
+        piece: &[u8; ENTRY_BYTES],
+    ) -> Result<(), AllocError>
+        requires { Stands limits self.old.pass self.old.numbers }
+        ensures takes { OnOk result (TakesPieces limits (piece.now ∷ []) self.old.pass.seen self.new.pass.seen self.old.text.items self.new.text.items) }
+        ensures stands { OnOk result (Stands limits self.new.pass self.new.numbers) }
+    {
+        match entry_of(piece) {
+            Some(entry) => self.take_entry(alloc, limits, &entry),
+            None => Ok(()),
+        }
     }
-}
 
-/// Feeds an entry, and appends its lines where it was taken.
-fn take_entry<A: Allocator + Copy + Drop>(
-    alloc: A,
-    limits: Limits,
-    pass: &mut PlainPass<FlagAnd, A>,
-    numbers: &mut Numbers<FlagAnd, A>,
-    text: &mut Vec<u8, A>,
-    entry: &Entry<FlagAnd>,
-) -> Result<(), AllocError>
-    requires { Stands limits pass.old numbers.old }
-    ensures takes { OnOk result (Takes limits (entry.now ∷ []) pass.old.seen pass.new.seen text.old.items text.new.items) }
-    ensures stands { OnOk result (Stands limits pass.new numbers.new) }
-{
-    if !feed(alloc, limits, pass, numbers, entry)? {
-        return Ok(());
+    /// Feeds an entry, and appends its lines where it was taken.
+    fn take_entry(
+        &mut self,
+        alloc: A,
+        limits: Limits,
+        entry: &Entry<FlagAnd>,
+    ) -> Result<(), AllocError>
+        requires { Stands limits self.old.pass self.old.numbers }
+        ensures takes { OnOk result (Takes limits (entry.now ∷ []) self.old.pass.seen self.new.pass.seen self.old.text.items self.new.text.items) }
+        ensures stands { OnOk result (Stands limits self.new.pass self.new.numbers) }
+    {
+        if !feed(alloc, limits, &mut self.pass, &mut self.numbers, entry)? {
+            return Ok(());
+        }
+        print_entry(alloc, &mut self.text, entry)?;
+        print_settled(alloc, &mut self.text, &self.numbers, &entry.event)?;
+        Ok(())
     }
-    print_entry(alloc, text, entry)?;
-    print_settled(alloc, text, numbers, &entry.event)?;
-    Ok(())
+
+    /// Appends how many entries there were, how many of them were taken, and the digest.
+    fn print_end(&mut self, entries: usize, digest: u64) -> Result<(), AllocError>
+        ensures { OnOk result (self.new.text.items ≡ self.old.text.items ++ end_text entries (length self.old.pass.seen) digest) }
+    {
+        let text = &mut self.text;
+        text.extend_from_slice(b"entries ")?;
+        print_count(text, entries)?;
+        text.extend_from_slice(b" taken ")?;
+        print_point(text, self.pass.count())?;
+        text.extend_from_slice(b"\ndigest ")?;
+        print_digest(text, digest)?;
+        text.push(b'\n')?;
+        Ok(())
+    }
 }
 
 /// Appends the line of an entry, with a newline.
@@ -179,25 +198,6 @@ fn print_entry<A: Allocator + Copy>(
         event: Some(entry.event),
     };
     print_line(text, &line, &[], &mut LastGroup::new(alloc))?;
-    text.push(b'\n')?;
-    Ok(())
-}
-
-/// Appends how many entries there were, how many of them were taken, and the digest.
-fn print_end<A: Allocator>(
-    text: &mut Vec<u8, A>,
-    entries: usize,
-    taken: u32,
-    digest: u64,
-) -> Result<(), AllocError>
-    ensures { OnOk result (text.new.items ≡ text.old.items ++ end_text entries taken digest) }
-{
-    text.extend_from_slice(b"entries ")?;
-    print_count(text, entries)?;
-    text.extend_from_slice(b" taken ")?;
-    print_point(text, taken)?;
-    text.extend_from_slice(b"\ndigest ")?;
-    print_digest(text, digest)?;
     text.push(b'\n')?;
     Ok(())
 }

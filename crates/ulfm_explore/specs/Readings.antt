@@ -101,66 +101,36 @@ call_of ask.Free rank comm = call.Free rank comm
 
 -- the call that an operation makes, if it makes one
 abbrev pub asked_by : ℕ → ℕ → Option Op → Option (Call FlagAnd)
-asked_by rank current None = None
 asked_by rank current (Some (op.Call ask on quiet)) = Some (call_of ask rank (comm_at current on))
-asked_by rank current (Some (op.Declare whom quiet)) = None
-asked_by rank current (Some (op.Go to)) = None
-asked_by rank current (Some (op.If text to)) = None
-asked_by rank current (Some (op.Say text)) = None
-asked_by rank current (Some op.End) = None
+asked_by rank current _ = None
 
 -- whether an operation declares this rank
 abbrev pub declares : Option Op → List ℕ → Bool
-declares None whom = false
-declares (Some (op.Call ask on quiet)) whom = false
 declares (Some (op.Declare rank quiet)) whom = is_number whom rank
-declares (Some (op.Go to)) whom = false
-declares (Some (op.If text to)) whom = false
-declares (Some (op.Say text)) whom = false
-declares (Some op.End) whom = false
+declares _ whom = false
 
 -- whether an operation's reply is no part of the outcome
 abbrev pub is_quiet : Option Op → Bool
-is_quiet None = true
 is_quiet (Some (op.Call ask on quiet)) = quiet
 is_quiet (Some (op.Declare whom quiet)) = quiet
-is_quiet (Some (op.Go to)) = true
-is_quiet (Some (op.If text to)) = true
-is_quiet (Some (op.Say text)) = true
-is_quiet (Some op.End) = true
+is_quiet _ = true
 
 -- whether a call is polled until its reply isn't pending
 abbrev pub waits_by : Ask → Bool
-waits_by ask.GetFailed = false
-waits_by (ask.Ack count) = false
-waits_by (ask.Agree value) = false
-waits_by ask.Shrink = false
-waits_by ask.Barrier = false
-waits_by ask.Poll = false
 waits_by ask.Wait = true
-waits_by ask.Revoke = false
-waits_by ask.IsRevoked = false
-waits_by ask.Free = false
+waits_by _ = false
 
 -- whether an operation waits
 abbrev pub is_wait : Option Op → Bool
-is_wait None = false
 is_wait (Some (op.Call ask on quiet)) = waits_by ask
-is_wait (Some (op.Declare whom quiet)) = false
-is_wait (Some (op.Go to)) = false
-is_wait (Some (op.If text to)) = false
-is_wait (Some (op.Say text)) = false
-is_wait (Some op.End) = false
+is_wait _ = false
 
 -- whether an operation makes no call
 abbrev pub calls_nobody : Option Op → Bool
-calls_nobody None = false
-calls_nobody (Some (op.Call ask on quiet)) = false
-calls_nobody (Some (op.Declare whom quiet)) = false
 calls_nobody (Some (op.Go to)) = true
 calls_nobody (Some (op.If text to)) = true
 calls_nobody (Some (op.Say text)) = true
-calls_nobody (Some op.End) = false
+calls_nobody _ = false
 
 -- whether a call's text is that of the call that was asked for
 abbrev pub is_asked : List ℕ → Option (Call FlagAnd) → Bool

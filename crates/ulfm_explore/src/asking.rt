@@ -72,12 +72,7 @@ pub(crate) fn asked_by(rank: u16, current: u16, here: Option<Op>) -> Option<Call
 {
     match here {
         Some(Op::Call { ask, on, .. }) => Some(call_of(ask, rank, comm_at(current, on))),
-        Some(Op::Declare { .. }) => None,
-        Some(Op::Go { .. }) => None,
-        Some(Op::If { .. }) => None,
-        Some(Op::Say { .. }) => None,
-        Some(Op::End) => None,
-        None => None,
+        _ => None,
     }
 }
 
@@ -87,12 +82,7 @@ pub(crate) fn declares(here: Option<Op>, whom: &[u8]) -> bool
 {
     match here {
         Some(Op::Declare { rank, .. }) => is_number(whom, rank),
-        Some(Op::Call { .. }) => false,
-        Some(Op::Go { .. }) => false,
-        Some(Op::If { .. }) => false,
-        Some(Op::Say { .. }) => false,
-        Some(Op::End) => false,
-        None => false,
+        _ => false,
     }
 }
 
@@ -101,13 +91,8 @@ pub(crate) fn is_quiet(here: Option<Op>) -> bool
     ensures { result ≡ is_quiet here }
 {
     match here {
-        Some(Op::Call { quiet, .. }) => quiet,
-        Some(Op::Declare { quiet, .. }) => quiet,
-        Some(Op::Go { .. }) => true,
-        Some(Op::If { .. }) => true,
-        Some(Op::Say { .. }) => true,
-        Some(Op::End) => true,
-        None => true,
+        Some(Op::Call { quiet, .. } | Op::Declare { quiet, .. }) => quiet,
+        _ => true,
     }
 }
 
@@ -117,15 +102,7 @@ fn waits_by(ask: Ask) -> bool
 {
     match ask {
         Ask::Wait => true,
-        Ask::GetFailed => false,
-        Ask::Ack(_) => false,
-        Ask::Agree(_) => false,
-        Ask::Shrink => false,
-        Ask::Barrier => false,
-        Ask::Poll => false,
-        Ask::Revoke => false,
-        Ask::IsRevoked => false,
-        Ask::Free => false,
+        _ => false,
     }
 }
 
@@ -135,12 +112,7 @@ pub(crate) fn is_wait(here: Option<Op>) -> bool
 {
     match here {
         Some(Op::Call { ask, .. }) => waits_by(ask),
-        Some(Op::Declare { .. }) => false,
-        Some(Op::Go { .. }) => false,
-        Some(Op::If { .. }) => false,
-        Some(Op::Say { .. }) => false,
-        Some(Op::End) => false,
-        None => false,
+        _ => false,
     }
 }
 
@@ -149,13 +121,8 @@ pub(crate) fn calls_nobody(here: Option<Op>) -> bool
     ensures { result ≡ calls_nobody here }
 {
     match here {
-        Some(Op::Go { .. }) => true,
-        Some(Op::If { .. }) => true,
-        Some(Op::Say { .. }) => true,
-        Some(Op::Call { .. }) => false,
-        Some(Op::Declare { .. }) => false,
-        Some(Op::End) => false,
-        None => false,
+        Some(Op::Go { .. } | Op::If { .. } | Op::Say { .. }) => true,
+        _ => false,
     }
 }
 

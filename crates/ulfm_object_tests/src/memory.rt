@@ -92,13 +92,13 @@ fn apply_refused<'a>(
     Ok(0)
 }
 
-/// A script, each call of which is refused its memory until there is enough. Answers how many times one was refused.
+/// A script, each call of which is refused its memory until there is enough; one is refused at least.
 fn run_refused(
     rt: &impl Abort,
     alloc: Global,
     limits: Limits,
     script: &[Line],
-) -> Result<usize, Fail> {
+) -> Result<(), Fail> {
     let heap = LocalHeap::new(alloc, 1 << 14)?;
     let mut object = Object::open(&heap, limits)?;
     let mut twin = Object::open(alloc, limits)?;
@@ -107,31 +107,15 @@ fn run_refused(
         let more = apply_refused(rt, alloc, &heap, &mut object, &mut twin, line)?;
         refused = refused.saturating_add(more);
     }
-    expect_alike(rt, &object, &twin)?;
-    Ok(refused)
+    assert!(rt; refused > 0, "no call was refused");
+    expect_alike(rt, &object, &twin)
 }
 
 #[test]
-fn one_rank_is_refused_memory(rt: HostRuntime) -> Result<(), Fail> {
-    let refused = run_refused(&rt, rt.alloc(), limits(1, 1, 2), &one_rank_script())?;
-    assert!(rt; refused > 0, "no call was refused");
-    Ok(())
-}
-
-#[test]
-fn acknowledgements_are_refused_memory(rt: HostRuntime) -> Result<(), Fail> {
-    let script = acknowledgements_script();
-    let refused = run_refused(&rt, rt.alloc(), limits(3, 1, 2), &script)?;
-    assert!(rt; refused > 0, "no call was refused");
-    Ok(())
-}
-
-#[test]
-fn calls_of_2013_are_refused_memory(rt: HostRuntime) -> Result<(), Fail> {
-    let script = names_of_2013_script();
-    let refused = run_refused(&rt, rt.alloc(), limits(3, 1, 2), &script)?;
-    assert!(rt; refused > 0, "no call was refused");
-    Ok(())
+fn scripts_are_refused_memory(rt: HostRuntime) -> Result<(), Fail> {
+    run_refused(&rt, rt.alloc(), limits(1, 1, 2), &one_rank_script())?;
+    run_refused(&rt, rt.alloc(), limits(3, 1, 2), &acknowledgements_script())?;
+    run_refused(&rt, rt.alloc(), limits(3, 1, 2), &names_of_2013_script())
 }
 
 #[test]
@@ -142,9 +126,7 @@ fn shrinks_are_refused_memory(rt: HostRuntime) -> Result<(), Fail> {
         (poll(0, 0), shrunk(1, 1, 1)),
         (free(0, 1), Reply::Freed),
     ];
-    let refused = run_refused(&rt, rt.alloc(), limits(2, 2, 2), &script)?;
-    assert!(rt; refused > 0, "no call was refused");
-    Ok(())
+    run_refused(&rt, rt.alloc(), limits(2, 2, 2), &script)
 }
 
 #[test]

@@ -4,4 +4,5 @@ mod failing;
 mod free;
 mod held;
 mod order;
+mod plans;
 mod tables;

@@ -2,6 +2,7 @@
 ghost use Rattle.std.specs.Prelude.{◌≡◌, IfErr, true};
 ghost use Rattle.ulfm_race.specs.Races.{IsPlan};
 
+use crate::tests::plans::plan_of;
 use std::alloc::{AllocError, Global};
 use std::sync::Wait;
 use std::test::Fail;
@@ -56,11 +57,7 @@ fn four_answers(alloc: Global) -> Result<Vec<Reply<FlagAnd>>, AllocError> {
 
 #[test]
 fn race_of_four(rt: HostRuntime) -> Result<(), Fail> {
-    let plan = Plan {
-        ranks: 4,
-        rounds: 2,
-        fail: None,
-    };
+    let plan = plan_of(4, 2);
     let outcome = free_race(&rt, rt.alloc(), plan)?;
     let wanted = four_answers(rt.alloc())?;
     assert_eq!(rt; outcome.replies.len(), 4);
@@ -73,11 +70,7 @@ fn race_of_four(rt: HostRuntime) -> Result<(), Fail> {
 
 #[test]
 fn race_of_sixty_four(rt: HostRuntime) -> Result<(), Fail> {
-    let plan = Plan {
-        ranks: 64,
-        rounds: 100,
-        fail: None,
-    };
+    let plan = plan_of(64, 100);
     let outcome = race(&rt, rt.alloc(), plan, &Free)?;
     assert_eq!(rt; outcome.replies.len(), 64);
     for replies in &outcome.replies {

@@ -1,6 +1,7 @@
 // A race whose gate holds all ranks but one.
+use crate::tests::plans::plan_of;
 use std::test::Fail;
-use ulfm_race::{Gate, Plan, RaceFault, Turn, race};
+use ulfm_race::{Gate, RaceFault, Turn, race};
 
 /// Says false to every rank but this one.
 #[derive(Drop)]
@@ -16,11 +17,7 @@ impl Gate for Only {
 
 #[test]
 fn race_held(rt: HostRuntime) -> Result<(), Fail> {
-    let plan = Plan {
-        ranks: 4,
-        rounds: 3,
-        fail: None,
-    };
+    let plan = plan_of(4, 3);
     for rank in 0..4 {
         let outcome = race(&rt, rt.alloc(), plan, &Only(rank));
         assert!(rt; matches!(outcome, Err(RaceFault::Held)));

@@ -1,4 +1,5 @@
 // Races whose gate keeps a table of what each of two ranks has come to, under a lock, and lets a rank wait for the other.
+use crate::tests::plans::plan_of;
 use std::sync::{Mutex, Wait};
 use std::test::Fail;
 use std::thread;
@@ -141,11 +142,7 @@ impl<'a, R: Wait> Gate for Tables<'a, R> {
 
 #[test]
 fn gate_two_ranks(rt: HostRuntime) -> Result<(), Fail> {
-    let plan = Plan {
-        ranks: 2,
-        rounds: 2,
-        fail: None,
-    };
+    let plan = plan_of(2, 2);
     let gate = Tables::new(&rt, Rule::Meet);
     let outcome = race(&rt, rt.alloc(), plan, &gate)?;
     assert_eq!(rt; outcome.replies.len(), 2);
@@ -156,9 +153,8 @@ fn gate_two_ranks(rt: HostRuntime) -> Result<(), Fail> {
 #[test]
 fn race_declares(rt: HostRuntime) -> Result<(), Fail> {
     let plan = Plan {
-        ranks: 2,
-        rounds: 1,
         fail: Some(1),
+        ..plan_of(2, 1)
     };
     let gate = Tables::new(&rt, Rule::Second);
     let outcome = race(&rt, rt.alloc(), plan, &gate)?;
@@ -174,11 +170,7 @@ fn race_declares(rt: HostRuntime) -> Result<(), Fail> {
 
 #[test]
 fn each_poll_is_asked_for(rt: HostRuntime) -> Result<(), Fail> {
-    let plan = Plan {
-        ranks: 2,
-        rounds: 1,
-        fail: None,
-    };
+    let plan = plan_of(2, 1);
     let gate = Tables::new(&rt, Rule::Third);
     let outcome = race(&rt, rt.alloc(), plan, &gate)?;
     assert_eq!(rt; outcome.group.as_slice(), [0, 1].as_slice());

@@ -1,4 +1,4 @@
-use Rattle.std.proofs.Common.{◌≡◌, ◌∙◌, ℕ, ◌+◌, true, false, List, map, drop, sym, subst}
+use Rattle.std.proofs.Common.{◌≡◌, ◌∙◌, ℕ, true, false, List, map, sym, subst}
 use Rattle.std.specs.Prelude.{OnOk}
 use Rattle.ulfm_explore.specs.Tellings.{answer_to, is_answer}
 use Rattle.ulfm_explore.specs.Views.{told_of}
@@ -10,20 +10,8 @@ returns-then-is_answer g c =
     let next = map_next told_of c.args.shown.now c.loop-outcome.outcome-index c.outcome-item.result c.loop-outcome-test.true c.outcome-item.is in
     let holds : is_answer c.args.program.now c.args.question (told_of c.outcome-item.result).0 ≡ true = sym (rw c.deref.ensures.value at c.is_answer.ensures) ∙ c.if-is_answer.true in
     let found =
-    answer_here
-    c.args.text.now.items
-    c.args.program.now
-    c.args.question
-    c.args.is_whole
-    c.loop-outcome.number
-    (told_of c.outcome-item.result)
-    (drop c.loop-outcome.outcome-index (map told_of c.args.shown.now))
-    (drop (c.loop-outcome.outcome-index + 1) (map told_of c.args.shown.now))
-    (answer_to c.args.text.now.items c.args.program.now c.args.question c.args.is_whole 1 (map told_of c.args.shown.now))
-    next
-    holds
-    c.loop-outcome.invariant.1
-    in
+    answer_here c.args.text.now.items c.args.program.now c.args.question c.args.is_whole c.loop-outcome.number (told_of c.outcome-item.result) _ _
+    (answer_to c.args.text.now.items c.args.program.now c.args.question c.args.is_whole 1 (map told_of c.args.shown.now)) next holds c.loop-outcome.invariant.1 in
     subst
     (λ (x : List ℕ). OnOk c.print_found.result (c.print_found.new.text.items ≡ x))
     (rw (c.loop-outcome.invariant.0, c.deref-then-is_answer.ensures.value) found)
@@ -34,18 +22,6 @@ loop-outcome-preserved g c =
     let next = map_next told_of c.args.shown.now c.loop-outcome.outcome-index c.outcome-item.result c.loop-outcome-test.true c.outcome-item.is in
     let fails : is_answer c.args.program.now c.args.question (told_of c.outcome-item.result).0 ≡ false = sym (rw c.deref.ensures.value at c.is_answer.ensures) ∙ c.if-is_answer.false in
     let on =
-    answer_on
-    c.args.text.now.items
-    c.args.program.now
-    c.args.question
-    c.args.is_whole
-    c.loop-outcome.number
-    (told_of c.outcome-item.result)
-    (drop c.loop-outcome.outcome-index (map told_of c.args.shown.now))
-    (drop (c.loop-outcome.outcome-index + 1) (map told_of c.args.shown.now))
-    _
-    next
-    fails
-    c.loop-outcome.invariant.1
-    in
+    answer_on c.args.text.now.items c.args.program.now c.args.question c.args.is_whole c.loop-outcome.number (told_of c.outcome-item.result) _ _ _ next fails
+    c.loop-outcome.invariant.1 in
     (c.loop-outcome.invariant.0, rw c.saturating_add-number.ensures on)

@@ -1,8 +1,6 @@
-use Rattle.std.proofs.Common.{List, Some, length, refl, arith, sym, ap, subst, ◌∙◌}
+use Rattle.std.proofs.Common.{length, refl, arith, sym, ap, ◌∙◌}
 use Rattle.std.proofs.lemmas.List.{set-get_or}
 use Rattle.ulfm_model.specs.declared.event.Caller.{Caller}
-use Rattle.ulfm_model.specs.{declared.line.{Line.{Line}, Why.{Why}}, Traces.{Takes, Under}}
-use Rattle.ulfm_judge.specs.{declared.calls.OpenCall.{OpenCall}, Kept.{GoesWith, traced_of}}
 use Rattle.ulfm_judge.proofs.Seating.{is_open_at}
 use Rattle.ulfm_judge.proofs.Taking.{inexact, looks, no_call, undue}
 use Rattle.ulfm_judge.proofs.calls.look.Goals as goal
@@ -16,19 +14,13 @@ bounds-calls-i g c = rw c.in-Some.is at c.place_by.ensures.within
 
 pub returns-then-not-is_due : goal.returns-then-not-is_due
 returns-then-not-is_due g c = λ h us group known are.
-    let old = traced_of c.args.limits h c.args.records.now us in
-    let Goes = λ (calls : List (OpenCall g.row.P.Denot g.row.A.Denot)).
-    GoesWith calls (λ (next : List (Under g.row.P.Denot)). Takes g.P.Meld.meld old group (Line.Looked c.args.rank c.args.count) (traced_of c.args.limits h c.args.records.now next)) (Some Why.Look) in
-    subst Goes (sym (set-get_or c.args.calls.now c.in-Some.i c.index-calls-i.result))
+    rw set-get_or
     (undue g.P.Meld.meld c.args.limits h c.args.records.now c.args.calls.now us are group c.args.rank c.args.count c.in-Some.i c.index-calls-i.result (sym c.place_by.ensures.at ∙ c.in-Some.is)
     (sym c.is_due.ensures ∙ c.if-not-is_due.true))
 
 pub returns-then-from-known : goal.returns-then-from-known
 returns-then-from-known g c = λ h us group known are.
-    let old = traced_of c.args.limits h c.args.records.now us in
-    let Goes = λ (calls : List (OpenCall g.row.P.Denot g.row.A.Denot)).
-    GoesWith calls (λ (next : List (Under g.row.P.Denot)). Takes g.P.Meld.meld old group (Line.Looked c.args.rank c.args.count) (traced_of c.args.limits h c.args.records.now next)) (Some Why.Look) in
-    subst Goes (sym (set-get_or c.args.calls.now c.in-Some.i c.index-calls-i.result))
+    rw set-get_or
     (inexact g.P.Meld.meld c.args.limits h c.args.records.now c.args.calls.now us are group c.args.rank c.args.count c.in-Some.i c.index-calls-i.result (sym c.place_by.ensures.at ∙ c.in-Some.is)
     (λ e. absurd (omega (arith, c.if-from-known.true, c.from.ensures, ap length known, e))))
 

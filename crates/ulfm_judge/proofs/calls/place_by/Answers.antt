@@ -6,18 +6,12 @@ use Rattle.ulfm_judge.proofs.calls.place_by.Goals as goal
 pub returns-then-u : goal.returns-then-u
 returns-then-u g c =
     let within = ltb-true _ _ (sym c.in-Some.ensures.lookup.0) in
-    let seat = c.seat_of-seat.result in record {
-      at = stands_there c.args.calls.now c.args.by seat c.in-Some.u.now c.seat_of-seat.ensures.is within c.in-Some.ensures.lookup.1 c.if-u.true;
-      within = within;
-    }
+    record { at = stands_there c.args.calls.now c.args.by c.seat_of-seat.result c.in-Some.u.now c.seat_of-seat.ensures.is within c.in-Some.ensures.lookup.1 c.if-u.true; within = within }
 
 pub returns-else-u : goal.returns-else-u
 returns-else-u g c =
     let within = ltb-true _ _ (sym c.in-Some.ensures.lookup.0) in
-    let seat = c.seat_of-seat.result in record {
-      at = stands_ended c.args.calls.now c.args.by seat c.in-Some.u.now c.seat_of-seat.ensures.is within c.in-Some.ensures.lookup.1 c.if-u.false;
-      within = tt;
-    }
+    record { at = stands_ended c.args.calls.now c.args.by c.seat_of-seat.result c.in-Some.u.now c.seat_of-seat.ensures.is within c.in-Some.ensures.lookup.1 c.if-u.false; within = tt }
 
 pub returns-in-None : goal.returns-in-None
 returns-in-None g c = record {

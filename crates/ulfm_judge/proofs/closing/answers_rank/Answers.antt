@@ -1,7 +1,7 @@
 use Rattle.std.proofs.Common.{◌≡◌, ◌==◌, ◌&&◌, ℕ, Bool, List, [], Option, Some, is_some, take, if◌then◌else◌, sym, subst, ap, ap₂, ◌∙◌}
 use Rattle.std.specs.Prelude.{IfOk, unwrap_or}
 use Rattle.ulfm_model.specs.declared.{event.Event.{Event}, refusal.Refusal.{Refusal}}
-use Rattle.ulfm_model.specs.{History.{failures}, Records.{Record}}
+use Rattle.ulfm_model.specs.{History.{History, failures}, Records.{Record}}
 use Rattle.ulfm_record.specs.{declared.record.RankRecord.{RankRecord}, Kept.{record_of}}
 use Rattle.ulfm_record.proofs.Places.{find_no_place, find_place}
 use Rattle.ulfm_model.specs.Traces.{record_in, view_at}
@@ -11,6 +11,19 @@ use Rattle.ulfm_judge.specs.CallsAt.{CallAt, call_of}
 use Rattle.ulfm_numbers.specs.{Seen.{Seen}, Telling.{seen_at}}
 use Rattle.ulfm_judge.specs.{Kept.{traced_of, under_of}, ReplyTests.{looked_test, rank_test, refused_test}}
 use Rattle.ulfm_judge.proofs.closing.answers_rank.Goals as goal
+use Rattle.ulfm_judge.proofs.closing.answers_rank.Goals.{After-index-records-j}
+
+-- the rank's record is found
+found : (g : _) (c : After-index-records-j g) (h : History g.row.P.Denot) → record_in (traced_of c.args.limits h c.args.records.now []) c.args.rank ≡ Some (record_of c.args.limits c.index-records-j.result)
+found g c h =
+    find_place (record_of c.args.limits) (λ (x : Record). x.number == c.args.rank) c.args.records.now c.in-Some.j c.index-records-j.result (sym c.place_of_rank.ensures.at ∙ c.in-Some.is)
+    ∙ ap (λ (x : RankRecord g.row.A.Denot). Some (record_of c.args.limits x)) (sym c.index-records-j.is)
+
+-- so the test of its call is that of what its record tells
+tested : (g : _) (c : After-index-records-j g) (h : History g.row.P.Denot)
+    → let now = traced_of c.args.limits h c.args.records.now [] in let test = rank_test g.P.Meld.meld g.P.Packed.pack now (under_of c.args.u.now) c.args.point c.args.reply.now in
+    test (record_in now c.args.rank) ≡ test (Some (record_of c.args.limits c.index-records-j.result))
+tested g c h = ap (rank_test g.P.Meld.meld g.P.Packed.pack (traced_of c.args.limits h c.args.records.now []) (under_of c.args.u.now) c.args.point c.args.reply.now) (found g c h)
 
 pub returns-in_default-clause-told : goal.returns-in_default-clause-told
 returns-in_default-clause-told g c = λ h tells.
@@ -23,35 +36,29 @@ returns-then-own-clause-told g c = λ h tells.
     let now = traced_of c.args.limits h c.args.records.now [] in
     let u = under_of c.args.u.now in
     let old = record_of c.args.limits c.index-records-j.result in
-    let test = rank_test g.P.Meld.meld g.P.Packed.pack now u c.args.point c.args.reply.now in
-    let at = find_place (record_of c.args.limits) (λ (x : Record). x.number == c.args.rank) c.args.records.now c.in-Some.j c.index-records-j.result (sym c.place_of_rank.ensures.at ∙ c.in-Some.is) in
-    let found : record_in now c.args.rank ≡ Some old = at ∙ ap (λ (x : RankRecord g.row.A.Denot). Some (record_of c.args.limits x)) (sym c.index-records-j.is) in
+    let own = tested g (goal.at.returns-then-own-clause-told g c).After-index-records-j h in
     let other = is_some u.look && looked_test g.P.Meld.meld g.P.Packed.pack (call_of c.args.limits (view_at now u c.args.point) old) u.asked c.args.reply.now in
-    c.is_refused-then-own.ensures ∙ sym (ap test found ∙ ap (λ (b : Bool). if b then refused_test Refusal.SelfFailed c.args.reply.now else other) c.if-own.true)
+    c.is_refused-then-own.ensures ∙ sym (own ∙ ap (λ (b : Bool). if b then refused_test Refusal.SelfFailed c.args.reply.now else other) c.if-own.true)
 
 pub returns-in_default-look-clause-told : goal.returns-in_default-look-clause-told
 returns-in_default-look-clause-told g c = λ h tells.
     let now = traced_of c.args.limits h c.args.records.now [] in
     let u = under_of c.args.u.now in
     let old = record_of c.args.limits c.index-records-j.result in
-    let test = rank_test g.P.Meld.meld g.P.Packed.pack now u c.args.point c.args.reply.now in
-    let at = find_place (record_of c.args.limits) (λ (x : Record). x.number == c.args.rank) c.args.records.now c.in-Some.j c.index-records-j.result (sym c.place_of_rank.ensures.at ∙ c.in-Some.is) in
-    let found : record_in now c.args.rank ≡ Some old = at ∙ ap (λ (x : RankRecord g.row.A.Denot). Some (record_of c.args.limits x)) (sym c.index-records-j.is) in
+    let own = tested g (goal.at.returns-in_default-look-clause-told g c).After-index-records-j h in
     let told = call_of c.args.limits (view_at now u c.args.point) old in
     let looked = λ (l : Option ℕ). is_some l && looked_test g.P.Meld.meld g.P.Packed.pack (record told { look = take (unwrap_or l 0) (failures h) }) u.asked c.args.reply.now in
-    sym (ap test found ∙ (ap (λ (b : Bool). if b then refused_test Refusal.SelfFailed c.args.reply.now else looked u.look) c.if-own.false ∙ ap looked c.in_default-look.is))
+    sym (own ∙ (ap (λ (b : Bool). if b then refused_test Refusal.SelfFailed c.args.reply.now else looked u.look) c.if-own.false ∙ ap looked c.in_default-look.is))
 
 pub returns-clause-told : goal.returns-clause-told
 returns-clause-told g c = λ h tells.
     let now = traced_of c.args.limits h c.args.records.now [] in
     let u = under_of c.args.u.now in
     let old = record_of c.args.limits c.index-records-j.result in
-    let test = rank_test g.P.Meld.meld g.P.Packed.pack now u c.args.point c.args.reply.now in
-    let at = find_place (record_of c.args.limits) (λ (x : Record). x.number == c.args.rank) c.args.records.now c.in-Some.j c.index-records-j.result (sym c.place_of_rank.ensures.at ∙ c.in-Some.is) in
-    let found : record_in now c.args.rank ≡ Some old = at ∙ ap (λ (x : RankRecord g.row.A.Denot). Some (record_of c.args.limits x)) (sym c.index-records-j.is) in
+    let own = tested g (goal.at.returns-clause-told g c).After-index-records-j h in
     let told = call_of c.args.limits (view_at now u c.args.point) old in
     let looked = λ (l : Option ℕ). is_some l && looked_test g.P.Meld.meld g.P.Packed.pack (record told { look = take (unwrap_or l 0) (failures h) }) u.asked c.args.reply.now in
-    let is = ap test found ∙ (ap (λ (b : Bool). if b then refused_test Refusal.SelfFailed c.args.reply.now else looked u.look) c.if-own.false ∙ ap looked c.in-Some-look.is) in
+    let is = own ∙ (ap (λ (b : Bool). if b then refused_test Refusal.SelfFailed c.args.reply.now else looked u.look) c.if-own.false ∙ ap looked c.in-Some-look.is) in
     let look = c.first_of-look.ensures ∙ ap (take c.in-Some-look.count) (c.deref.ensures.value ∙ tells.failures.0) in
     let asked = λ (call : CallAt g.row.P.Denot). looked_test g.P.Meld.meld g.P.Packed.pack call u.asked c.args.reply.now in
     let same =
@@ -75,8 +82,6 @@ pub returns-clause-fits : goal.returns-clause-fits
 returns-clause-fits g c = λ may.
     let u = under_of c.args.u.now in
     let old = record_of c.args.limits c.index-records-j.result in
-    let at = find_place (record_of c.args.limits) (λ (x : Record). x.number == c.args.rank) c.args.records.now c.in-Some.j c.index-records-j.result (sym c.place_of_rank.ensures.at ∙ c.in-Some.is) in
-    let found = at ∙ ap (λ (x : RankRecord g.row.A.Denot). Some (record_of c.args.limits x)) (sym c.index-records-j.is) in
     let call : CallAt g.row.P.Denot = record { limits = c.args.limits; caller = old; look = c.first_of-look.result.now; seen = seen_at c.args.numbers.now c.args.point; own = c.deref-2.result.now } in
-    on_test c.is_answer.result _ _ (λ is. may_leave (traced_of c.args.limits [] c.args.records.now []) c.args.rank u c.args.reply.now old found
+    on_test c.is_answer.result _ _ (λ is. may_leave (traced_of c.args.limits [] c.args.records.now []) c.args.rank u c.args.reply.now old (found g (goal.at.returns-clause-fits g c).After-index-records-j [])
     (started_fits g.P.Meld.meld g.P.Packed.pack call u.asked c.args.reply.now may.in_range.rounds is)) c.is_answer.ensures

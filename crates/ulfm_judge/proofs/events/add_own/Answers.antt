@@ -16,11 +16,9 @@ bounds-calls-i g c = rw c.in-Some.is at c.place_by.ensures.within
 
 pub returns-else-is_owned : goal.returns-else-is_owned
 returns-else-is_owned g c = λ us are.
-    let u = under_of (slice_index_or c.args.calls.now c.in-Some.i c.index-calls-i.result) in
     let at = sym c.place_by.ensures.at ∙ c.in-Some.is in
-    let is = sym c.is_owned.ensures ∙ c.if-is_owned.false in
     changed_at c.args.calls.now us c.args.by (with_event c.args.event) (event_keeps c.args.event) c.in-Some.i c.index-calls-i.result _ are at
-    (is_open_at c.args.calls.now c.args.by c.in-Some.i c.index-calls-i.result at) (unowned c.args.event u is)
+    (is_open_at c.args.calls.now c.args.by c.in-Some.i c.index-calls-i.result at) (unowned c.args.event _ (sym c.is_owned.ensures ∙ c.if-is_owned.false))
 
 pub returns-in_ok-push : goal.returns-in_ok-push
 returns-in_ok-push g c = λ us are.

@@ -2,7 +2,7 @@ use Rattle.std.proofs.Common.{ℕ, ◌<◌, ◌∷◌, [], List, length, take, g
 use Rattle.std.proofs.lemmas.List.{take_more}
 use Rattle.ulfm_audit.specs.Audits.{TakesPieces}
 use Rattle.ulfm_audit.proofs.Telling.{pieces_on}
-use Rattle.ulfm_audit.proofs.auditing.take_pieces.Goals as goal
+use Rattle.ulfm_audit.proofs.auditing.Auditing.take_pieces.Goals as goal
 
 pub pieces-preserved : goal.pieces-preserved
 pieces-preserved g c =
@@ -10,10 +10,11 @@ pieces-preserved g c =
     let i = c.pieces.piece-index in
     let within : i < length pieces = omega (arith, c.pieces-test.true, c.pieces.auto.piece-index-end) in
     let limits = c.args.limits in
-    let begin = c.args.text.now.items in
-    let new = c.take_piece.new in (
+    let old = c.args.self.now in
+    let now = c.pieces.self in
+    let new = c.take_piece.new.self in (
       c.in_ok-take_piece.ensures.stands,
-      subst (λ (ps : List (List ℕ)). TakesPieces limits ps c.args.pass.now.seen new.pass.seen begin new.text.items) (sym (take_more pieces i [] within))
-          (pieces_on limits (take i pieces) (get_or pieces i [] ∷ []) c.args.pass.now.seen c.pieces.pass.seen new.pass.seen begin c.pieces.text.items new.text.items
+      subst (λ (ps : List (List ℕ)). TakesPieces limits ps old.pass.seen new.pass.seen old.text.items new.text.items) (sym (take_more pieces i [] within))
+          (pieces_on limits (take i pieces) (get_or pieces i [] ∷ []) old.pass.seen now.pass.seen new.pass.seen old.text.items now.text.items new.text.items
           c.pieces.invariant.1 c.in_ok-take_piece.ensures.takes),
     )

@@ -8,24 +8,24 @@ use Rattle.ulfm_replica.specs.Replays.{Feeds}
 use Rattle.ulfm_audit.specs.Audits.{Takes}
 use Rattle.ulfm_audit.specs.Texts.{entry_line, settled_lines}
 use Rattle.ulfm_audit.proofs.Telling.{joined, takes_one}
-use Rattle.ulfm_audit.proofs.auditing.take_entry.Goals as goal
+use Rattle.ulfm_audit.proofs.auditing.Auditing.take_entry.Goals as goal
 
 pub returns-then-not-branch-clause-takes : goal.returns-then-not-branch-clause-takes
 returns-then-not-branch-clause-takes g c =
-    let old = c.args.pass.now in
+    let old = c.args.self.now.pass in
     let new = c.feed.new.pass in
     let e = c.args.entry.now in
-    let text = c.args.text.now.items in
+    let text = c.args.self.now.text.items in
     let feeds = subst (λ (taken : Bool). Feeds flag_meld old.name.limits e taken old.seen new.seen) c.if-not-branch.true c.in_ok-feed.ensures.0.feeds in
     subst (λ (l : Limits). Takes l (e ∷ []) old.seen new.seen text text) (sym c.requires.limits_are)
     (takes_one old.name.limits e false old.seen new.seen text text feeds (sym (append-nil text)))
 
 pub returns-clause-takes : goal.returns-clause-takes
 returns-clause-takes g c =
-    let old = c.args.pass.now in
+    let old = c.args.self.now.pass in
     let new = c.feed.new.pass in
     let e = c.args.entry.now in
-    let text = c.args.text.now.items in
+    let text = c.args.self.now.text.items in
     let last = c.print_settled.new.text.items in
     let feeds = subst (λ (taken : Bool). Feeds flag_meld old.name.limits e taken old.seen new.seen) c.if-not-branch.false c.in_ok-feed.ensures.0.feeds in
     let tells = c.in_ok-feed.ensures.1.tells in
