@@ -11,7 +11,7 @@ use ulfm_laws::meld::Packed;
 use ulfm_model::event::Caller;
 use ulfm_model::limits::Limits;
 use ulfm_steps::{Arrivals, Missing};
-use ulfm_words::{OpenWords, PlainWords, Words, set_arrival};
+use ulfm_words::{OpenWords, Words, set_arrival};
 
 const FOUR: Limits = Limits {
     ranks: 4,
@@ -54,8 +54,7 @@ fn missing<P: Packed, A: Allocator, W: Words<P, A>>(
 #[test]
 fn declared_members_are_read_first(rt: HostRuntime) -> Result<(), Fail> {
     for whole in [false, true] {
-        let plain = PlainWords::<FlagAnd>::open(FOUR)?;
-        let words = Counted { plain };
+        let words = Counted::<FlagAnd>::open(FOUR)?;
         let mut pass = words.pass(rt.alloc())?;
         let (group, declared) = ([0, 1, 2, 3], [2, 9, 0]);
         assert!(rt; missing(&words, &mut pass, &group, &declared, whole) == Missing::Declared);
@@ -78,8 +77,7 @@ fn declared_members_are_read_first(rt: HostRuntime) -> Result<(), Fail> {
 #[test]
 fn all_may_be_declared(rt: HostRuntime) -> Result<(), Fail> {
     for whole in [false, true] {
-        let plain = PlainWords::<FlagAnd>::open(FOUR)?;
-        let words = Counted { plain };
+        let words = Counted::<FlagAnd>::open(FOUR)?;
         let mut pass = words.pass(rt.alloc())?;
         let (group, declared) = ([0, 1, 2, 3], [3, 2, 1, 0]);
         assert!(rt; arrive(&words, &mut pass, 0) && arrive(&words, &mut pass, 1));

@@ -16,7 +16,7 @@ use ulfm_laws::summary::{Body, Summary};
 use ulfm_model::block::{Block, Side};
 use ulfm_model::limits::Limits;
 use ulfm_steps::{Found, Peek, ReadBlocks, RoundBlocks};
-use ulfm_words::{OpenWords, PlainWords, Words};
+use ulfm_words::{OpenWords, Words};
 
 const FOUR: Limits = Limits {
     ranks: 4,
@@ -95,8 +95,7 @@ fn counts(pass: &CountedPass<FlagAnd>) -> (u32, u32, u32, u32, u32) {
 
 #[test]
 fn both_blocks_are_read_once(rt: HostRuntime) -> Result<(), Fail> {
-    let plain = PlainWords::<FlagAnd>::open(THREE)?;
-    let words = Counted { plain };
+    let words = Counted::<FlagAnd>::open(THREE)?;
     let mut pass = words.pass(rt.alloc())?;
     let group = [0, 1, 2];
     assert!(rt;
@@ -147,8 +146,7 @@ fn both_blocks_are_read_once(rt: HostRuntime) -> Result<(), Fail> {
 
 #[test]
 fn no_block_of_a_missing_member_is_cached(rt: HostRuntime) -> Result<(), Fail> {
-    let plain = PlainWords::<FlagAnd>::open(THREE)?;
-    let words = Counted { plain };
+    let words = Counted::<FlagAnd>::open(THREE)?;
     let mut pass = words.pass(rt.alloc())?;
     let group = [0, 1, 2];
     assert!(rt; give(&words, &mut pass, 0, FlagAnd { bits: 0xf }));
@@ -168,8 +166,7 @@ fn no_block_of_a_missing_member_is_cached(rt: HostRuntime) -> Result<(), Fail> {
 
 #[test]
 fn a_front_block_may_have_all(rt: HostRuntime) -> Result<(), Fail> {
-    let plain = PlainWords::<FlagAnd>::open(FOUR)?;
-    let words = Counted { plain };
+    let words = Counted::<FlagAnd>::open(FOUR)?;
     let mut pass = words.pass(rt.alloc())?;
     let group = [0, 1, 2, 3];
     assert!(rt; give(&words, &mut pass, 0, FlagAnd { bits: 0xff }));

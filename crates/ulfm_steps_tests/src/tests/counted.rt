@@ -1,11 +1,11 @@
 // Words of the tests' own: plain words whose pass counts the loads and exchanges that are made, those of blocks and of wings apart.
-ghost use Rattle.std.specs.Prelude.{[], true, false};
+ghost use Rattle.std.specs.Prelude.{◌≡◌, [], IfOk, true, false};
 ghost use Rattle.ulfm_words.specs.Pass.{plain_name};
 
 use std::alloc::{AllocError, Allocator, Global};
 use ulfm_laws::meld::Packed;
 use ulfm_model::block::{Block, Wing};
-use ulfm_model::limits::Limits;
+use ulfm_model::limits::{Limits, OpenFault};
 use ulfm_model::place::Place;
 use ulfm_words::{OpenWords, PlainPass, PlainTold, PlainWords, Step, Words};
 
@@ -31,6 +31,16 @@ pub(crate) struct CountedPass<P: Packed, A: Allocator = Global> {
     pub wing_loads: u32,
     /// Exchanges at wings.
     pub spreads: u32,
+}
+
+impl<P: Packed> Counted<P> {
+    /// New words of these limits.
+    pub(crate) fn open(limits: Limits) -> Result<Counted<P>, OpenFault>
+        ensures { IfOk result (λ words. words.plain.limits ≡ limits) }
+    {
+        let plain = PlainWords::open(limits)?;
+        Ok(Counted { plain })
+    }
 }
 
 impl<P: Packed, A: Allocator + Copy + Drop> Words<P, A> for Counted<P> {

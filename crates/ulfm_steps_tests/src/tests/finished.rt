@@ -114,8 +114,7 @@ fn look_finds_what_came(rt: HostRuntime) -> Result<(), Fail> {
 
 #[test]
 fn steps_over_own_words(rt: HostRuntime) -> Result<(), Fail> {
-    let plain = PlainWords::<FlagAnd>::open(THREE)?;
-    let words = Counted { plain };
+    let words = Counted::<FlagAnd>::open(THREE)?;
     let mut pass = words.pass(rt.alloc())?;
     let mut found = Vec::with_capacity(rt.alloc(), 3)?;
     let group = [0, 1, 2];
@@ -164,8 +163,7 @@ fn steps_over_own_words(rt: HostRuntime) -> Result<(), Fail> {
 
 #[test]
 fn a_rank_contributes_once(rt: HostRuntime) -> Result<(), Fail> {
-    let plain = PlainWords::<FlagAnd>::open(THREE)?;
-    let words = Counted { plain };
+    let words = Counted::<FlagAnd>::open(THREE)?;
     let mut pass = words.pass(rt.alloc())?;
     assert!(rt; give(&words, &mut pass, 0, FlagAnd { bits: 0xf }));
     // Its wing is set, and nothing is tried beside that.

@@ -14,7 +14,7 @@ use ulfm_laws::meld::Packed;
 use ulfm_model::limits::Limits;
 use ulfm_steps::group::is_member;
 use ulfm_steps::{Look, ReadOn};
-use ulfm_words::{OpenWords, PlainWords, Words};
+use ulfm_words::{OpenWords, Words};
 
 const SIX: Limits = Limits {
     ranks: 6,
@@ -65,8 +65,7 @@ fn read<P: Packed, A: Allocator, W: Words<P, A>, B: Allocator>(
 #[test]
 fn strangers_are_passed_by(rt: HostRuntime) -> Result<(), Fail> {
     for whole in [false, true] {
-        let plain = PlainWords::<FlagAnd>::open(SIX)?;
-        let words = Counted { plain };
+        let words = Counted::<FlagAnd>::open(SIX)?;
         let mut pass = words.pass(rt.alloc())?;
         let mut found = Vec::with_capacity(rt.alloc(), 6)?;
         let mut seen = Vec::with_capacity(rt.alloc(), 6)?;

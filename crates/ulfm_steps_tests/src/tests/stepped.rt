@@ -14,7 +14,7 @@ use ulfm_laws::meld::Packed;
 use ulfm_laws::summary::Summary;
 use ulfm_model::event::Caller;
 use ulfm_steps::{Append, Appended, Item, Look, MarkAll};
-use ulfm_words::{OpenWords, PlainWords, Words};
+use ulfm_words::{OpenWords, Words};
 
 // Declares a rank.
 fn declare<P: Packed, A: Allocator, W: Words<P, A>>(
@@ -108,8 +108,7 @@ fn look_and_mark<P: Packed, A: Allocator, W: Words<P, A>, B: Allocator>(
 
 #[test]
 fn one_step_at_a_time(rt: HostRuntime) -> Result<(), Fail> {
-    let plain = PlainWords::<FlagAnd>::open(THREE)?;
-    let words = Counted { plain };
+    let words = Counted::<FlagAnd>::open(THREE)?;
     let mut pass = words.pass(rt.alloc())?;
     let mut found = Vec::with_capacity(rt.alloc(), 3)?;
     let group = [0, 1, 2];

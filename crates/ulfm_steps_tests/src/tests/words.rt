@@ -1,13 +1,13 @@
 // The words of slots and blocks, and what is read back of them.
 ghost use Rattle.std.specs.Prelude.{◌≤◌};
 
+use crate::tests::world::THREE;
 use std::test::Fail;
 use ulfm_laws::counts::{Acked, Known};
 use ulfm_laws::ctx_mask::CtxMask;
 use ulfm_laws::flag_and::FlagAnd;
 use ulfm_laws::summary::{Body, Summary};
 use ulfm_model::contribution::{Contribution, MarkCount, Offer, Slot};
-use ulfm_model::limits::Limits;
 use ulfm_model::place::Place;
 use ulfm_words::{OpenWords, PlainWords, block_words, read_block, read_slot, slot_words};
 
@@ -101,12 +101,7 @@ fn words_of_blocks(rt: HostRuntime) {
 
 #[test]
 fn new_words(rt: HostRuntime) -> Result<(), Fail> {
-    let limits = Limits {
-        ranks: 3,
-        comms: 2,
-        rounds: 4,
-    };
-    let words = PlainWords::<FlagAnd>::open(limits)?;
+    let words = PlainWords::<FlagAnd>::open(THREE)?;
     let mut pass = words.pass(rt.alloc())?;
     assert_eq!(rt; pass.load(Place::List { index: 2 }), 0);
     assert!(rt; pass.nth(0).is_none());

@@ -35,31 +35,39 @@ pub(crate) fn those<A: Allocator>(
     Ok(some)
 }
 
+/// The place of an agreement round that an event settles.
+fn place_of(event: Event<FlagAnd>) -> Option<(u16, u16, u16)> {
+    match event {
+        Event::Settle {
+            comm,
+            round,
+            rank,
+            ..
+        }
+        | Event::Mark {
+            comm,
+            round,
+            rank,
+            ..
+        } => Some((comm, round, rank)),
+        _ => None,
+    }
+}
+
+/// What an event settles at its place of an agreement round.
+fn slot_of(event: Event<FlagAnd>) -> Option<Slot<FlagAnd>> {
+    match event {
+        Event::Settle { given, .. } => Some(Slot::Given(given)),
+        Event::Mark { known, .. } => Some(Slot::Mark(known)),
+        _ => None,
+    }
+}
+
 /// What was settled at a place of an agreement round.
 pub(crate) fn slot_at(past: &[Entry<FlagAnd>], place: (u16, u16, u16)) -> Option<Slot<FlagAnd>> {
     for entry in past {
-        match entry.event {
-            Event::Settle {
-                comm,
-                round,
-                rank,
-                given,
-            } => {
-                if (comm, round, rank) == place {
-                    return Some(Slot::Given(given));
-                }
-            }
-            Event::Mark {
-                comm,
-                round,
-                rank,
-                known,
-            } => {
-                if (comm, round, rank) == place {
-                    return Some(Slot::Mark(known));
-                }
-            }
-            _ => {}
+        if place_of(entry.event) == Some(place) {
+            return slot_of(entry.event);
         }
     }
     None

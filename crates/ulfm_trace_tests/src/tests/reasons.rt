@@ -1,16 +1,17 @@
 //! Traces whose last line is bad, for each reason, and traces with every reply.
 use crate::tests::rows::illegal;
-use crate::tests::tested::check;
+use crate::tests::tested::{check, is_legal};
 use crate::tests::traces::text_of;
+use std::alloc::AllocGlobal;
+use std::process::Abort;
 use std::test::Fail;
 use ulfm_model::Why;
-use ulfm_trace::Verdict;
 
 /// The header of the world that the bad traces are of.
 const HEADER: &str = "ulfm-trace 1 2 1 2";
 
-/// The first of some traces that isn't legal up to its last line and bad there for this reason.
-fn first_wrong(rt: &HostRuntime, why: Why, traces: &[&[&str]]) -> Result<Option<usize>, Fail> {
+/// Each of some traces is legal up to its last line, and bad there for this reason.
+fn are_wrong<R: AllocGlobal + Abort>(rt: &R, why: Why, traces: &[&[&str]]) -> Result<(), Fail> {
     for (index, lines) in traces.iter().enumerate() {
         let mut text = text_of(rt.alloc(), &[HEADER])?;
         text.extend_from_slice(&text_of(rt.alloc(), lines)?)?;
@@ -18,11 +19,9 @@ fn first_wrong(rt: &HostRuntime, why: Why, traces: &[&[&str]]) -> Result<Option<
         for _ in *lines {
             number = number.saturating_add(1);
         }
-        if check(rt, &text) != illegal(number, why) {
-            return Ok(Some(index));
-        }
+        assert_eq!(rt; check(rt, &text), illegal(number, why), "{index}");
     }
-    Ok(None)
+    Ok(())
 }
 
 /// First lines that are no header.
@@ -85,8 +84,7 @@ fn not_of_the_grammar(rt: HostRuntime) -> Result<(), Fail> {
             "reply 0 0 refused 14 out-of-memory",
         ],
     ];
-    assert_eq!(rt; first_wrong(&rt, Why::Text, &traces)?, None);
-    Ok(())
+    are_wrong(&rt, Why::Text, &traces)
 }
 
 /// A line of twenty thousand bytes, and one whose first 8192 bytes would be a line.
@@ -114,7 +112,7 @@ fn bad_calls_and_looks(rt: HostRuntime) -> Result<(), Fail> {
         &["reply - 0 declared"],
         &["call get 0 0", "reply 1 0 shrunk 1 context 300 members 0"],
     ];
-    assert_eq!(rt; first_wrong(&rt, Why::Call, &calls)?, None);
+    are_wrong(&rt, Why::Call, &calls)?;
     let looks: [&[&str]; 4] = [
         &["call get 0 0", "look 0 1"],
         &["call get 0 0", "look 0 0", "look 0 0"],
@@ -128,8 +126,7 @@ fn bad_calls_and_looks(rt: HostRuntime) -> Result<(), Fail> {
             "look 0 1",
         ],
     ];
-    assert_eq!(rt; first_wrong(&rt, Why::Look, &looks)?, None);
-    Ok(())
+    are_wrong(&rt, Why::Look, &looks)
 }
 
 #[test]
@@ -153,7 +150,7 @@ fn bad_events(rt: HostRuntime) -> Result<(), Fail> {
         &["event - spawn 1 0 0"],
         &["event 0 settle 0 0 0 flag 00000001 known 2000 acked 0"],
     ];
-    assert_eq!(rt; first_wrong(&rt, Why::Event, &events)?, None);
+    are_wrong(&rt, Why::Event, &events)?;
     let own: [&[&str]; 9] = [
         &["event 0 revoke 0"],
         &["call revoke 0 0", "event 0 revoke 0"],
@@ -179,8 +176,7 @@ fn bad_events(rt: HostRuntime) -> Result<(), Fail> {
             "event 0 mark 0 0 1 known 1",
         ],
     ];
-    assert_eq!(rt; first_wrong(&rt, Why::Own, &own)?, None);
-    Ok(())
+    are_wrong(&rt, Why::Own, &own)
 }
 
 #[test]
@@ -229,8 +225,7 @@ fn bad_replies(rt: HostRuntime) -> Result<(), Fail> {
         &["call get 5 0", "reply 5 0 refused 2 no-such-comm"],
         &["call fail 0", "reply - 0 declared"],
     ];
-    assert_eq!(rt; first_wrong(&rt, Why::Reply, &replies)?, None);
-    Ok(())
+    are_wrong(&rt, Why::Reply, &replies)
 }
 
 /// Two ranks, one more communicator, two rounds: refusals, an agree, a revocation, two shrinks, and ranks that are declared.
@@ -387,9 +382,6 @@ pub(crate) const TAKEN_PLACES: [&str; 36] = [
 
 #[test]
 fn every_reply(rt: HostRuntime) -> Result<(), Fail> {
-    let text = text_of(rt.alloc(), &TWO_RANKS)?;
-    assert_eq!(rt; check(&rt, &text), Ok(Verdict::Legal));
-    let text = text_of(rt.alloc(), &TAKEN_PLACES)?;
-    assert_eq!(rt; check(&rt, &text), Ok(Verdict::Legal));
-    Ok(())
+    is_legal(&rt, &text_of(rt.alloc(), &TWO_RANKS)?)?;
+    is_legal(&rt, &text_of(rt.alloc(), &TAKEN_PLACES)?)
 }

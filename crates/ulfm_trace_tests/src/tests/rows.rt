@@ -1,5 +1,5 @@
 //! Traces that were worked out by hand, and what changes of them give.
-use crate::tests::tested::check;
+use crate::tests::tested::{check, is_legal};
 use crate::tests::traces::{
     CONTRIBUTION_IN_FLIGHT, DECISION_OF_NOBODY, LATE_ARRIVAL, MARK_COMES_FIRST, MARK_ENDS,
     MARKS_ALONE, REVOKED_BETWEEN_LOADS, SHRINK, SIXTEEN_DIGITS, THIRTY_TWO_IDS, spliced, text_of,
@@ -35,13 +35,12 @@ fn traces_of_steps_are_legal(rt: HostRuntime) -> Result<(), Fail> {
         &SIXTEEN_DIGITS,
     ];
     for lines in all {
-        let text = text_of(rt.alloc(), lines)?;
-        let title = lines[0];
-        assert_eq!(rt; check(&rt, &text), Ok(Verdict::Legal), "{title}");
+        is_legal(&rt, &text_of(rt.alloc(), lines)?)?;
     }
-    let text = spliced(rt.alloc(), &MARK_COMES_FIRST, 21, &[MARK_ENDS], 21)?;
-    assert_eq!(rt; check(&rt, &text), Ok(Verdict::Legal));
-    Ok(())
+    is_legal(
+        &rt,
+        &spliced(rt.alloc(), &MARK_COMES_FIRST, 21, &[MARK_ENDS], 21)?,
+    )
 }
 
 /// A shrink offers all 64 context ids that its rank doesn't hold.
@@ -51,17 +50,14 @@ fn ids_of_another_width(rt: HostRuntime) -> Result<(), Fail> {
     let text = text_of(rt.alloc(), lines)?;
     assert_eq!(rt; check(&rt, &text), illegal(5, Why::Reply));
     let all = "event 0 settle 0 0 0 ctx fffffffffffffffe known 0 acked 0";
-    let text = replaced(&rt, lines, 4, all)?;
-    assert_eq!(rt; check(&rt, &text), Ok(Verdict::Legal));
-    Ok(())
+    is_legal(&rt, &replaced(&rt, lines, 4, all)?)
 }
 
 /// The trace of a contribution in flight, and the same with another flag in its line 19; a text without a line.
 #[test]
 fn trace_judged(rt: HostRuntime) -> Result<(), Fail> {
     let lines = &CONTRIBUTION_IN_FLIGHT;
-    let text = text_of(rt.alloc(), lines)?;
-    assert_eq!(rt; check(&rt, &text), Ok(Verdict::Legal));
+    is_legal(&rt, &text_of(rt.alloc(), lines)?)?;
     let text = replaced(&rt, lines, 19, "reply 0 4 agreed 00000007 failed 1 raised")?;
     assert_eq!(rt; check(&rt, &text), illegal(19, Why::Reply));
     assert_eq!(rt; check(&rt, b""), illegal(1, Why::Text));

@@ -22,12 +22,9 @@ loop-missing-init g c =
 
 pub loop-missing-preserved : goal.loop-missing-preserved
 loop-missing-preserved g c =
-    let now = (g.W.Words.sight c.loop-missing.pass).seen in
-    let after = (g.W.Words.sight c.advance.new.pass).seen in
-    let a = c.loop-missing.arrivals in
     let e = c.advance.ensures in
     record {
       of = e.goes.of;
-      round_of = rw (e.comm, e.round) (round_stays (g.W.Words.name c.args.words.now).limits now after a.comm a.round c.args.group.now (did_prefix g.W.Words.alone [] now after e.goes.did) c.loop-missing.invariant.round_of);
+      round_of = rw (e.comm, e.round) (round_stays (g.W.Words.name c.args.words.now).limits _ _ _ _ c.args.group.now (did_prefix g.W.Words.alone [] _ _ e.goes.did) c.loop-missing.invariant.round_of);
       at = c.in_default.ensures.at;
     }

@@ -43,13 +43,11 @@ loop-on-smaller g c =
 
 pub loop-on-preserved : goal.loop-on-preserved
 loop-on-preserved g c =
-    let now = (g.W.Words.sight c.loop-on.pass).seen in
-    let after = (g.W.Words.sight c.advance.new.pass).seen in
     let i = c.loop-on.invariant in
     let e = c.advance.ensures in
     record {
       of = e.goes.of;
-      may = may_read_on_after now after c.args.group.now c.args.asked c.loop-on.seen.items c.advance.new.seen.items (did_prefix g.W.Words.alone [] now after e.goes.did) e.begins i.may;
+      may = may_read_on_after _ _ c.args.group.now c.args.asked c.loop-on.seen.items c.advance.new.seen.items (did_prefix g.W.Words.alone [] _ _ e.goes.did) e.begins i.may;
       at = e.at;
       room = omega (arith, i.room, e.room);
       kept = omega (arith, i.kept, e.room);

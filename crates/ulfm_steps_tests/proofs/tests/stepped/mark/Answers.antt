@@ -7,12 +7,10 @@ new-marking-requires g c = record { rises = round_rises (g.W.Words.name c.args.w
 
 pub loop-marking-preserved : goal.loop-marking-preserved
 loop-marking-preserved g c =
-    let now = (g.W.Words.sight c.loop-marking.pass).seen in
-    let after = (g.W.Words.sight c.advance.new.pass).seen in
     let here = c.loop-marking.marking in
     let e = c.advance.ensures in
     record {
       of = e.marks.marks.of;
-      may = rw (e.comm, e.round) (may_stays (g.W.Words.name c.args.words.now).limits now after here.comm here.round c.args.group.now c.args.declared.now (did_prefix g.W.Words.alone _ now after e.marks.marks.marks.did) c.loop-marking.invariant.may);
+      may = rw (e.comm, e.round) (may_stays (g.W.Words.name c.args.words.now).limits _ _ here.comm here.round c.args.group.now c.args.declared.now (did_prefix g.W.Words.alone _ _ _ e.marks.marks.marks.did) c.loop-marking.invariant.may);
       at = e.at;
     }
