@@ -12,7 +12,7 @@ use crate::plan::{Gate, Outcome, Plan, RaceFault};
 use crate::worker::{Own, Replies, Report, Shared, work};
 use std::alloc::{AllocError, Global};
 use std::sync::Wait;
-use std::sync::atomic::{AtomicU64, Ordering};
+use std::sync::atomic::{AtomicBool, Ordering};
 use std::thread::{self, Promise, PromisedHandle, Scope, Threads};
 use ulfm_book::{BookPass, BookWords};
 use ulfm_comm::World;
@@ -86,7 +86,7 @@ pub fn race<R: Threads + Wait + Sync, G: Gate + Sync>(
 {
     let (world, ranks) = open_world(alloc, plan)?;
     let world = &world;
-    let began = AtomicU64::new(0);
+    let began = AtomicBool::new(false);
     let began = &began;
     thread::scope(
         thread::scope_env(),
@@ -131,7 +131,7 @@ fn race_in<'s, E, R: Threads + Wait + Sync, G: Gate + Sync>(
     gate: &'s G,
     alloc: Global,
     world: &'s Shared,
-    began: &'s AtomicU64,
+    began: &'s AtomicBool,
     plan: Plan,
     ranks: Vec<Own>,
 ) -> Result<Outcome, RaceFault>
@@ -158,8 +158,7 @@ fn race_in<'s, E, R: Threads + Wait + Sync, G: Gate + Sync>(
         &mut outside,
         &mut started,
     );
-    began.store(1, Ordering::SeqCst);
-    began.wake_all();
+    began.store(true, Ordering::SeqCst);
     declare(world, plan, &mut outside);
     hear_all(rt, alloc, world, gate, started, &mut outside, gathered)
 }
@@ -187,7 +186,7 @@ fn start_all<'s, E, G: Gate + Sync, R: Wait + Sync>(
     gate: &'s G,
     alloc: Global,
     world: &'s Shared,
-    began: &'s AtomicU64,
+    began: &'s AtomicBool,
     plan: Plan,
     ranks: Vec<Own>,
     outside: &mut BookPass<FlagAnd>,
@@ -218,7 +217,7 @@ fn start<'s, E, G: Gate + Sync, R: Wait + Sync>(
     gate: &'s G,
     alloc: Global,
     world: &'s Shared,
-    began: &'s AtomicU64,
+    began: &'s AtomicBool,
     plan: Plan,
     rank: Own,
     outside: &mut BookPass<FlagAnd>,

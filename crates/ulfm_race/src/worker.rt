@@ -19,7 +19,7 @@ ghost use Rattle.ulfm_words.specs.Steps.{view_of};
 use crate::plan::{Gate, Plan, RaceFault, Turn};
 use std::alloc::Global;
 use std::sync::Wait;
-use std::sync::atomic::{AtomicU64, Ordering};
+use std::sync::atomic::{AtomicBool, Ordering};
 use std::thread;
 use ulfm_book::{BookPass, BookTold, BookWords};
 use ulfm_comm::{Polled, Rank, World};
@@ -70,7 +70,7 @@ pub(crate) fn work<G: Gate, R: Wait>(
     gate: &G,
     alloc: Global,
     world: &Shared,
-    began: &AtomicU64,
+    began: &AtomicBool,
     plan: Plan,
     rank: Own,
     pass: BookPass<FlagAnd>,
@@ -110,14 +110,13 @@ pub(crate) fn work<G: Gate, R: Wait>(
     }
 }
 
-// Sleeps until each worker has its thread, and the word isn't 0 any more: so the first don't poll, on processors that the others want, for those that
-// aren't there yet.
-fn await_all<R: Wait>(rt: &R, began: &AtomicU64) {
+// Waits until each worker has its thread, so that the first don't poll, on processors that the others want, for those that aren't there yet.
+fn await_all<R: Wait>(rt: &R, began: &AtomicBool) {
     for _ in rt.forever() {
-        if began.load(Ordering::SeqCst) != 0 {
+        if began.load(Ordering::SeqCst) {
             return;
         }
-        began.park(rt, 0);
+        thread::yield_now();
     }
 }
 
