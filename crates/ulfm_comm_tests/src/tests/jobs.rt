@@ -211,7 +211,7 @@ fn apply_refused<'a>(
 
 #[test]
 fn shrinks_are_refused_memory(rt: HostRuntime) -> Result<(), Fail> {
-    let heap = LocalHeap::new(rt.alloc(), 1 << 15)?;
+    let heap = LocalHeap::new(rt.alloc(), 1 << 14)?;
     let mut job = Job::open(&heap, PlainWords::open(FOUR)?)?;
     // It has no room yet, so that the call's memory and the group's are refused.
     let mut group = Vec::new(&heap);
