@@ -20,6 +20,12 @@ const FOUR: Limits = Limits {
     rounds: 4,
 };
 
+const ALONE: Limits = Limits {
+    ranks: 1,
+    comms: 8,
+    rounds: 8,
+};
+
 /// A declaration; or a rank's shrink of a communicator, or poll of one.
 #[derive(Clone, Copy)]
 enum Asked {
@@ -235,6 +241,34 @@ fn shrinks_are_refused_memory(rt: HostRuntime) -> Result<(), Fail> {
         assert_eq!(rt; refused > 0, polls);
     }
     assert_eq!(rt; communicators(&job), 2);
+    Ok(())
+}
+
+#[test]
+fn the_fifth_communicator_takes_room(rt: HostRuntime) -> Result<(), Fail> {
+    let heap = LocalHeap::new(rt.alloc(), 1 << 14)?;
+    let mut job = Job::open(&heap, PlainWords::open(ALONE)?)?;
+    let mut group = Vec::with_capacity(&heap, 1)?;
+    for made in 1..5u16 {
+        assert_eq!(rt;
+            apply(&mut job, Asked::Shrink(0, 0), &mut group)?,
+            Reply::Started
+        );
+        // The members of the first three fit, and so do those of the fourth, but not room for all that a rank may hold.
+        let answer = apply_in(
+            &heap,
+            1024,
+            &mut job,
+            &mut group,
+            rt.alloc(),
+            Asked::Poll(0, 0),
+        )?;
+        assert_eq!(rt; answer.is_none(), made == 4);
+        if answer.is_none() {
+            apply(&mut job, Asked::Poll(0, 0), &mut group)?;
+        }
+        assert_eq!(rt; communicators(&job), made);
+    }
     Ok(())
 }
 
