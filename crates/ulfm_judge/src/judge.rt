@@ -36,6 +36,7 @@ pub struct Judge<P: Meld, A: Allocator> {
 }
 
 /// Takes in an event, if the line tells one.
+#[inline(always)]
 fn happen_told<P: Packed, A: Allocator + Copy + Drop>(
     alloc: A,
     limits: Limits,
@@ -57,6 +58,7 @@ fn happen_told<P: Packed, A: Allocator + Copy + Drop>(
 }
 
 /// Takes in a reply, if the line tells one.
+#[inline(always)]
 fn reply_told<P: Packed, A: Allocator + Copy + Drop>(
     alloc: A,
     limits: Limits,
