@@ -91,7 +91,7 @@ fn list_in_reply(reply: &mut Reply<FlagAnd>, count: u16)
     }
 }
 
-/// A line, but for the ranks that it lists, which follow where there are any. It runs for each line of a trace: out of line it takes a third more.
+/// A line, but for the ranks that it lists, which follow where there are any. It runs for each line of a trace, and so stands in line.
 #[inline(always)]
 fn read_head(line: &[u8]) -> Result<(Line<FlagAnd>, Option<&[u8]>), LineKind>
     ensures { Gives at_field result (line_head line.now) }

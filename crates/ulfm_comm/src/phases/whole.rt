@@ -136,7 +136,7 @@ impl<P: Packed, A: Allocator + Copy> LocalState<P, A> {
         }
     }
 
-    // The load of the communicator's word of revocation, by which a call asks for it alone. The phase is known here, so that none is handed on.
+    // The load of the communicator's word of revocation, by which a call asks for it alone.
     #[inline(always)]
     fn run_asking<W: Words<P, A>>(
         &mut self,
