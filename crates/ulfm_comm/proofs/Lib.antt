@@ -8,6 +8,7 @@ pub mod Known
 pub mod Wings
 pub mod Wins
 pub mod CallRuns
+pub mod Children
 pub mod Resting
 pub mod Counts
 pub mod Spawning

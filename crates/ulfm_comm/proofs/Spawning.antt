@@ -32,7 +32,7 @@ use Rattle.ulfm_comm.specs.{Phase.{Answered, Stands}, Agreement.{HasReadAll}}
 use Rattle.ulfm_steps.proofs.ReadingOn.{passing_grow}
 use Rattle.ulfm_steps.specs.Rounds.{round_on}
 use Rattle.ulfm_comm.proofs.StepAdds.{adds_none}
-use Rattle.ulfm_comm.proofs.{CallRuns.{calls_is, runs_out_after}, Holding.{comm_is, exists_is, failed_is, group_is, group_rises}, AmongOthers.{did_loosely}}
+use Rattle.ulfm_comm.proofs.{CallRuns.{calls_is, runs_out_after}, Children.{passed_parent}, Holding.{comm_is, exists_is, failed_is, group_is, group_rises}, AmongOthers.{did_loosely}}
 use Rattle.ulfm_comm.proofs.{Polls.{body_read, enough_read, later, not_refused, open_round, read_decided, read_fresh, polls_it}}
 use Rattle.ulfm_comm.proofs.Shrinks.{all_did, marks_make_none, may_own, sees_on, shrink_decided, shrink_mismatch, shrink_no_context, shrink_no_room}
 use Rattle.ulfm_comm.proofs.Shrinks.{shrink_self_failed, shrink_shrunk}
@@ -165,6 +165,10 @@ module _ {P : Type 0} (meld : P → P → P) (limits : Limits) (alone : Bool) (c
       (may_spawn meld limits d.decided c k (exists_is meld limits d.decided d.mid c x fits_decided d.marked.held) in_rounds
       (read_decided meld limits d.decided d.mid c k x d.marked.legal fits_decided d.marked.held d.all d.read) mask
       (body_read meld limits d.decided d.mid c k x d.marked.legal fits_decided d.marked.held d.all d.read ∙ d.body) d.some)
+
+  -- the communicators up to the parent were made of others
+  pub passes_parent : IsLegal meld limits now → (n : ℕ) → n ≤ c → Passed now (OfComm c k) n
+  passes_parent legal n few = passed_parent meld limits now c k n legal (exists_is meld limits now own c x (fits_now legal) held_is) few
 
   -- and the rank may hold it, with some of the group as its members
   pub may_hold : (context reach : ℕ) (group : List ℕ) → IsLowestId mask.bits context → group ≡ without x.group (take reach own.seen) → limits.ranks ≤ 1024

@@ -2,6 +2,7 @@
 // what a user may ask of that.
 ghost use Rattle.std.specs.Prelude.{◌≡◌, ◌≢◌, ◌<◌, ◌≤◌, ◌+◌, ◌-◌, ◌==◌, ℕ, [], true, false, filter, length, map, nat_eq, not, take, Some, None};
 ghost use Rattle.std.specs.Prelude.{MatchOption, IfOk, OnErr, vec_capacity};
+ghost use Rattle.std.specs.Arc.{arc_slice_items};
 ghost use Rattle.std.specs.List.{IsDistinct, Sorted.{IsStrictlyIncreasing}};
 ghost use mathlib.Core.List.{IsPrefix};
 ghost use Rattle.ulfm_model.specs.{Records.{Held, free_ids, held_at, new_record, with_held}, History.{failures, first_ranks, has, without}, Words.{MayOpen}};
@@ -20,6 +21,7 @@ use crate::phases::spawning::{Spawned, place_in};
 use std::alloc::{AllocError, Allocator};
 use std::marker::{Model, PhantomData};
 use std::mem;
+use std::sync::ArcSlice;
 use ulfm_laws::ctx_mask::CtxMask;
 use ulfm_laws::meld::Packed;
 use ulfm_model::call::{Call, Request};
@@ -67,17 +69,17 @@ impl<P: Packed, A: Allocator + Copy> LocalState<P, A> {
         alloc: A,
         limits: Limits,
         number: u16,
-        ranks: &[u16],
+        ranks: &ArcSlice<u16, A>,
     ) -> Result<LocalState<P, A>, AllocError>
         requires may_open { MayOpen limits }
         requires below { number < limits.ranks }
-        requires ranks { ranks.now ≡ first_ranks limits.ranks }
+        requires ranks { arc_slice_items ranks.now ≡ first_ranks limits.ranks }
         ensures { IfOk result (λ r. r ≡ new_record limits number) }
     {
-        let group = ranks.to_vec(alloc)?;
+        let group = ranks.clone()?;
         let seen = Vec::with_capacity(alloc, limits.ranks as usize)?;
         let mut held = Vec::with_capacity(alloc, FEW)?;
-        held.push(HeldComm::new(0, 0, group))?;
+        held.push(HeldComm::of_world(group))?;
         Ok(LocalState {
             number,
             limits,
@@ -429,11 +431,11 @@ impl<P: Packed, A: Allocator + Copy> Rank<P, A> {
         alloc: A,
         limits: Limits,
         number: u16,
-        ranks: &[u16],
+        ranks: &ArcSlice<u16, A>,
     ) -> Result<Rank<P, A>, AllocError>
         requires may_open { MayOpen limits }
         requires below { number < limits.ranks }
-        requires ranks { ranks.now ≡ first_ranks limits.ranks }
+        requires ranks { arc_slice_items ranks.now ≡ first_ranks limits.ranks }
         ensures { IfOk result (λ r. r ≡ new_rank limits number) }
     {
         let own = LocalState::new(alloc, limits, number, ranks)?;

@@ -11,6 +11,7 @@ ghost use Rattle.ulfm_comm.specs.Counts.{new_rank, records_of};
 use crate::rank::Rank;
 use std::alloc::{AllocError, Allocator};
 use std::marker::{Model, PhantomData};
+use std::sync::ArcSlice;
 use ulfm_laws::meld::Packed;
 use ulfm_model::limits::{Limits, OpenFault};
 use ulfm_steps::group::first_ranks;
@@ -137,7 +138,7 @@ where
     }
 }
 
-// One rank of each number, in order.
+// One rank of each number, in order. The members of the world's communicator stand in one list for all of them.
 fn ranks_of<P: Packed, A: Allocator + Copy>(
     alloc: A,
     limits: Limits,
@@ -145,7 +146,7 @@ fn ranks_of<P: Packed, A: Allocator + Copy>(
     requires { MayOpen limits }
     ensures { IfOk result (λ ranks. ranks.items ≡ map (new_rank limits) (all_below limits.ranks)) }
 {
-    let group = first_ranks(alloc, limits.ranks)?;
+    let group = ArcSlice::from_vec(first_ranks(alloc, limits.ranks)?)?;
     let mut ranks = Vec::with_capacity(alloc, limits.ranks as usize)?;
     for number in 0..limits.ranks {
         ranks.push(Rank::new(alloc, limits, number, &group)?)?;

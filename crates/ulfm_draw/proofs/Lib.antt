@@ -1,4 +1,5 @@
 pub mod Appending
+pub mod Filled
 pub mod Judged
 pub mod Rows
 pub mod Reading

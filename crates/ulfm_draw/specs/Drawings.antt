@@ -1,15 +1,11 @@
 -- A trace that was read, judged and drawn.
 use Rattle.std.specs.Prelude.{◌≡◌, ℕ, ◌-◌, List, [], ◌++◌}
-use Rattle.ulfm_script.specs.Ends.{IsTextOf, KnownText}
+use Rattle.ulfm_script.specs.Ends.{KnownText}
+use Rattle.ulfm_story.specs.Judged.{IsJudged}
 use Rattle.ulfm_trace.specs.declared.verdict.{Verdict.{Verdict}, Verdict.TheVariants.{Legal, Illegal}}
-use Rattle.ulfm_trace.specs.{Texts.{IsFirstBad, IsLegalText}, Verdicts.{verdict_text}}
+use Rattle.ulfm_trace.specs.Verdicts.{verdict_text}
 use Rattle.ulfm_draw.specs.declared.drawing.{Form.{Form}, Form.TheVariants.{Picture, Text}}
 use Rattle.ulfm_draw.specs.{Columns.{lines_taken, without_columns}, Forms.{IsPicture}}
-
--- what the definition says of a text
-abbrev pub IsVerdict : List ℕ → Verdict → Type 0
-IsVerdict text Legal = IsLegalText text
-IsVerdict text (Illegal line why) = IsFirstBad text line why
 
 -- the lines that a text form gives back: the whole trace where it is legal, and else the lines before the bad one
 abbrev pub given_back : Verdict → List ℕ → List ℕ
@@ -26,7 +22,5 @@ IsDrawn (Text looks) text verdict shown =
 -- A beginning of a reader's text was judged and drawn, or all of it: all of it where it is legal.
 pub record DrawsText (known : KnownText) (form : Form) (verdict : Verdict) (shown : List ℕ) : Type 0 where
   pub text : List ℕ
-  pub begins : (rest : List ℕ) × IsTextOf known (text ++ rest)
-  pub whole : verdict ≡ Legal → IsTextOf known text
-  pub judged : IsVerdict text verdict
+  pub judged : IsJudged known verdict text
   pub drawn : IsDrawn form text verdict shown

@@ -1,5 +1,6 @@
 -- A reader of markup: elements that are closed in the order in which they were opened, attributes in quotes, and nothing that has to be escaped.
-use Rattle.std.specs.Prelude.{◌≡◌, ◌⊎◌, ℕ, ◌==◌, Bool, ◌&&◌, ◌||◌, not, nat_le, if◌then◌else◌, List, [], ◌∷◌, ◌++◌, codes, map}
+use Rattle.std.specs.Prelude.{◌≡◌, ◌⊎◌, ℕ, ◌+◌, ◌==◌, Bool, ◌&&◌, ◌||◌, not, nat_le, if◌then◌else◌, List, [], ◌∷◌, ◌++◌, codes, map, slice_index}
+use Rattle.std.specs.Fmt.{decimal}
 use Rattle.std.specs.Str.{bytes_eq}
 
 -- Where the reader stands: before the root element; in the text of an element; in a tag, at each of its parts; behind the root; or behind what can't
@@ -85,6 +86,22 @@ is_plain x = ((nat_le 32 x && nat_le x 126) || (x == 10)) && not ((x == 34) || i
 -- the byte as it may stand there: a question mark in place of one that doesn't stand for itself
 abbrev pub plain_of : ℕ → ℕ
 plain_of x = if is_plain x then x else 63
+
+-- what stands in the place of a byte of a text with marks: a class for `@`, words for `$`, and for `#` the number at a place, or 0 where there is none
+abbrev pub mark_filled : List ℕ → List ℕ → List ℕ → ℕ → ℕ → List ℕ
+mark_filled class numbers words place x =
+    if x == 64 then map plain_of class
+    else (if x == 36 then map plain_of words else (if x == 35 then map plain_of (decimal (slice_index numbers place)) else x ∷ []))
+
+-- a text with its marks filled in, of which so many were for numbers before
+unfoldable pub filled_from : List ℕ → List ℕ → List ℕ → ℕ → List ℕ → List ℕ
+filled_from class numbers words place [] = []
+filled_from class numbers words place (x ∷ xs) =
+    mark_filled class numbers words place x ++ filled_from class numbers words (if x == 35 then place + 1 else place) xs
+
+-- a text with its marks filled in
+abbrev pub filled : List ℕ → List ℕ → List ℕ → List ℕ → List ℕ
+filled class numbers words text = filled_from class numbers words 0 text
 
 -- these words are the last of a picture: behind them nothing but what is open is closed
 abbrev pub EndsWith : List ℕ → List ℕ → Type 0

@@ -1,16 +1,16 @@
 //! A trace read, judged and drawn.
-ghost use Rattle.std.specs.Prelude.{◌≡◌, IfOk, false, true};
-ghost use Rattle.ulfm_draw.specs.Drawings.{DrawsText, IsDrawn, IsVerdict};
-ghost use Rattle.ulfm_trace.specs.declared.verdict.Verdict.TheVariants.{Legal};
+ghost use Rattle.std.specs.Prelude.{IfOk};
+ghost use Rattle.ulfm_draw.specs.Drawings.{DrawsText, IsDrawn};
+ghost use Rattle.ulfm_story.specs.Judged.{IsVerdict};
 
 use crate::cells::draw_text;
 use crate::picture::draw_picture;
 use crate::sheet::Looks;
 use std::alloc::Allocator;
 use std::io::Read;
-use ulfm_script::{LineKind, RunFault};
-use ulfm_story::{MOST_LINES, read_text};
-use ulfm_trace::{CheckFault, Verdict, check};
+use ulfm_script::RunFault;
+use ulfm_story::{JudgedText, MOST_LINES, read_judged};
+use ulfm_trace::Verdict;
 
 /// How a trace is drawn.
 #[derive(Clone, Copy, Debug, PartialEq, Eq)]
@@ -48,39 +48,9 @@ pub fn draw<A: Allocator + Copy + Drop, R: Read>(
 ) -> Result<Drawn<A>, RunFault>
     ensures { IfOk result (λ drawn. DrawsText (R.remaining reader.old) form drawn.verdict drawn.shown.items) }
 {
-    let begun = read_text(alloc, reader)?;
-    let text = begun.text.as_slice();
-    let verdict = judge(alloc, text)?;
-    if goes_on(verdict, begun.is_whole) {
-        return Err(RunFault::Line {
-            number: MOST_LINES + 1,
-            kind: LineKind::Lines,
-        });
-    }
-    let shown = draw_form(alloc, text, verdict, form)?;
+    let JudgedText { text, verdict } = read_judged(alloc, reader, MOST_LINES)?;
+    let shown = draw_form(alloc, &text, verdict, form)?;
     Ok(Drawn { shown, verdict })
-}
-
-/// Whether a trace that is legal so far goes on behind what was read.
-fn goes_on(verdict: Verdict, is_whole: bool) -> bool
-    ensures { result ≡ false → verdict ≡ Legal → is_whole ≡ true }
-{
-    match verdict {
-        Verdict::Legal => !is_whole,
-        Verdict::Illegal { .. } => false,
-    }
-}
-
-/// The verdict of a text, by the check of `ulfm_trace`.
-fn judge<A: Allocator + Copy + Drop>(alloc: A, text: &[u8]) -> Result<Verdict, RunFault>
-    ensures { IfOk result (IsVerdict text.now) }
-{
-    let mut left = text;
-    match check(alloc, &mut left) {
-        Ok(verdict) => Ok(verdict),
-        Err(CheckFault::Memory) => Err(RunFault::Memory),
-        Err(CheckFault::Read) => Err(RunFault::Read),
-    }
 }
 
 /// Draws a text with this verdict.

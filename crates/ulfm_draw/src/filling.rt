@@ -1,6 +1,7 @@
 //! Texts with marks, filled in: whatever is put there, they are read as before.
-ghost use Rattle.std.specs.Prelude.{◌≡◌, ◌++◌, OnOk, map};
-ghost use Rattle.ulfm_draw.specs.Markup.{Follows, Place, is_plain, plain_of, scan, step};
+ghost use Rattle.std.specs.Prelude.{◌≡◌, ◌+◌, ◌<◌, ◌++◌, ◌==◌, OnOk, if◌then◌else◌, map};
+ghost use Rattle.std.specs.Fmt.{decimal};
+ghost use Rattle.ulfm_draw.specs.Markup.{Follows, Place, filled, is_plain, mark_filled, plain_of, scan, step};
 
 use itoa::Buffer;
 use std::alloc::{AllocError, Allocator};
@@ -22,7 +23,10 @@ pub(crate) fn fill<A: Allocator>(
     template: &[u8],
     filling: &Filling<'_>,
 ) -> Result<(), AllocError>
-    ensures { OnOk result ((place : Place) → Follows (scan place text.new.items) (scan (scan place text.old.items) template.now)) }
+    ensures reads { OnOk result
+        ((place : Place) → Follows (scan place text.new.items) (scan (scan place text.old.items) template.now)) }
+    ensures filled { OnOk result (text.new.items ≡ text.old.items
+        ++ filled filling.now.class.now filling.now.numbers.now filling.now.words.now template.now) }
 {
     let mut next = 0;
     for byte in template {
@@ -39,14 +43,19 @@ fn put_byte<A: Allocator>(
     filling: &Filling<'_>,
     next: &mut usize,
 ) -> Result<(), AllocError>
-    ensures { OnOk result ((place : Place) → Follows (scan place text.new.items) (step (scan place text.old.items) byte)) }
+    requires { next.old < usize.MAX }
+    ensures reads { OnOk result
+        ((place : Place) → Follows (scan place text.new.items) (step (scan place text.old.items) byte)) }
+    ensures filled { OnOk result (text.new.items ≡ text.old.items
+        ++ mark_filled filling.now.class.now filling.now.numbers.now filling.now.words.now next.old byte) }
+    ensures next { next.new ≡ (if byte == 35 then next.old + 1 else next.old) }
 {
     match byte {
         b'@' => put_words(text, filling.class),
         b'$' => put_words(text, filling.words),
         b'#' => {
             let number = filling.numbers.get(*next).copied().unwrap_or(0);
-            *next = next.wrapping_add(1);
+            *next += 1;
             put_number(text, number)
         }
         other => {
@@ -59,7 +68,9 @@ fn put_byte<A: Allocator>(
 /// Appends a number in decimal.
 #[tactic(auto, using(crate::proofs::Reading::number_put))]
 fn put_number<A: Allocator>(text: &mut Vec<u8, A>, number: u32) -> Result<(), AllocError>
-    ensures { OnOk result ((place : Place) → Follows (scan place text.new.items) (step (scan place text.old.items) 35)) }
+    ensures reads { OnOk result
+        ((place : Place) → Follows (scan place text.new.items) (step (scan place text.old.items) 35)) }
+    ensures filled { OnOk result (text.new.items ≡ text.old.items ++ map plain_of (decimal number)) }
 {
     let mut buffer = Buffer::new();
     put_words(text, buffer.format(number).as_bytes())

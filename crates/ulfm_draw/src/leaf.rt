@@ -1,5 +1,6 @@
 //! The elements that a picture's groups are made of.
 ghost use Rattle.std.specs.Prelude.{◌≡◌};
+ghost use Rattle.ulfm_draw.specs.Leaves.{leaf_text};
 ghost use Rattle.ulfm_draw.specs.Markup.{in_group, scan};
 
 /// An element without others in it. In its text `@` stands for a class, `#` for the next number and `$` for words.
@@ -30,7 +31,8 @@ pub enum Leaf {
 impl Leaf {
     /// Its text, with the marks for what is put there.
     pub(crate) fn text(self) -> &'static [u8]
-        ensures { scan in_group result.now ≡ in_group }
+        ensures text { result.now ≡ leaf_text self }
+        ensures whole { scan in_group result.now ≡ in_group }
     {
         match self {
             Leaf::Box => b"<rect class=\"@\" x=\"#\" y=\"#\" width=\"#\" height=\"#\" rx=\"#\"/>\n",

@@ -82,6 +82,11 @@ impl Sign {
         }
     }
 
+    /// How much room it takes in a line of the legend, with its words.
+    fn room(self) -> u32 {
+        34 + span_of(self.words().len(), 7) + 20
+    }
+
     /// Whether a line has this sign.
     fn is_of_line(self, line: &Line<ulfm_laws::FlagAnd>) -> bool {
         match *line {
@@ -162,6 +167,15 @@ impl Sign {
     }
 }
 
+/// Where a sign of this room stands in lines of this width, where the last one ended at this x and y: in the next line, if it has no room there.
+fn next_place(last: (u32, u32), room: u32, width: u32) -> (u32, u32) {
+    let (x, y) = last;
+    if x > 24 && x.saturating_add(room) > width {
+        return (24, y.saturating_add(26));
+    }
+    (x, y)
+}
+
 /// Draws the legend from this y on, in lines of this width, and gives the y of its last line.
 pub(crate) fn draw_legend<A: Allocator + Copy>(
     group: &mut Group<A>,
@@ -171,41 +185,33 @@ pub(crate) fn draw_legend<A: Allocator + Copy>(
 ) -> Result<u32, AllocError>
     ensures { IfOk result (λ y. y < 2 ^ 25) }
 {
-    let mut x = 24u32;
-    let mut y = top;
+    let mut at = (24u32, top);
     for sign in SIGNS {
         if !sign.is_in(story) {
             continue;
         }
-        let room = 34 + span_of(sign.words().len(), 7) + 20;
-        if x > 24 && x.saturating_add(room) > width {
-            x = 24;
-            y = y.saturating_add(26);
-        }
-        let place = (x.min(FAR), y.max(64).min(FAR));
+        let room = sign.room();
+        at = next_place(at, room, width);
+        let place = (at.0.min(FAR), at.1.max(64).min(FAR));
         sign.draw(group, place.0, place.1)?;
         group.put(Leaf::Words, b"g", &[place.0 + 34, place.1], sign.words())?;
-        x = x.saturating_add(room);
+        at.0 = at.0.saturating_add(room);
     }
-    Ok(y.min(FAR))
+    Ok(at.1.min(FAR))
 }
 
 /// How high the legend of a story is, in lines of this width.
 pub(crate) fn legend_height<A: Allocator>(story: &Story<A>, width: u32) -> u32
     ensures { result < 2 ^ 20 }
 {
-    let mut x = 24u32;
-    let mut height = 0u32;
+    let mut at = (24u32, 0u32);
     for sign in SIGNS {
         if !sign.is_in(story) {
             continue;
         }
-        let room = 34 + span_of(sign.words().len(), 7) + 20;
-        if x > 24 && x.saturating_add(room) > width {
-            x = 24;
-            height = height.saturating_add(26);
-        }
-        x = x.saturating_add(room);
+        let room = sign.room();
+        at = next_place(at, room, width);
+        at.0 = at.0.saturating_add(room);
     }
-    height.min(1000)
+    at.1.min(1000)
 }

@@ -1,6 +1,7 @@
 //! A picture while it is written. What begins an element gives another type, and only closing it gives the first type back.
-ghost use Rattle.std.specs.Prelude.{◌≡◌, IfOk};
-ghost use Rattle.ulfm_draw.specs.Markup.{EndsWith, IsWellFormed, Place, in_group, in_picture, scan};
+ghost use Rattle.std.specs.Prelude.{◌≡◌, ◌++◌, ◌∷◌, [], IfOk, OnErr, OnOk};
+ghost use Rattle.ulfm_draw.specs.Markup.{EndsWith, IsWellFormed, Place, filled, in_group, in_picture, scan};
+ghost use Rattle.ulfm_draw.specs.Leaves.{leaf_text};
 ghost use Rattle.ulfm_draw.specs.Markup.Place.{Before};
 
 use crate::filling::{Filling, fill, put_words};
@@ -47,7 +48,11 @@ pub struct Group<A: Allocator> {
 }
 
 /// Numbers and words, and no class.
-fn worded<'a>(numbers: &'a [u32], words: &'a [u8]) -> Filling<'a> {
+fn worded<'a>(numbers: &'a [u32], words: &'a [u8]) -> Filling<'a>
+    ensures class { result.class.now ≡ [] }
+    ensures numbers { result.numbers.now ≡ numbers.now }
+    ensures words { result.words.now ≡ words.now }
+{
     Filling {
         class: b"",
         numbers,
@@ -64,7 +69,10 @@ impl<A: Allocator + Copy> Page<A> {
         title: &[u8],
         description: &[u8],
         style: &[u8],
-    ) -> Result<Page<A>, AllocError> {
+    ) -> Result<Page<A>, AllocError>
+        ensures { IfOk result (λ page. page.bytes.items ≡ filled [] (width ∷ height ∷ width ∷ height ∷ []) title.now HEAD.now
+            ++ filled [] [] description.now DESCRIPTION.now ++ filled [] [] style.now STYLE.now) }
+    {
         let mut bytes = Vec::new(alloc);
         let numbers = [width, height, width, height];
         fill(&mut bytes, HEAD, &worded(&numbers, title))?;
@@ -77,14 +85,18 @@ impl<A: Allocator + Copy> Page<A> {
 
 impl<A: Allocator> Page<A> {
     /// Begins a group.
-    pub fn group(self) -> Result<Group<A>, AllocError> {
+    pub fn group(self) -> Result<Group<A>, AllocError>
+        ensures { IfOk result (λ group. group.bytes.items ≡ self.bytes.items ++ GROUP.now) }
+    {
         let Page { mut bytes, piece } = self;
         bytes.extend_from_slice(GROUP)?;
         Ok(Group { bytes, piece })
     }
 
     /// Begins a group that has a title.
-    pub fn titled(self, title: &[u8]) -> Result<Group<A>, AllocError> {
+    pub fn titled(self, title: &[u8]) -> Result<Group<A>, AllocError>
+        ensures { IfOk result (λ group. group.bytes.items ≡ self.bytes.items ++ filled [] [] title.now TITLED.now) }
+    {
         let Page { mut bytes, piece } = self;
         fill(&mut bytes, TITLED, &worded(&[], title))?;
         Ok(Group { bytes, piece })
@@ -120,7 +132,11 @@ impl<A: Allocator> Group<A> {
         class: &[u8],
         numbers: &[u32],
         words: &[u8],
-    ) -> Result<(), AllocError> {
+    ) -> Result<(), AllocError>
+        ensures put { OnOk result (self.new.bytes.items ≡ self.old.bytes.items
+            ++ filled class.now numbers.now words.now (leaf_text leaf)) }
+        ensures failed { OnErr result (self.new.bytes.items ≡ self.old.bytes.items) }
+    {
         self.piece.clear();
         let filling = Filling {
             class,
@@ -132,7 +148,9 @@ impl<A: Allocator> Group<A> {
     }
 
     /// Ends the group.
-    pub fn close(self) -> Result<Page<A>, AllocError> {
+    pub fn close(self) -> Result<Page<A>, AllocError>
+        ensures { IfOk result (λ page. page.bytes.items ≡ self.bytes.items ++ GROUP_END.now) }
+    {
         let Group { mut bytes, piece } = self;
         bytes.extend_from_slice(GROUP_END)?;
         Ok(Page { bytes, piece })

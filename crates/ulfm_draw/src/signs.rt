@@ -1,5 +1,6 @@
 //! The signs of a row: what happens in its lane, its label, and the line of the trace.
 ghost use Rattle.std.specs.Prelude.{◌<◌, ◌≤◌, ◌^◌, IfOk};
+ghost use Rattle.ulfm_draw.specs.Places.{HasRoom};
 
 use crate::labels::{put_label, put_title};
 use crate::layout::{Layout, SHOWN};
@@ -115,10 +116,7 @@ fn draw_reply<A: Allocator + Copy + Drop>(
     x: u32,
     y: u32,
 ) -> Result<(), AllocError>
-    requires left { 64 ≤ x }
-    requires right { x < 2 ^ 30 }
-    requires low { 64 ≤ y }
-    requires high { y < 2 ^ 30 }
+    requires { HasRoom x y }
 {
     let Some(round) = drawn.row.round else {
         return draw_dot(group, x, y);
@@ -140,10 +138,7 @@ fn draw_event<A: Allocator + Copy + Drop>(
     x: u32,
     y: u32,
 ) -> Result<(), AllocError>
-    requires left { 64 ≤ x }
-    requires right { x < 2 ^ 30 }
-    requires low { 64 ≤ y }
-    requires high { y < 2 ^ 30 }
+    requires { HasRoom x y }
 {
     let half = drawn.layout.scale.sign();
     match *event {

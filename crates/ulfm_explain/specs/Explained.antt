@@ -1,14 +1,10 @@
 -- A trace that was read, judged and explained.
-use Rattle.std.specs.Prelude.{◌≡◌, ◌-◌, ℕ, List, ◌++◌}
-use Rattle.ulfm_script.specs.Ends.{IsTextOf, KnownText}
+use Rattle.std.specs.Prelude.{◌≡◌, ◌-◌, ℕ, List}
+use Rattle.ulfm_script.specs.Ends.{KnownText}
+use Rattle.ulfm_story.specs.Judged.{IsJudged}
 use Rattle.ulfm_trace.specs.declared.verdict.{Verdict.{Verdict}, Verdict.TheVariants.{Legal, Illegal}}
-use Rattle.ulfm_trace.specs.{Texts.{IsFirstBad, IsLegalText, first_lines}, Verdicts.{verdict_text}}
+use Rattle.ulfm_trace.specs.{Texts.{first_lines}, Verdicts.{verdict_text}}
 use Rattle.ulfm_explain.specs.Sheets.{TellsBad}
-
--- what the definition says of a text
-abbrev pub IsVerdict : List ℕ → Verdict → Type 0
-IsVerdict text Legal = IsLegalText text
-IsVerdict text (Illegal line why) = IsFirstBad text line why
 
 -- What is told of a text with this verdict: the verdict's line; and where the text is illegal, behind it, lines each of which makes a legal trace in
 -- the place of the bad one, and then notes.
@@ -19,7 +15,5 @@ IsExplained text (Illegal line why) shown = TellsBad (first_lines (line - 1) tex
 -- A beginning of a reader's text was judged and explained, or all of it: all of it where it is legal.
 pub record ExplainsText (known : KnownText) (verdict : Verdict) (shown : List ℕ) : Type 0 where
   pub text : List ℕ
-  pub begins : (rest : List ℕ) × IsTextOf known (text ++ rest)
-  pub whole : verdict ≡ Legal → IsTextOf known text
-  pub judged : IsVerdict text verdict
+  pub judged : IsJudged known verdict text
   pub explained : IsExplained text verdict shown

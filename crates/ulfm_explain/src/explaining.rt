@@ -1,17 +1,16 @@
 //! A trace read, judged and explained.
-ghost use Rattle.std.specs.Prelude.{◌≡◌, IfOk, OnOk, false, true};
-ghost use Rattle.ulfm_explain.specs.Explained.{ExplainsText, IsExplained, IsVerdict};
+ghost use Rattle.std.specs.Prelude.{IfOk, OnOk};
+ghost use Rattle.ulfm_explain.specs.Explained.{ExplainsText, IsExplained};
 ghost use Rattle.ulfm_explain.specs.Sheets.{TellsBad};
-ghost use Rattle.ulfm_trace.specs.declared.verdict.Verdict.TheVariants.{Legal};
 
 use crate::account::{Account, account_of};
 use crate::offers::{first_lines, put_offers};
 use crate::sheet::put_notes;
 use std::alloc::Allocator;
 use std::io::Read;
-use ulfm_script::{LineKind, RunFault};
-use ulfm_story::read_lines;
-use ulfm_trace::{CheckFault, Verdict, check, verdict_line};
+use ulfm_script::RunFault;
+use ulfm_story::{JudgedText, read_judged};
+use ulfm_trace::{Verdict, verdict_line};
 
 /// The most lines that are read: one more than a trace may have.
 const MOST_LINES: u32 = 5_000_001;
@@ -42,39 +41,9 @@ pub fn explain<A: Allocator + Copy + Drop, R: Read>(
 ) -> Result<Explained<A>, RunFault>
     ensures { IfOk result (λ told. ExplainsText (R.remaining reader.old) told.verdict told.shown.items) }
 {
-    let begun = read_lines(alloc, reader, MOST_LINES)?;
-    let text = begun.text.as_slice();
-    let verdict = judge(alloc, text)?;
-    if goes_on(verdict, begun.is_whole) {
-        return Err(RunFault::Line {
-            number: MOST_LINES,
-            kind: LineKind::Lines,
-        });
-    }
-    let shown = explain_text(alloc, text, verdict)?;
+    let JudgedText { text, verdict } = read_judged(alloc, reader, MOST_LINES)?;
+    let shown = explain_text(alloc, &text, verdict)?;
     Ok(Explained { shown, verdict })
-}
-
-/// Whether a trace that is legal so far goes on behind what was read.
-fn goes_on(verdict: Verdict, is_whole: bool) -> bool
-    ensures { result ≡ false → verdict ≡ Legal → is_whole ≡ true }
-{
-    match verdict {
-        Verdict::Legal => !is_whole,
-        Verdict::Illegal { .. } => false,
-    }
-}
-
-/// The verdict of a text, by the check of `ulfm_trace`.
-pub(crate) fn judge<A: Allocator + Copy + Drop>(alloc: A, text: &[u8]) -> Result<Verdict, RunFault>
-    ensures { IfOk result (IsVerdict text.now) }
-{
-    let mut left = text;
-    match check(alloc, &mut left) {
-        Ok(verdict) => Ok(verdict),
-        Err(CheckFault::Memory) => Err(RunFault::Memory),
-        Err(CheckFault::Read) => Err(RunFault::Read),
-    }
 }
 
 /// What is told of a text with this verdict.

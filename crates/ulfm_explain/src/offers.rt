@@ -3,9 +3,9 @@ ghost use Rattle.std.specs.Prelude.{◌≡◌, ◌<◌, ◌-◌, ◌==◌, ◌++
 ghost use Rattle.ulfm_explain.specs.Sheets.{IsLegalBehind, Offers};
 ghost use Rattle.ulfm_trace.specs.Texts.{first_lines};
 
-use crate::explaining::judge;
 use std::alloc::{AllocError, Allocator};
 use ulfm_script::RunFault;
+use ulfm_story::judge_text;
 use ulfm_trace::Verdict;
 
 /// How many lines are left behind this byte.
@@ -53,7 +53,7 @@ fn is_legal<A: Allocator + Copy + Drop>(
     ensures { IfOk result (λ is. is ≡ true → IsLegalBehind before.now line.now) }
 {
     let text = text_with(alloc, before, line)?;
-    match judge(alloc, &text)? {
+    match judge_text(alloc, &text)? {
         Verdict::Legal => Ok(true),
         Verdict::Illegal { .. } => Ok(false),
     }

@@ -1,5 +1,5 @@
 //! An outcome confirmed: its script run by the step engine, and what became of the ranks read off the trace.
-ghost use Rattle.std.specs.Prelude.{◌≡◌, IfOk, IfSome, map, true};
+ghost use Rattle.std.specs.Prelude.{◌≡◌, ◌↔◌, IfOk, IfSome, IsTrue, map, true};
 ghost use Rattle.ulfm_explore.specs.{Readings.{AreRows}, Shows.{Runs, Shows}, Views.{row_of}};
 
 use crate::reading::read_row;
@@ -104,17 +104,21 @@ pub fn show<A: Allocator + Copy + Drop>(
 }
 
 /// Whether two rows say the same.
-fn is_same<A: Allocator>(first: &Row<A>, second: &Row<A>) -> bool {
+fn is_same<A: Allocator>(first: &Row<A>, second: &Row<A>) -> bool
+    ensures { IsTrue result ↔ row_of first.now ≡ row_of second.now }
+{
     first.fate == second.fate && first.noted.as_slice() == second.noted.as_slice()
 }
 
 /// Whether rows say the same, one by one.
-pub fn are_same<A: Allocator>(first: &[Row<A>], second: &[Row<A>]) -> bool {
+pub fn are_same<A: Allocator>(first: &[Row<A>], second: &[Row<A>]) -> bool
+    ensures { IsTrue result ↔ map row_of first.now ≡ map row_of second.now }
+{
     if first.len() != second.len() {
         return false;
     }
-    for (row, other) in first.iter().zip(second) {
-        if !is_same(row, other) {
+    for (i, row) in first.iter().enumerate() {
+        if !is_same(row, &second[i]) {
             return false;
         }
     }

@@ -54,11 +54,9 @@ impl<A: Allocator + Copy> Ready<A> {
         })
     }
 
-    /// Each of these has one more to be taken before it.
-    pub(crate) fn count(&mut self, nodes: &[u32]) {
-        for node in nodes {
-            count_up(&mut self.left, *node as usize);
-        }
+    /// A node has one more to be taken before it.
+    pub(crate) fn count(&mut self, node: u32) {
+        count_up(&mut self.left, node as usize);
     }
 
     /// All may be taken that have none to be taken before them.

@@ -68,7 +68,8 @@ fn is_late_at<P: Meld, A: Allocator + Copy + Drop>(
     ensures { let seen = seen_at view.now.numbers.now view.now.point in
         result ≡ option_map_or (late_test view.now.look.now seen x.now.comm round) (slice_get x.now.group place) false }
 {
-    match x.group.get(place) {
+    let group: &[u16] = &x.group;
+    match group.get(place) {
         Some(rank) => is_late(view, x.comm, round, *rank),
         None => false,
     }
@@ -86,12 +87,11 @@ fn is_pending<P: Meld, A: Allocator + Copy + Drop>(
     if is_late_at(view, x, round, open) {
         return true;
     }
-    if has_member(&x.group, last) && is_late(view, x.comm, round, last) {
+    let group: &[u16] = &x.group;
+    if has_member(group, last) && is_late(view, x.comm, round, last) {
         return true;
     }
-    x.group
-        .iter()
-        .any(|rank| is_late(view, x.comm, round, *rank))
+    group.iter().any(|rank| is_late(view, x.comm, round, *rank))
 }
 
 /// Whether a body is this flag.

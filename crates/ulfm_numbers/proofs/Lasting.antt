@@ -12,8 +12,8 @@ use Rattle.ulfm_model.specs.{History.{Decision, body_of, contribution_of, decide
 use Rattle.ulfm_model.proofs.Lists.{all_some, any_none, any_same, each_always, each_from, filter_map_each, filter_map_same, filter_none, not_in_take}
 use Rattle.ulfm_laws.specs.{Bodies.{body_meld, body_unit}, Combined.{combined}}
 use Rattle.ulfm_record.specs.{declared.decide.Decided.{Decided}, Walked.{decision_of}}
-use Rattle.ulfm_numbers.specs.{declared.grids.Grid.{Grid}, declared.rounds.Done.{Done}}
-use Rattle.ulfm_numbers.specs.{Grids.{cell_at}, Groups.{group_at}, Numbers.{by_then, count_by, numbers_from}, Failed.{in_group}, Rounds.{AreDone, IsByRound, IsDone, KeepsSlots, failed_of, settled_then}}
+use Rattle.ulfm_numbers.specs.{declared.cells.Cell.{Cell}, declared.grids.Grid.{Grid}, declared.rounds.Done.{Done}}
+use Rattle.ulfm_numbers.specs.{Cells.{told_at}, Groups.{group_at}, Numbers.{by_then, count_by, numbers_from}, Failed.{in_group}, Rounds.{AreDone, IsByRound, IsDone, KeepsSlots, failed_of, settled_then}}
 use Rattle.ulfm_numbers.proofs.{Counting.{failed_first}, Tabling.{place_is}}
 
 -- the first of a longer list are the first
@@ -110,7 +110,7 @@ module _ {P : Type 0} (meld : P → P → P) where
       acked_fits (Slot.Mark mark) g f e = absurd (cc e)
       acked_fits (Slot.Given given) g f e = let same : given ≡ g = cc e in subst (λ w. w.acked.count ≤ length F) same (omega (arith, f, given.within))
 
-module _ {P A B : Type 0} (meld : P → P → P) (slots : Grid (ℕ × Slot P) B) where
+module _ {P A B : Type 0} (meld : P → P → P) (slots : Grid (Cell P) B) where
   -- what a round decides now is what is kept of it
   pub is_done : (failures : List ℕ) (groups : List (List ℕ)) (c k since count : ℕ) (made : Decided P A) (members failed : List ℕ) (settled : List (Slot P)) → members ≡ group_at groups c
       → failed ≡ failed_of groups failures c → settled ≡ filter_map (settled_then slots c k since) members → c < length groups
@@ -128,7 +128,7 @@ module _ {P A B : Type 0} (meld : P → P → P) (slots : Grid (ℕ × Slot P) B
       )
 
   -- it stays so
-  pub done_stays : (later : Grid (ℕ × Slot P) B) (failures more : List ℕ) (groups extra : List (List ℕ)) (c k : ℕ) (done : Done P A) → KeepsSlots slots later
+  pub done_stays : (later : Grid (Cell P) B) (failures more : List ℕ) (groups extra : List (List ℕ)) (c k : ℕ) (done : Done P A) → KeepsSlots slots later
       → IsDone meld slots failures groups c k done → IsDone meld later (failures ++ more) (groups ++ extra) c k done
   done_stays later failures more groups extra c k done keeps is =
       let ms = group_at groups c in
@@ -155,10 +155,10 @@ module _ {P A B : Type 0} (meld : P → P → P) (slots : Grid (ℕ × Slot P) B
       at_before (x ∷ xs) ys zero lt = refl
       at_before (x ∷ xs) ys (suc i) lt = at_before xs ys i (omega (arith, lt))
 
-      slot_kept : (place : ℕ × ℕ × ℕ) (s : Slot P) → by_then done.since (cell_at slots place) ≡ Some s → by_then done.since (cell_at later place) ≡ Some s
-      slot_kept place s there = go (cell_at slots place) refl
+      slot_kept : (place : ℕ × ℕ × ℕ) (s : Slot P) → by_then done.since (told_at slots place) ≡ Some s → by_then done.since (told_at later place) ≡ Some s
+      slot_kept place s there = go (told_at slots place) refl
         where
-          go : (o : Option (ℕ × Slot P)) → cell_at slots place ≡ o → by_then done.since (cell_at later place) ≡ Some s
+          go : (o : Option (ℕ × Slot P)) → told_at slots place ≡ o → by_then done.since (told_at later place) ≡ Some s
           go None none = absurd (cc (sym (ap (by_then done.since) none) ∙ there))
           go (Some at) some = ap (by_then done.since) (keeps place at some) ∙ (sym (ap (by_then done.since) some) ∙ there)
 
@@ -170,7 +170,7 @@ module _ {P A B : Type 0} (meld : P → P → P) (slots : Grid (ℕ × Slot P) B
   done_holds failures groups c k point count done failed is since failed_are enough apart =
       let ms = group_at groups c in
       let all = failed_of groups failures c in
-      let later : (r : ℕ) (s : Slot P) → settled_then slots c k done.since r ≡ Some s → settled_then slots c k point r ≡ Some s = λ r s there. given_later done.since point (cell_at slots (c, k, r)) s since there in
+      let later : (r : ℕ) (s : Slot P) → settled_then slots c k done.since r ≡ Some s → settled_then slots c k point r ≡ Some s = λ r s there. given_later done.since point (told_at slots (c, k, r)) s since there in
       let settled : filter_map (settled_then slots c k point) ms ≡ filter_map (settled_then slots c k done.since) ms = filter_map_same (settled_then slots c k done.since) (settled_then slots c k point) later ms is.1 in
       let n = count_by count (numbers_from (in_group ms) 0 failures) in
       let first : failed ≡ take n all = failed_are ∙ failed_first ms count failures in
@@ -187,7 +187,7 @@ module _ {P A B : Type 0} (meld : P → P → P) (slots : Grid (ℕ × Slot P) B
       )
 
 -- one more round is kept
-pub done_kept : {P A B T : Type 0} (meld : P → P → P) (rounds more : HashMap (ℕ × ℕ × ℕ) (Done P A) T) (slots : Grid (ℕ × Slot P) B) (failures : List ℕ) (groups : List (List ℕ)) (c k : ℕ) (done : Done P A)
+pub done_kept : {P A B T : Type 0} (meld : P → P → P) (rounds more : HashMap (ℕ × ℕ × ℕ) (Done P A) T) (slots : Grid (Cell P) B) (failures : List ℕ) (groups : List (List ℕ)) (c k : ℕ) (done : Done P A)
     → AreDone meld rounds slots failures groups → IsDone meld slots failures groups c k done
     → ((q : ℕ × ℕ × ℕ) → get same_place more q ≡ (if same_place (c, k, 0) q then Some done else get same_place rounds q)) → AreDone meld more slots failures groups
 done_kept {P} {A} meld rounds more slots failures groups c k done are is puts d l other at = go (same_place (c, k, 0) (d, l, 0)) refl
@@ -201,7 +201,7 @@ done_kept {P} {A} meld rounds more slots failures groups c k done are is puts d 
     go false apart = are d l other (sym (ap (λ (b : Bool). if b then Some done else get same_place rounds (d, l, 0)) apart) ∙ (sym (puts (d, l, 0)) ∙ at))
 
 -- and so it is after it was put there, or memory was refused
-pub done_put : {P A B T X E : Type 0} (meld : P → P → P) (rounds more : HashMap (ℕ × ℕ × ℕ) (Done P A) T) (slots : Grid (ℕ × Slot P) B) (failures : List ℕ) (groups : List (List ℕ)) (c k : ℕ) (done : Done P A) (result : Result X E)
+pub done_put : {P A B T X E : Type 0} (meld : P → P → P) (rounds more : HashMap (ℕ × ℕ × ℕ) (Done P A) T) (slots : Grid (Cell P) B) (failures : List ℕ) (groups : List (List ℕ)) (c k : ℕ) (done : Done P A) (result : Result X E)
     → AreDone meld rounds slots failures groups → IsDone meld slots failures groups c k done → OnOk result (Updates same_place rounds more (c, k, 0) (Some done)) → OnErr result (IsUnchanged rounds more) → AreDone meld more slots failures groups
 done_put meld rounds more slots failures groups c k done (Ok x) are is ok err = done_kept meld rounds more slots failures groups c k done are is ok.0
 done_put meld rounds more slots failures groups c k done (Err e) are is ok err = λ d l other at. are d l other (ap (lookup (same_place (d, l, 0))) (sym err) ∙ at)
@@ -216,17 +216,34 @@ by_round_put {V} old new c k v (Ok x) are ok err = λ place w at. go place w at 
     go place w at false apart = are place w (sym (ap (λ (b : Bool). if b then Some v else get same_place old place) apart) ∙ (sym (ok.0 place) ∙ at))
 by_round_put old new c k v (Err e) are ok err = λ place w at. are place w (ap (lookup (same_place place)) (sym err) ∙ at)
 
+-- and so it is of what is left where some are taken out
+pub done_fewer : {P A B T : Type 0} (meld : P → P → P) (rounds fewer : HashMap (ℕ × ℕ × ℕ) (Done P A) T) (slots : Grid (Cell P) B) (failures : List ℕ) (groups : List (List ℕ)) (test : ℕ × ℕ × ℕ → Bool)
+    → AreDone meld rounds slots failures groups → ((q : ℕ × ℕ × ℕ) → get same_place fewer q ≡ (if test q then None else get same_place rounds q)) → AreDone meld fewer slots failures groups
+done_fewer {P} {A} meld rounds fewer slots failures groups test are takes c k done at = go (test (c, k, 0)) refl
+  where
+    go : (b : Bool) → test (c, k, 0) ≡ b → IsDone meld slots failures groups c k done
+    go true gone = absurd (cc (sym (ap (λ (b : Bool). if b then None else get same_place rounds (c, k, 0)) gone) ∙ (sym (takes (c, k, 0)) ∙ at)))
+    go false there = are c k done (sym (ap (λ (b : Bool). if b then None else get same_place rounds (c, k, 0)) there) ∙ (sym (takes (c, k, 0)) ∙ at))
+
+pub by_round_fewer : {V S : Type 0} (old new : HashMap (ℕ × ℕ × ℕ) V S) (test : ℕ × ℕ × ℕ → Bool)
+    → IsByRound old → ((q : ℕ × ℕ × ℕ) → get same_place new q ≡ (if test q then None else get same_place old q)) → IsByRound new
+by_round_fewer {V} old new test are takes place w at = go (test place) refl
+  where
+    go : (b : Bool) → test place ≡ b → place.2 ≡ 0
+    go true gone = absurd (cc (sym (ap (λ (b : Bool). if b then None else get same_place old place) gone) ∙ (sym (takes place) ∙ at)))
+    go false there = are place w (sym (ap (λ (b : Bool). if b then None else get same_place old place) there) ∙ (sym (takes place) ∙ at))
+
 -- what was put at a place that nothing stood at leaves the others
-pub put_keeps : {P A : Type 0} (old new : Grid (ℕ × Slot P) A) (place : ℕ × ℕ × ℕ) (x : ℕ × Slot P) → cell_at old place ≡ None
-    → ((q : ℕ × ℕ × ℕ) → cell_at new q ≡ (if same_place place q then Some x else cell_at old q)) → KeepsSlots old new
+pub put_keeps : {P A : Type 0} (old new : Grid (Cell P) A) (place : ℕ × ℕ × ℕ) (x : ℕ × Slot P) → told_at old place ≡ None
+    → ((q : ℕ × ℕ × ℕ) → told_at new q ≡ (if same_place place q then Some x else told_at old q)) → KeepsSlots old new
 put_keeps {P} old new place x absent puts q at there = go (same_place place q) refl
   where
-    go : (b : Bool) → same_place place q ≡ b → cell_at new q ≡ Some at
-    go true same = absurd (cc (sym (ap (cell_at old) (place_is place q same)) ∙ absent, there))
-    go false apart = puts q ∙ (ap (λ (b : Bool). if b then Some x else cell_at old q) apart ∙ there)
+    go : (b : Bool) → same_place place q ≡ b → told_at new q ≡ Some at
+    go true same = absurd (cc (sym (ap (told_at old) (place_is place q same)) ∙ absent, there))
+    go false apart = puts q ∙ (ap (λ (b : Bool). if b then Some x else told_at old q) apart ∙ there)
 
 -- each round that is kept is still decided after one more event
-pub are_done_later : {P A B T : Type 0} (meld : P → P → P) (rounds : HashMap (ℕ × ℕ × ℕ) (Done P A) T) (slots later : Grid (ℕ × Slot P) B) (failures more longer : List ℕ) (groups extra all : List (List ℕ)) → KeepsSlots slots later
+pub are_done_later : {P A B T : Type 0} (meld : P → P → P) (rounds : HashMap (ℕ × ℕ × ℕ) (Done P A) T) (slots later : Grid (Cell P) B) (failures more longer : List ℕ) (groups extra all : List (List ℕ)) → KeepsSlots slots later
     → longer ≡ failures ++ more → all ≡ groups ++ extra → AreDone meld rounds slots failures groups → AreDone meld rounds later longer all
 are_done_later {P} {A} meld rounds slots later failures more longer groups extra all keeps longer_is all_is are c k done at =
     subst (λ (fs : List ℕ). IsDone {A = A} meld later fs all c k done) (sym longer_is)

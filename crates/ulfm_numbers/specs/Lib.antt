@@ -1,3 +1,4 @@
+pub mod Cells
 pub mod Failed
 pub mod Grids
 pub mod Groups

@@ -2,8 +2,8 @@
 use Rattle.std.specs.Prelude.{◌≡◌, ℕ, ◌+◌, ◌==◌, nat_lt, nat_eq, Bool, false, if◌then◌else◌}
 use Rattle.std.specs.Prelude.{List, [], ◌∷◌, ◌++◌, length, filter, Option, Some, None, is_some, OnOk, Result}
 use Rattle.std.specs.{HashMap.{HashMap, get}, List.{cons_option}, Option.{option_and_then, option_map}}
-use Rattle.ulfm_model.specs.declared.{contribution.Slot.{Slot}, event.Entry.{Entry}}
-use Rattle.ulfm_numbers.specs.{declared.grids.Grid.{Grid}, Grids.{cell_at}}
+use Rattle.ulfm_model.specs.declared.{event.Entry.{Entry}}
+use Rattle.ulfm_numbers.specs.{declared.cells.Cell.{Cell}, declared.grids.Grid.{Grid}, Cells.{number_at, told_at}}
 use Rattle.ulfm_model.specs.{History.{History, failures, same_place, says, spawns}, Terms.{put_at}}
 
 -- an event's number and what it gives, or what later events give
@@ -58,14 +58,14 @@ abbrev pub Notes : {P T X E : Type 0} → (T → History P → Type 0) → T →
 Notes {P} TellsIt old new n entry result = (h : History P) → TellsIt old h → n ≡ length h → OnOk result (TellsIt new (h ++ entry ∷ []))
 
 -- the grid has, for each place, when it was settled first, and what settled it
-abbrev pub TellsSlots : {P A : Type 0} → Grid (ℕ × Slot P) A → History P → Type 0
-TellsSlots slots h = (place : ℕ × ℕ × ℕ) → cell_at slots place ≡ first_from (λ e. put_at place (says e.event).settles) 0 h
+abbrev pub TellsSlots : {P A : Type 0} → Grid (Cell P) A → History P → Type 0
+TellsSlots slots h = (place : ℕ × ℕ × ℕ) → told_at slots place ≡ first_from (λ e. put_at place (says e.event).settles) 0 h
 
 -- the grid has, for each place, when its rank arrived
 abbrev pub TellsArrivals : {P A : Type 0} → Grid ℕ A → History P → Type 0
 TellsArrivals arrivals h =
     (place : ℕ × ℕ × ℕ)
-    → cell_at arrivals place ≡ number_of (first_from (λ e. passing (λ x. same_place x place) (says e.event).arrives) 0 h)
+    → number_at arrivals place ≡ number_of (first_from (λ e. passing (λ x. same_place x place) (says e.event).arrives) 0 h)
 
 -- the map has, for each communicator, when it was revoked
 abbrev pub TellsRevocations : {P S : Type 0} → HashMap ℕ ℕ S → History P → Type 0

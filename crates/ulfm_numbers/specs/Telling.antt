@@ -2,7 +2,7 @@
 use Rattle.std.specs.Prelude.{◌≡◌, ℕ, ◌+◌, ◌≤◌, nat_le, nat_eq, if◌then◌else◌, List, [], length, map, take}
 use Rattle.std.specs.HashMap.{get}
 use Rattle.ulfm_model.specs.History.{History, members, spawns}
-use Rattle.ulfm_numbers.specs.{Failed.{members_of}, Grids.{cell_at}, Groups.{group_at}, Seen.{Seen}}
+use Rattle.ulfm_numbers.specs.{Cells.{number_at, told_at}, Failed.{members_of}, Groups.{group_at}, Seen.{Seen}}
 use Rattle.ulfm_numbers.specs.declared.numbers.Numbers.{Numbers}
 use Rattle.ulfm_numbers.specs.Numbers.{TellsArrivals, TellsDeclared, TellsFailures, TellsRevocations, TellsSlots, TellsSpawns}
 use Rattle.ulfm_numbers.specs.Numbers.{before_then, by_then, count_by}
@@ -26,8 +26,8 @@ pub record TablesTell {P A : Type 0} {g : _} (ranks : ℕ) (numbers : Numbers P 
 -- what the tables say of a point, which is a number of events
 abbrev pub seen_at : {P A : Type 0} {g : _} → Numbers P A g → ℕ → Seen P
 seen_at numbers point = record {
-  slots = λ at. by_then point (cell_at numbers.slots at);
-  arrived = λ at. before_then point (cell_at numbers.arrivals at);
+  slots = λ at. by_then point (told_at numbers.slots at);
+  arrived = λ at. before_then point (number_at numbers.arrivals at);
   revoked = λ c. before_then point (get nat_eq numbers.revocations c);
   declared = λ r. before_then point (get nat_eq numbers.declared r);
   failures = take (count_by point numbers.failed_at.items) numbers.failures.items;

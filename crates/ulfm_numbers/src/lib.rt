@@ -2,10 +2,12 @@
 #![tactic(auto)]
 
 pub mod allowed;
+pub mod cells;
 pub mod grids;
 pub mod groups;
 pub mod numbers;
 pub mod rounds;
+pub mod slots;
 
 pub use allowed::may_follow;
 pub use numbers::Numbers;

@@ -1,7 +1,7 @@
 //! When things happened: tables of the numbers of events, in place of walks of a history. Each answer is at a point, which is a
 //! number of events; the tables tell it for every point so far, at no cost by the length of the history. Who the members of a
 //! communicator are is kept when it is made.
-ghost use Rattle.std.specs.Prelude.{◌≡◌, ◌+◌, ◌++◌, ◌∷◌, [], ℕ, IfOk, IfSome, OnOk, Some, filter, filter_map, if◌then◌else◌, is_some, length, map, take, true};
+ghost use Rattle.std.specs.Prelude.{◌≡◌, ◌+◌, ◌++◌, ◌<◌, ◌%◌, ◌∷◌, [], ℕ, IfOk, IfSome, OnOk, Some, filter, filter_map, if◌then◌else◌, is_some, length, map, min, take, true};
 ghost use Rattle.std.specs.HashMap.{get};
 ghost use Rattle.std.specs.List.{cons_option, list_all};
 ghost use Rattle.ulfm_record.specs.Walked.{decision_of};
@@ -10,14 +10,17 @@ ghost use Rattle.ulfm_numbers.specs.Failed.{AreFailed, members_of};
 ghost use Rattle.ulfm_numbers.specs.Numbers.{TellsArrivals, TellsDeclared, TellsFailures, TellsRevocations, TellsSlots, TellsSpawns};
 ghost use Rattle.ulfm_numbers.specs.Numbers.{AreBefore, Notes, before_then, by_then, count_by, first_noted};
 ghost use Rattle.ulfm_numbers.specs.Seen.{decision_in, failed_in, is_decided_in, made_in, settled_in};
+ghost use Rattle.ulfm_numbers.specs.Cells.{number_at, told_at};
 ghost use Rattle.ulfm_numbers.specs.Grids.{cell_at};
 ghost use Rattle.ulfm_numbers.specs.Groups.{group_at, items_of};
 ghost use Rattle.ulfm_numbers.specs.Rounds.{AreDone, IsByRound, IsDone, KeepsSlots};
 ghost use Rattle.ulfm_model.specs.History.{History, has, same_place, says};
 
+use crate::cells::Cell;
 use crate::grids::{Grid, cell_at, new_grid, put_at};
 use crate::groups::{Group, declare_in_all, group_of, has_member, same_ranks};
 use crate::rounds::{Done, have_common, know_few};
+use crate::slots::{number_at, put_number, put_told, told_at};
 use std::alloc::{AllocError, Allocator};
 use std::collections::HashMap;
 use std::hash::{BuildHasherDefault, FoldHasher, Hash};
@@ -33,12 +36,15 @@ pub type RoundKey = (u16, u16, u16);
 /// A hash table over an allocator.
 pub type Table<K, V, A> = HashMap<K, V, BuildHasherDefault<FoldHasher>, A>;
 
+/// Of how many rounds of a communicator it is kept what they decided, the last ones.
+const KEPT_ROUNDS: u16 = 4;
+
 /// The numbers of the events so far, by what they say.
 #[derive(Drop)]
 pub struct Numbers<P: Meld, A: Allocator> {
-    /// By place, the event that settled it, and what it is settled by.
-    pub slots: Grid<(u64, Slot<P>), A>,
-    /// By place, the arrival of its rank.
+    /// By place, what it is settled by, with the number of the event that settled it.
+    pub slots: Grid<Cell<P>, A>,
+    /// By place, the arrival of its rank: 1 more than the number of its event, or 0 where there is none.
     pub arrivals: Grid<u64, A>,
     /// By communicator, its revocation.
     pub revocations: Table<u16, u64, A>,
@@ -54,10 +60,11 @@ pub struct Numbers<P: Meld, A: Allocator> {
     pub spawned_at: Vec<u64, A>,
     /// The group of each communicator, the world's first.
     pub groups: Vec<Group<A>, A>,
-    /// By communicator and round, with rank 0, what those rounds decided that have.
+    /// By communicator and round, with rank 0, what those rounds decided that have, as far as it is kept.
     pub rounds: Table<RoundKey, Done<P, A>, A>,
-    /// By communicator and round, at communicator 0, where the search for a member that isn't settled begins, and who was settled last.
-    pub hints: Grid<(usize, u16), A>,
+    /// By communicator, at communicator 0 and, by turns of its rounds, at ranks 0 and 1: a round, where the search in it for a member that isn't settled
+    /// begins, and who was settled last in it.
+    pub hints: Grid<(u16, u16, u16), A>,
     /// How many events there are.
     pub count: u64,
     ghost rounds_done: { AreDone P.meld rounds slots failures.items (map members_of groups.items) },
@@ -141,7 +148,7 @@ fn declared_by<P: Copy>(entry: &Entry<P>) -> Option<u16>
 /// Notes what one more event settles, with its number.
 fn note_slot<P: Copy, A: Allocator + Copy>(
     alloc: A,
-    slots: &mut Grid<(u64, Slot<P>), A>,
+    slots: &mut Grid<Cell<P>, A>,
     number: u64,
     entry: &Entry<P>,
 ) -> Result<(), AllocError>
@@ -151,10 +158,10 @@ fn note_slot<P: Copy, A: Allocator + Copy>(
     let Some((place, slot)) = settled_by(entry) else {
         return Ok(());
     };
-    if cell_at(slots, place).is_some() {
+    if told_at(slots, place).is_some() {
         return Ok(());
     }
-    put_at(alloc, slots, place, (number, slot))?;
+    put_told(alloc, slots, place, number, &slot)?;
     Ok(())
 }
 
@@ -165,15 +172,16 @@ fn note_arrival<A: Allocator + Copy>(
     number: u64,
     given: Option<RoundKey>,
 ) -> Result<(), AllocError>
-    ensures { OnOk result ((q : ℕ × ℕ × ℕ) → cell_at arrivals.new q ≡ first_noted same_place (cell_at arrivals.old) number given q) }
+    requires { number < 18446744073709551615 }
+    ensures { OnOk result ((q : ℕ × ℕ × ℕ) → number_at arrivals.new q ≡ first_noted same_place (number_at arrivals.old) number given q) }
 {
     let Some(place) = given else {
         return Ok(());
     };
-    if cell_at(arrivals, place).is_some() {
+    if number_at(arrivals, place).is_some() {
         return Ok(());
     }
-    put_at(alloc, arrivals, place, number)?;
+    put_number(alloc, arrivals, place, number)?;
     Ok(())
 }
 
@@ -278,7 +286,7 @@ fn note_group<A: Allocator + Copy + Drop>(
 /// Notes one more event in each table, and the members of the communicator that it makes.
 fn note_all<P: Copy, A: Allocator + Copy + Drop>(
     alloc: A,
-    slots: &mut Grid<(u64, Slot<P>), A>,
+    slots: &mut Grid<Cell<P>, A>,
     arrivals: &mut Grid<u64, A>,
     revocations: &mut Table<u16, u64, A>,
     declared: &mut Table<u16, u64, A>,
@@ -291,6 +299,7 @@ fn note_all<P: Copy, A: Allocator + Copy + Drop>(
     entry: &Entry<P>,
     made: Option<Vec<u16, A>>,
 ) -> Result<(), AllocError>
+    requires { number < 18446744073709551615 }
     ensures slots { Notes TellsSlots slots.old slots.new number entry.now result }
     ensures arrivals { Notes TellsArrivals arrivals.old arrivals.new number entry.now result }
     ensures revocations { Notes TellsRevocations revocations.old revocations.new number entry.now result }
@@ -315,17 +324,27 @@ fn note_all<P: Copy, A: Allocator + Copy + Drop>(
     note_spawn(spawns, spawned_at, number, entry)
 }
 
-/// Keeps where the search for a member of a round begins, and who was settled last, at one cell for each round.
+/// Keeps where the search for a member of a round begins, as far as 16 bits tell, and who was settled last, in place of what was kept of the round before
+/// the last.
 fn keep_hint<A: Allocator + Copy>(
     alloc: A,
-    hints: &mut Grid<(usize, u16), A>,
+    hints: &mut Grid<(u16, u16, u16), A>,
     comm: u16,
     round: u16,
-    hint: (usize, u16),
+    first: usize,
+    last: u16,
 ) -> Result<(), AllocError>
-    ensures { OnOk result ((q : ℕ × ℕ × ℕ) → cell_at hints.new q ≡ (if same_place (0, comm, round) q then Some hint else cell_at hints.old q)) }
+    ensures { let begin = min first 65535 in OnOk result ((q : ℕ × ℕ × ℕ)
+        → cell_at (0, 0, 0) hints.new q ≡ (if same_place (0, comm, round % 2) q then (round, begin, last) else cell_at (0, 0, 0) hints.old q)) }
 {
-    put_at(alloc, hints, (0, comm, round), hint)
+    let begin = first.min(65535) as u16;
+    put_at(
+        alloc,
+        hints,
+        (0, comm, round % 2),
+        (0, 0, 0),
+        (round, begin, last),
+    )
 }
 
 /// The first so many ranks of a list, or all of it.
@@ -476,7 +495,7 @@ impl<P: Meld, A: Allocator + Copy + Drop> Numbers<P, A> {
             return Ok(());
         };
         let open = self.first_open(comm, round);
-        keep_hint(alloc, &mut self.hints, comm, round, (open, rank))?;
+        keep_hint(alloc, &mut self.hints, comm, round, open, rank)?;
         if open < group_at(&self.groups, comm).len() {
             return Ok(());
         }
@@ -488,7 +507,7 @@ impl<P: Meld, A: Allocator + Copy + Drop> Numbers<P, A> {
         let group = group_at(&self.groups, comm);
         let begin = self.hint_of(comm, round).0;
         let open = match group.get(begin..) {
-            Some(rest) => rest.iter().position(|rank| cell_at(
+            Some(rest) => rest.iter().position(|rank| told_at(
                 &self.slots,
                 (comm, round, *rank),
             ).is_none()),
@@ -500,13 +519,25 @@ impl<P: Meld, A: Allocator + Copy + Drop> Numbers<P, A> {
         }
     }
 
+    /// Lets go of what a communicator's earlier round decided, so that its last few rounds are kept: a member that polls is of the last two, unless it was
+    /// declared.
+    fn forget_earlier(&mut self, comm: u16, round: u16)
+        ensures { (ranks : ℕ) (h : History P) → TablesTell ranks self.old h → TablesTell ranks self.new h }
+    {
+        if round >= KEPT_ROUNDS {
+            let _ = self.rounds.remove(&(comm, round - KEPT_ROUNDS, 0));
+        }
+    }
+
     /// Notes what a round decides, if it does now.
     fn note_decided(&mut self, alloc: A, comm: u16, round: u16) -> Result<(), AllocError>
         ensures { (ranks : ℕ) (h : History P) → TablesTell ranks self.old h → TablesTell ranks self.new h }
     {
-        if let Some(done) = self.done_now(alloc, comm, round)? {
-            self.rounds.insert((comm, round, 0), done)?;
-        }
+        let Some(done) = self.done_now(alloc, comm, round)? else {
+            return Ok(());
+        };
+        self.rounds.insert((comm, round, 0), done)?;
+        self.forget_earlier(comm, round);
         Ok(())
     }
 
@@ -533,11 +564,14 @@ impl<P: Meld, A: Allocator + Copy + Drop> Numbers<P, A> {
         }))
     }
 
-    /// Where the search for a member of a round that isn't settled begins, and who was settled last.
+    /// Where the search for a member of a round that isn't settled begins, and who was settled last, where that is kept: it is of a communicator's last
+    /// two rounds.
     pub fn hint_of(&self, comm: u16, round: u16) -> (usize, u16) {
-        match cell_at(&self.hints, (0, comm, round)) {
-            Some(hint) => hint,
-            None => (0, 0),
+        let (kept, begin, last) = cell_at(&self.hints, (0, comm, round % 2), (0, 0, 0));
+        if kept == round {
+            (usize::from(begin), last)
+        } else {
+            (0, 0)
         }
     }
 
@@ -606,14 +640,14 @@ impl<P: Meld, A: Allocator + Copy + Drop> Numbers<P, A> {
     pub fn slot_at(&self, place: RoundKey, point: u64) -> Option<Slot<P>>
         ensures { result ≡ (seen_at self.now point).slots place }
     {
-        given_by(cell_at(&self.slots, place), point)
+        given_by(told_at(&self.slots, place), point)
     }
 
     /// Whether a rank had arrived at a place of a barrier round at a point.
     pub fn has_arrived_at(&self, place: RoundKey, point: u64) -> bool
         ensures { result ≡ (seen_at self.now point).arrived place }
     {
-        was_by(cell_at(&self.arrivals, place), point)
+        was_by(number_at(&self.arrivals, place), point)
     }
 
     /// Whether a communicator was revoked at a point.

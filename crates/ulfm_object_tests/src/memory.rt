@@ -31,8 +31,10 @@ fn filled<'a>(
 
 /// Whether two ranks hold the same communicator in the same way.
 fn are_held_alike<A: Allocator, B: Allocator>(one: &HeldComm<A>, other: &HeldComm<B>) -> bool {
+    let ranks: &[u16] = &one.group;
+    let others: &[u16] = &other.group;
     one.comm == other.comm
-        && one.group.as_slice() == other.group.as_slice()
+        && ranks == others
         && one.context == other.context
         && one.acked == other.acked
         && one.next_agreement == other.next_agreement

@@ -1,6 +1,8 @@
 //! Records of ranks to which nothing has happened.
 ghost use Rattle.std.specs.Prelude.{◌≡◌, IfOk, map};
+ghost use Rattle.std.specs.Arc.{arc_slice_items};
 ghost use Rattle.ulfm_model.specs.History.{first_ranks};
+ghost use Rattle.ulfm_model.specs.declared.limits.Limits.{Limits};
 ghost use Rattle.ulfm_model.specs.Records.{new_record};
 ghost use Rattle.ulfm_record.specs.Kept.{record_of};
 
@@ -8,21 +10,20 @@ use crate::groups::first_ranks;
 use crate::held::HeldComm;
 use crate::record::RankRecord;
 use std::alloc::{AllocError, Allocator};
+use std::sync::ArcSlice;
 use ulfm_model::limits::Limits;
 
-/// A new rank's record: it holds the world's communicator alone. Only memory can be refused.
-///
-/// In a world of three ranks rank 2 holds communicator 0, whose members are 0, 1 and 2, and has seen no failure.
-pub fn new_record<A: Allocator + Copy + Drop>(
+// A new rank's record: it holds the world's communicator alone, and shares the list of these ranks. Only memory can be refused.
+fn record_among<A: Allocator + Copy + Drop>(
     alloc: A,
-    limits: Limits,
     number: u16,
+    ranks: &ArcSlice<u16, A>,
 ) -> Result<RankRecord<A>, AllocError>
-    ensures { IfOk result (λ own. record_of limits own ≡ new_record limits number) }
+    ensures { IfOk result (λ own. (limits : Limits) → arc_slice_items ranks.now ≡ first_ranks limits.ranks
+        → record_of limits own ≡ new_record limits number) }
 {
-    let group = first_ranks(alloc, limits.ranks)?;
     let mut held = Vec::new(alloc);
-    held.push(HeldComm::new(0, 0, group))?;
+    held.push(HeldComm::of_world(ranks.clone()?))?;
     let seen = Vec::new(alloc);
     Ok(RankRecord {
         number,
@@ -34,16 +35,17 @@ pub fn new_record<A: Allocator + Copy + Drop>(
 
 /// A new record of each rank of a world, rank after rank. Only memory can be refused.
 ///
-/// A world of three ranks has three, of the numbers 0, 1 and 2.
+/// A world of three ranks has three, of the numbers 0, 1 and 2. Rank 2 holds communicator 0, whose members are 0, 1 and 2, and has seen no failure.
 pub fn new_records<A: Allocator + Copy + Drop>(
     alloc: A,
     limits: Limits,
 ) -> Result<Vec<RankRecord<A>, A>, AllocError>
     ensures { IfOk result (λ records. map (record_of limits) records.items ≡ map (new_record limits) (first_ranks limits.ranks)) }
 {
+    let ranks = ArcSlice::from_vec(first_ranks(alloc, limits.ranks)?)?;
     let mut records = Vec::new(alloc);
     for number in 0..limits.ranks {
-        let record = new_record(alloc, limits, number)?;
+        let record = record_among(alloc, number, &ranks)?;
         records.push(record)?;
     }
     Ok(records)

@@ -4,11 +4,15 @@ ghost use Rattle.std.specs.List.{list_any};
 ghost use Rattle.ulfm_model.specs.Records.{change_at, is_shrink};
 ghost use Rattle.ulfm_model.specs.Answers.{first_refusal, opened, refusal_of as refusal_by};
 ghost use Rattle.ulfm_model.specs.Terms.{new_held, tests_of};
+ghost use Rattle.std.specs.Arc.{arc_slice_items};
+ghost use Rattle.ulfm_record.specs.Members.{members_of};
 ghost use Rattle.ulfm_record.specs.Kept.{FitsNext, HasNext, record_of, tested};
 
+use crate::members::Members;
 use crate::record::RankRecord;
 use std::alloc::Allocator;
 use std::marker::Model;
+use std::sync::ArcSlice;
 use ulfm_model::call::{Call, Request, comm_of};
 use ulfm_model::limits::Limits;
 use ulfm_model::refusal::Refusal;
@@ -19,7 +23,7 @@ pub struct HeldComm<A: Allocator> {
     /// The communicator's number; 0 is the world's own.
     pub comm: u16,
     /// Its members, in order.
-    pub group: Vec<u16, A>,
+    pub group: Members<A>,
     /// Its context id, 0 to 63.
     pub context: u8,
     /// How many of its failures the rank has acknowledged.
@@ -34,12 +38,13 @@ pub struct HeldComm<A: Allocator> {
 
 impl<A: Allocator> Model for HeldComm<A> {
     ghost use Rattle.ulfm_model.specs.Records.{Held};
+    ghost use Rattle.ulfm_record.specs.Members.{members_of};
 
     ghost Value = { Held };
 
     ghost view = { λ a. record {
       comm = a.comm;
-      group = a.group.items;
+      group = members_of a.group;
       context = a.context;
       acked = a.acked;
       next_agreement = a.next_agreement;
@@ -49,9 +54,23 @@ impl<A: Allocator> Model for HeldComm<A> {
 }
 
 impl<A: Allocator> HeldComm<A> {
-    /// A communicator as a rank first holds it: nobody is acknowledged, no round is used up, and no request is open.
+    /// The world's communicator, of these ranks, as a rank first holds it: nobody is acknowledged, no round is used up, and no request is open.
+    pub fn of_world(ranks: ArcSlice<u16, A>) -> HeldComm<A>
+        ensures { result ≡ new_held 0 0 (arc_slice_items ranks) }
+    {
+        HeldComm::unused(0, 0, Members::Shared(ranks))
+    }
+
+    /// A communicator that a shrink made, as a rank first holds it.
     pub fn new(comm: u16, context: u8, group: Vec<u16, A>) -> HeldComm<A>
         ensures { result ≡ new_held comm context group.items }
+    {
+        HeldComm::unused(comm, context, Members::Own(group))
+    }
+
+    // One of which nothing was used yet.
+    fn unused(comm: u16, context: u8, group: Members<A>) -> HeldComm<A>
+        ensures { result ≡ new_held comm context (members_of group) }
     {
         HeldComm {
             comm,

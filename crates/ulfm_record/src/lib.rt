@@ -12,11 +12,13 @@ pub mod groups;
 pub mod held;
 pub mod ids;
 pub mod leaves;
+pub mod members;
 pub mod reads;
 pub mod record;
 mod says;
 
 pub use decide::Decided;
-pub use fresh::{new_record, new_records};
+pub use fresh::new_records;
 pub use held::HeldComm;
+pub use members::Members;
 pub use record::RankRecord;

@@ -1,5 +1,5 @@
 //! Which of the choices a circle rests on: where it rests on none of the last ones, other ways of those are of no use.
-use crate::choice::{Choice, Fork, rank_at};
+use crate::choice::{Choice, Fork};
 use std::alloc::{AllocError, Allocator};
 use ulfm_graph::tables::{NONE, at, put};
 use ulfm_study::{Deals, Plan, Study};
@@ -38,30 +38,26 @@ fn is_in<A: Allocator + Copy>(
     met: &[u32],
     choice: Choice,
 ) -> bool {
+    let rank = choice.rank(study.ranks);
     match choice.fork {
         Fork::Open { act, .. } => {
             choice.counts_start() && (has(met, plan.look(act)) || has(met, plan.settle(act)))
         }
         Fork::Revoker { comm } => has(met, plan.revocation(comm)),
         Fork::Maker { comm } => has(met, plan.spawn(comm)) || has(met, plan.decision(choice.way)),
-        Fork::Knew {
-            round,
-            count,
-            first,
-        } => {
-            let rank = rank_at(first, choice.way, study.ranks);
+        Fork::Knew { round, count, .. } => {
             let start = deals.contribution(study, round, rank);
             start != NONE && has(met, plan.failure(count)) && has(met, plan.look(start))
         }
-        Fork::Missing { act, first } => {
-            let rank = rank_at(first, choice.way, study.ranks);
+        Fork::Missing { act, .. } => {
             let (call, round) = polled(study, act);
             let start = deals.contribution(study, round, rank);
             start != NONE && has(met, call) && has(met, plan.settle(start))
         }
-        Fork::Failed { act, first } | Fork::Absent { act, first } => {
-            let rank = rank_at(first, choice.way, study.ranks);
-            arrives(plan, study, deals, met, act, rank)
+        Fork::Failed { act, .. } | Fork::Absent { act, .. } => {
+            let (_, round) = polled(study, act);
+            let start = deals.arrival(study, round, rank);
+            start != NONE && has(met, plan.point(act)) && has(met, plan.settle(start))
         }
         Fork::Seen { act, rank } => {
             let (_, round) = polled(study, act);
@@ -69,20 +65,6 @@ fn is_in<A: Allocator + Copy>(
             start != NONE && (has(met, plan.look(start)) || has(met, plan.settle(start)))
         }
     }
-}
-
-/// Whether a barrier's point and a rank's arrival are marked.
-fn arrives<A: Allocator + Copy>(
-    plan: &Plan<A>,
-    study: &Study<A>,
-    deals: &Deals<A>,
-    met: &[u32],
-    act: u32,
-    rank: usize,
-) -> bool {
-    let (_, round) = polled(study, act);
-    let start = deals.arrival(study, round, rank);
-    start != NONE && has(met, plan.point(act)) && has(met, plan.settle(start))
 }
 
 /// The line of a poll's call, and its round.

@@ -76,6 +76,17 @@ impl Choice {
             _ => false,
         }
     }
+
+    /// The rank that its way is, of so many, where the fork is one of ranks; else none of them.
+    pub(crate) fn rank(&self, ranks: usize) -> usize {
+        match self.fork {
+            Fork::Knew { first, .. }
+            | Fork::Missing { first, .. }
+            | Fork::Failed { first, .. }
+            | Fork::Absent { first, .. } => rank_at(first, self.way, ranks),
+            _ => ranks,
+        }
+    }
 }
 
 /// The rank that a way is, of so many, where this one is tried first.

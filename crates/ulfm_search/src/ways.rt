@@ -11,29 +11,27 @@ pub(crate) fn choose<A: Allocator + Copy>(
     deals: &Deals<A>,
     choice: Choice,
 ) -> Result<bool, AllocError> {
+    let rank = choice.rank(study.ranks);
     match choice.fork {
-        Fork::Knew {
-            round,
-            count,
-            first,
-        } => {
-            let rank = rank_at(first, choice.way, study.ranks);
-            choose_knew(plan, study, deals, round, count, rank)?;
+        Fork::Knew { round, count, .. } => {
+            choose_knew(plan, deals.contribution(study, round, rank), count, rank)?;
             Ok(true)
         }
-        Fork::Missing { act, first } => {
-            let rank = rank_at(first, choice.way, study.ranks);
-            choose_missing(plan, study, deals, act, rank)
-        }
-        Fork::Failed { act, first } => {
-            let rank = rank_at(first, choice.way, study.ranks);
+        Fork::Missing { act, .. } | Fork::Failed { act, .. } | Fork::Absent { act, .. } => {
+            let Some(poll) = study.act(act) else {
+                return Ok(false);
+            };
             let point = plan.point(act);
-            plan.shows(small(number(rank)), point)?;
-            late_arrival(plan, study, deals, act, rank)
-        }
-        Fork::Absent { act, first } => {
-            let rank = rank_at(first, choice.way, study.ranks);
-            choose_absent(plan, study, deals, act, rank)
+            match choice.fork {
+                Fork::Failed { .. } => plan.shows(small(number(rank)), point)?,
+                _ => plan.alive(small(number(rank)), poll.call)?,
+            }
+            let (node, start) = match choice.fork {
+                Fork::Missing { .. } => (poll.call, deals.contribution(study, poll.round, rank)),
+                _ => (point, deals.arrival(study, poll.round, rank)),
+            };
+            settle_behind(plan, node, start)?;
+            Ok(true)
         }
         Fork::Seen { act, rank } => choose_seen(plan, study, deals, act, rank, choice.way),
         Fork::Maker { .. } => Ok(may_make(study, deals, choice.way)),
@@ -47,16 +45,13 @@ fn may_make<A: Allocator + Copy>(study: &Study<A>, deals: &Deals<A>, round: u32)
     study.made(round) == NONE && deal.told == NONE && deal.shrinks && !deal.agrees
 }
 
-/// A rank knew the last failure of a round's group.
+/// A rank knew the last failure of a round's group, by its contribution, or as one that is left out.
 fn choose_knew<A: Allocator + Copy>(
     plan: &mut Plan<A>,
-    study: &Study<A>,
-    deals: &Deals<A>,
-    round: u32,
+    start: u32,
     count: u32,
     rank: usize,
 ) -> Result<(), AllocError> {
-    let start = deals.contribution(study, round, rank);
     if start == NONE {
         plan.not_before(small(number(rank)), count, NONE);
         return Ok(());
@@ -65,59 +60,17 @@ fn choose_knew<A: Allocator + Copy>(
     plan.after_failures(count, look)
 }
 
-/// A rank was missing in a round when a poll began.
-fn choose_missing<A: Allocator + Copy>(
+/// A contribution or an arrival comes behind a node, if there is one: since it was missing there.
+fn settle_behind<A: Allocator + Copy>(
     plan: &mut Plan<A>,
-    study: &Study<A>,
-    deals: &Deals<A>,
-    act: u32,
-    rank: usize,
-) -> Result<bool, AllocError> {
-    let Some(poll) = study.act(act) else {
-        return Ok(false);
-    };
-    plan.alive(small(number(rank)), poll.call)?;
-    let start = deals.contribution(study, poll.round, rank);
-    if start != NONE {
-        let settle = plan.settle(start);
-        plan.edge(poll.call, settle)?;
+    node: u32,
+    start: u32,
+) -> Result<(), AllocError> {
+    if start == NONE {
+        return Ok(());
     }
-    Ok(true)
-}
-
-/// A rank's arrival was missing where a barrier's poll was pending.
-fn choose_absent<A: Allocator + Copy>(
-    plan: &mut Plan<A>,
-    study: &Study<A>,
-    deals: &Deals<A>,
-    act: u32,
-    rank: usize,
-) -> Result<bool, AllocError> {
-    let Some(poll) = study.act(act) else {
-        return Ok(false);
-    };
-    plan.alive(small(number(rank)), poll.call)?;
-    late_arrival(plan, study, deals, act, rank)
-}
-
-/// An arrival comes behind a barrier's point.
-fn late_arrival<A: Allocator + Copy>(
-    plan: &mut Plan<A>,
-    study: &Study<A>,
-    deals: &Deals<A>,
-    act: u32,
-    rank: usize,
-) -> Result<bool, AllocError> {
-    let Some(poll) = study.act(act) else {
-        return Ok(false);
-    };
-    let start = deals.arrival(study, poll.round, rank);
-    if start != NONE {
-        let point = plan.point(act);
-        let settle = plan.settle(start);
-        plan.edge(point, settle)?;
-    }
-    Ok(true)
+    let settle = plan.settle(start);
+    plan.edge(node, settle)
 }
 
 /// A member that a pending barrier lacks wasn't seen failed, or it had arrived.

@@ -11,7 +11,7 @@ use Rattle.std.specs.Prelude.{unwrap_or}
 use Rattle.ulfm_model.proofs.Lists.{reverse_push}
 use Rattle.ulfm_story.specs.declared.{rows.{Note.{Note}, Row.{Row}}, telling.Telling.{Telling}}
 use Rattle.ulfm_script.specs.Buffers.{HasNoNewline}
-use Rattle.ulfm_story.specs.{Decisions.{TellsDecision, decided_text}, Tellings.{AreRowsOf, IsRowOf, IsTold}}
+use Rattle.ulfm_story.specs.{Decisions.{TellsDecision, decided_text}, Tellings.{AreRowsOf, EndsAt, IsRowOf, IsTold, TellsLines}}
 use Rattle.ulfm_story.specs.Stories.{Told, decisions, entry_of, events_of, told_at, told_below, told_by, told_of}
 
 -- one row more
@@ -86,6 +86,11 @@ rows_push text (x ∷ rows) left behind row are is = (are.0, are.1, rows_push ar
 -- so many rows of a text's lines were told, behind which this is left
 abbrev pub ToldSo : {A : Type 0} → Limits → List ℕ → List ℕ → ℕ → Telling A → Type 0
 ToldSo limits text left number telling = (rows : List Row) × IsTold limits telling rows × AreRowsOf text rows left × (length rows ≡ number)
+
+-- telling ends there: so many rows were wanted, or no line is left
+pub stops : {A : Type 0} (limits : Limits) (text left : List ℕ) (number most : ℕ) (telling : Telling A) (so : ToldSo limits text left number telling)
+    → EndsAt most (length so.0) left → TellsLines limits text most telling
+stops limits text left number most telling so ends = record { rows = so.0; left = left; is_told = so.1; are_rows = so.2; ends = ends }
 
 -- a text without a newline has no first line
 pub no_split : (line behind : List ℕ) → HasNoNewline (line ++ 10 ∷ behind) → ⊥

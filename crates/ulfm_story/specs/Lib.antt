@@ -1,5 +1,6 @@
 pub mod Bars
 pub mod Decisions
+pub mod Judged
 pub mod Rounds
 pub mod Rows
 pub mod Stories

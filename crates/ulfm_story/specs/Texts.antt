@@ -1,4 +1,4 @@
--- What is read of a text, as far as a picture goes.
+-- What is read of a text.
 use Rattle.std.specs.Prelude.{◌≡◌, Bool, true, List, ℕ, ◌++◌}
 use Rattle.ulfm_script.specs.Ends.{IsTextOf, KnownText}
 

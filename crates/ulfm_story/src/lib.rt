@@ -5,6 +5,7 @@
 pub mod bars;
 mod calls;
 pub mod decisions;
+pub mod judged;
 mod rounds;
 pub mod rows;
 pub mod story;
@@ -13,6 +14,7 @@ pub mod text;
 
 pub use bars::{Bar, Tone};
 pub use decisions::decision_words;
+pub use judged::{JudgedText, judge_text, read_judged};
 pub use rows::{Note, Row};
 pub use story::{Story, tell_story};
-pub use text::{Beginning, MOST_LINES, read_lines, read_text, split_line};
+pub use text::{Beginning, MOST_LINES, read_lines, split_line};

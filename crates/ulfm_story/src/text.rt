@@ -1,4 +1,4 @@
-//! The text of a trace: read as far as a picture goes, and taken apart in lines.
+//! The text of a trace: read as far as it is asked for, and taken apart in lines.
 ghost use Rattle.std.specs.Prelude.{◌≡◌, ◌++◌, ◌∷◌, IfOk, MatchOption, true, false};
 ghost use Rattle.ulfm_script.specs.Buffers.{HasNoNewline, pending, unread};
 ghost use Rattle.ulfm_story.specs.Texts.{BeginsText, BeginsUnread};
@@ -11,30 +11,20 @@ use ulfm_script::{Input, LineEnd, RunFault};
 /// The most lines of a trace that a picture has.
 pub const MOST_LINES: u32 = 20_000;
 
-/// The beginning of a reader's text, as far as a picture goes.
+/// The beginning of a reader's text, as far as it was asked for.
 #[derive(Drop)]
 pub struct Beginning<A: Allocator> {
-    /// At most 20,000 lines, where one that is longer than 8,192 bytes is the last, of which 8,193 bytes are kept.
+    /// At most so many lines, where one that is longer than 8,192 bytes is the last, of which 8,193 bytes are kept.
     pub text: Vec<u8, A>,
     /// Whether that is the whole text.
     pub is_whole: bool,
 }
 
-/// Reads a text as far as a picture goes: at most one line behind the 20,000th and behind one that is too long, and 8
-/// KB ahead.
+/// Reads so many lines of a text: at most one line behind the last of them and behind one that is too long, and 8 KB
+/// ahead.
 ///
-/// Of three lines it gives all, and `is_whole`. Memory is taken for what is kept, for 8 KB of the reader's bytes and
-/// for one line.
-pub fn read_text<A: Allocator + Copy, R: Read>(
-    alloc: A,
-    reader: &mut R,
-) -> Result<Beginning<A>, RunFault>
-    ensures { IfOk result (λ begun. BeginsText (R.remaining reader.old) begun.is_whole begun.text.items) }
-{
-    read_lines(alloc, reader, MOST_LINES)
-}
-
-/// Reads a text as [`read_text`] does, with this number in place of 20,000.
+/// Of three lines it gives all, and `is_whole`, where at least three are asked for. Memory is taken for what is kept,
+/// for 8 KB of the reader's bytes and for one line.
 pub fn read_lines<A: Allocator + Copy, R: Read>(
     alloc: A,
     reader: &mut R,

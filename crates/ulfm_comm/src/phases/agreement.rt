@@ -246,7 +246,11 @@ impl<P: Packed, A: Allocator + Copy> LocalState<P, A> {
         let members = x.group.len() as u16;
         match peek.blocks.all(members) {
             None => self.go_unread(words, pass, asked, peek, shrinks, whole),
-            Some(all) => self.decided(words, pass, asked, peek.round, all, shrinks, prepared),
+            Some(all) => {
+                self.decided(
+                    words, pass, asked, peek.round, all, shrinks, whole, prepared,
+                )
+            }
         }
     }
 
@@ -279,7 +283,16 @@ impl<P: Packed, A: Allocator + Copy> LocalState<P, A> {
                 Next::Ends(Reply::Pending)
             }
             Some(Found::All(all)) => {
-                self.decided(words, pass, asked, reading.round, all, shrinks, prepared)
+                self.decided(
+                    words,
+                    pass,
+                    asked,
+                    reading.round,
+                    all,
+                    shrinks,
+                    whole,
+                    prepared,
+                )
             }
         }
     }
@@ -294,6 +307,7 @@ impl<P: Packed, A: Allocator + Copy> LocalState<P, A> {
         round: u16,
         all: Summary<P>,
         shrinks: bool,
+        whole: bool,
         prepared: &mut NewComm<A>,
     ) -> Next<P>
         requires of { IsView P.meld (view_of P.pack (W.name words.now) (W.sight pass.now)) }
@@ -313,7 +327,7 @@ impl<P: Packed, A: Allocator + Copy> LocalState<P, A> {
             (local self.new (view_of P.pack (W.name words.now) (W.sight pass.now))) }
     {
         if shrinks {
-            return self.shrunk(words, pass, asked, round, all, prepared);
+            return self.shrunk(words, pass, asked, round, all, whole, prepared);
         }
         Next::Ends(self.agreed(comm_of(asked), all))
     }

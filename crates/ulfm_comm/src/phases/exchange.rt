@@ -1,4 +1,4 @@
-// The steps that starts and revocations make after their look.
+// The steps that starts, revocations and the question whether a communicator is revoked make after their look.
 ghost use Rattle.std.specs.Prelude.{Bool, ◌≡◌, false, Some, ◌≤◌, ◌<◌, filter, length};
 ghost use Rattle.std.specs.List.Sorted.{IsStrictlyIncreasing};
 ghost use mathlib.Core.List.{IsPrefix};
@@ -7,7 +7,7 @@ ghost use Rattle.ulfm_record.specs.Kept.{HasNext};
 ghost use Rattle.ulfm_comm.specs.{Phase.{StillStands}, Exchange.{IsOffered, Settles, start_leaves, start_result}, Step.{EndsTurn, TakesTurn, coming}};
 ghost use Rattle.ulfm_comm.specs.Proposals.{WinsNext};
 ghost use Rattle.ulfm_comm.specs.declared.phases.phase.Next.TheVariants.{Ends as NextEnds};
-ghost use Rattle.ulfm_comm.specs.declared.phases.phase.Phase.TheVariants.{Settling as AtSettling, Spreading as AtSpreading, Arriving as AtArriving, Revoking as AtRevoking};
+ghost use Rattle.ulfm_comm.specs.declared.phases.phase.Phase.TheVariants.{Settling as AtSettling, Spreading as AtSpreading, Arriving as AtArriving, Asking as AtAsking, Revoking as AtRevoking};
 ghost use Rattle.ulfm_comm.specs.Local.{local};
 ghost use Rattle.ulfm_comm.specs.Phase.{under_way};
 ghost use Rattle.ulfm_words.specs.Steps.{view_of, IsView};
@@ -28,7 +28,7 @@ use ulfm_model::reply::Reply;
 use ulfm_record::HeldComm;
 use ulfm_steps::Settle;
 use ulfm_steps::group::count_in;
-use ulfm_words::{Settled, Words, set_arrival, set_revocation};
+use ulfm_words::{Settled, Words, load_revocation, set_arrival, set_revocation};
 
 // An offer with these counts of failures.
 #[inline(always)]
@@ -152,6 +152,24 @@ impl<P: Packed, A: Allocator> LocalState<P, A> {
         } else {
             Reply::AlreadyRevoked
         }
+    }
+
+    // The load that asks whether the communicator is revoked.
+    #[inline(always)]
+    pub(crate) fn go_asking<W: Words<P, A>>(
+        &self,
+        words: &W,
+        pass: &mut W::Pass,
+        asked: &Call<P>,
+    ) -> Reply<P>
+        requires of { IsView P.meld (view_of P.pack (W.name words.now) (W.sight pass.old)) }
+        requires stands { (prepared : Prepared) × StillStands P.meld (under_way asked.now AtAsking prepared)
+            (local self.now (view_of P.pack (W.name words.now) (W.sight pass.old))) }
+        ensures { EndsTurn P.meld W.alone asked.now AtAsking (local self.now (view_of P.pack (W.name words.now) (W.sight pass.old))) result
+            (local self.now (view_of P.pack (W.name words.now) (W.sight pass.new))) }
+    {
+        let revoked = load_revocation(words, pass, comm_of(asked));
+        Reply::Standing { revoked }
     }
 
     // A contribution to the rank's next agreement round of a communicator that it holds: an offer, the failures that its look found and

@@ -1,5 +1,5 @@
 // The further steps of a shrink's poll, once its round is decided: how a rank comes by its communicator.
-ghost use Rattle.std.specs.Prelude.{Bool, ◌≡◌, ◌+◌, ◌-◌, ◌*◌, ◌≤◌, false, true, ◌⊎◌, MatchOption};
+ghost use Rattle.std.specs.Prelude.{Bool, ◌≡◌, ◌+◌, ◌-◌, ◌*◌, ◌<◌, ◌≤◌, false, true, ◌⊎◌, MatchOption, if◌then◌else◌, min};
 ghost use Rattle.ulfm_model.specs.{Records.{Record}, Terms.{comm_of}};
 ghost use Rattle.ulfm_comm.specs.{Spawning.{HadMemory, HasReached}, Agreement.{HasReadAll}, Phase.{IsMaking, IsPast, NextBelow, NextIs, StillStands}};
 ghost use Rattle.ulfm_comm.specs.{StepsLeft.{FewerLeft, after_round}, AlsoLeft.{also_after_round, also_in}, Step.{TakesTurn}, Proposals.{WinsNext}};
@@ -19,6 +19,7 @@ use ulfm_laws::meld::Packed;
 use ulfm_laws::summary::{Body, Summary};
 use ulfm_model::call::{Call, comm_of};
 use ulfm_model::event::Caller;
+use ulfm_model::limits::Limits;
 use ulfm_model::refusal::Refusal;
 use ulfm_model::reply::Reply;
 use ulfm_record::ids::lowest_id;
@@ -48,6 +49,19 @@ pub(crate) fn place_in(end: Appended) -> Option<u16>
     }
 }
 
+// Where the list of communicators is read from, for a child of this one: from its beginning step by step, and in a whole call from behind
+// the parent, since children come after it; but from its last place at the latest.
+fn first_place(parent: u16, limits: Limits, whole: bool) -> u16
+    requires { 1 < limits.comms }
+    ensures { result ≡ (if whole then min parent (limits.comms - 2) else 0) }
+{
+    if whole {
+        parent.min(limits.comms - 2)
+    } else {
+        0
+    }
+}
+
 impl<P: Packed, A: Allocator + Copy> LocalState<P, A> {
     // What comes next where a shrink's round says this.
     pub(crate) fn shrunk<W: Words<P, A>>(
@@ -57,6 +71,7 @@ impl<P: Packed, A: Allocator + Copy> LocalState<P, A> {
         asked: &Call<P>,
         round: u16,
         all: Summary<P>,
+        whole: bool,
         prepared: &mut NewComm<A>,
     ) -> Next<P>
         requires of { IsView P.meld (view_of P.pack (W.name words.now) (W.sight pass.now)) }
@@ -90,7 +105,7 @@ impl<P: Packed, A: Allocator + Copy> LocalState<P, A> {
         if on.found < count {
             return Next::Goes(Phase::ReadingOn { on, made });
         }
-        self.reached(words, pass, asked, on.reach, made, prepared)
+        self.reached(words, pass, asked, on.reach, made, whole, prepared)
     }
 
     // A load of the list of failures, or all that are left, as far as the decision's failed group reaches.
@@ -117,7 +132,7 @@ impl<P: Packed, A: Allocator + Copy> LocalState<P, A> {
         if on.found < made.count {
             return Next::Goes(Phase::ReadingOn { on, made });
         }
-        self.reached(words, pass, asked, on.reach, made, prepared)
+        self.reached(words, pass, asked, on.reach, made, whole, prepared)
     }
 
     // What comes next where the decision's whole failed group is known: so many failures that were seen reach as far as it.
@@ -128,6 +143,7 @@ impl<P: Packed, A: Allocator + Copy> LocalState<P, A> {
         asked: &Call<P>,
         reach: usize,
         made: Made,
+        whole: bool,
         prepared: &mut NewComm<A>,
     ) -> Next<P>
         requires of { IsView P.meld (view_of P.pack (W.name words.now) (W.sight pass.now)) }
@@ -163,8 +179,10 @@ impl<P: Packed, A: Allocator + Copy> LocalState<P, A> {
             parent: comm,
             round: made.round,
         };
+        let append = Append::new(item, Caller::Rank(number));
+        let index = first_place(comm, words.limits(), whole);
         Next::Goes(Phase::Spawning {
-            append: Append::new(item, Caller::Rank(number)),
+            append: Append { index, ..append },
             context: lowest_id(made.mask),
             reach,
         })

@@ -17,10 +17,10 @@ use crate::world::World;
 use std::alloc::Allocator;
 use std::mem;
 use ulfm_laws::meld::Packed;
-use ulfm_model::call::{Call, comm_of};
+use ulfm_model::call::Call;
 use ulfm_model::refusal::Refusal;
 use ulfm_model::reply::Reply;
-use ulfm_words::{Words, load_revocation};
+use ulfm_words::Words;
 
 impl<P: Packed, A: Allocator + Copy> LocalState<P, A> {
     // What a call does first.
@@ -79,9 +79,7 @@ impl<P: Packed, A: Allocator + Copy> LocalState<P, A> {
             }
             Phase::Arriving { round } => Next::Ends(self.go_arriving(words, pass, asked, round)),
             Phase::Revoking => Next::Ends(self.go_revoking(words, pass, asked)),
-            Phase::Asking => Next::Ends(Reply::Standing {
-                revoked: load_revocation(words, pass, comm_of(asked)),
-            }),
+            Phase::Asking => Next::Ends(self.go_asking(words, pass, asked)),
             Phase::Peeking { peek, shrinks } => {
                 self.go_peeking(words, pass, asked, peek, shrinks, whole, prepared)
             }

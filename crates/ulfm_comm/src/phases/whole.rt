@@ -4,7 +4,7 @@ ghost use Rattle.std.specs.Prelude.{ℕ, ◌≡◌, ◌<◌, false, length};
 ghost use Rattle.ulfm_model.specs.declared.call.Call.TheVariants.{Poll as PollAsked};
 ghost use Rattle.ulfm_words.specs.Steps.{view_of, IsView};
 ghost use Rattle.ulfm_comm.specs.{Look.{Passes}, Phase.{StillStands, is_looking, under_way}, Step.{HasJustLooked, RunsBehind, RunsOn, RunsThrough}};
-ghost use Rattle.ulfm_comm.specs.declared.phases.phase.Phase.TheVariants.{Asking as AtAsking, Begun as AtBegun, Looking as AtLooking, Peeking as AtPeeking, Spreading as AtSpreading};
+ghost use Rattle.ulfm_comm.specs.declared.phases.phase.Phase.TheVariants.{Begun as AtBegun, Looking as AtLooking, Peeking as AtPeeking, Spreading as AtSpreading};
 ghost use Rattle.ulfm_comm.specs.{Local.{local}, Prepared.{unprepared}};
 
 use crate::phases::look::agreement;
@@ -90,6 +90,7 @@ impl<P: Packed, A: Allocator + Copy> LocalState<P, A> {
                 self.run_spreading(words, pass, asked, request, Offer::Flag(value))
             }
             Call::Poll { .. } => self.run_ready(words, pass, asked),
+            Call::IsRevoked { .. } => self.go_asking(words, pass, asked),
             _ => self.run_passed(words, pass, asked),
         }
     }
@@ -136,28 +137,6 @@ impl<P: Packed, A: Allocator + Copy> LocalState<P, A> {
         }
     }
 
-    // The load of the communicator's word of revocation, by which a call asks for it alone.
-    #[inline(always)]
-    fn run_asking<W: Words<P, A>>(
-        &mut self,
-        words: &W,
-        pass: &mut W::Pass,
-        asked: &Call<P>,
-    ) -> Reply<P>
-        requires of { IsView P.meld (view_of P.pack (W.name words.now) (W.sight pass.old)) }
-        requires stands { StillStands P.meld (under_way asked.now AtAsking unprepared)
-            (local self.old (view_of P.pack (W.name words.now) (W.sight pass.old))) }
-        ensures { RunsOn P.meld W.alone (under_way asked.now AtAsking unprepared)
-            (local self.old (view_of P.pack (W.name words.now) (W.sight pass.old))) result
-            (local self.new (view_of P.pack (W.name words.now) (W.sight pass.new))) }
-    {
-        let mut prepared = NewComm::new(self.allocator());
-        match self.go(words, pass, asked, Phase::Asking, &mut prepared, true) {
-            Next::Goes(more) => self.run_on(words, pass, asked, more, prepared),
-            Next::Ends(reply) => reply,
-        }
-    }
-
     // The two exchanges of an agree or of a shrink.
     #[inline(always)]
     fn run_spreading<W: Words<P, A>>(
@@ -200,7 +179,6 @@ impl<P: Packed, A: Allocator + Copy> LocalState<P, A> {
             Phase::Settling { request, offer } => {
                 self.go_settling(words, pass, asked, request, offer)
             }
-            Phase::Asking => self.run_asking(words, pass, asked),
             _ => {
                 let prepared = NewComm::new(self.allocator());
                 self.run_on(words, pass, asked, phase, prepared)

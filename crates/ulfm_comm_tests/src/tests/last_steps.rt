@@ -175,6 +175,42 @@ fn waiting_polls_of_two_blocks_are_counted(rt: HostRuntime) -> Result<(), Fail> 
     whole(&rt, rt.alloc(), 3, &moves)
 }
 
+// Shrinks by the only rank of a world in which five communicators may be, one after the other: the parent, and how many steps the poll makes,
+// whole and step by step. Six are those of the look and of the round; behind them the list of communicators is read, a whole poll from behind
+// the parent's place, and an exchange puts the new one there. The last finds the list full.
+const SHRINKS: [(u16, u32, u32); 5] = [(0, 8, 8), (1, 8, 9), (2, 8, 10), (0, 11, 11), (4, 7, 10)];
+
+const FIVE_COMMS: Limits = Limits {
+    ranks: 1,
+    comms: 5,
+    rounds: 4,
+};
+
+#[test]
+fn whole_shrinks_read_behind_their_parents(rt: HostRuntime) -> Result<(), Fail> {
+    let mut job = Job::open(rt.alloc(), PlainWords::<FlagAnd>::open(FIVE_COMMS)?)?;
+    let mut group = Vec::new(rt.alloc());
+    for (parent, steps, _) in SHRINKS {
+        apply(&mut job, &call_of(0, parent, Verb::Shrink), &mut group)?;
+        apply(&mut job, &call_of(0, parent, Verb::Poll), &mut group)?;
+        assert!(rt; job.rank(0).map(|own| own.last_steps()) == Some(steps));
+    }
+    Ok(())
+}
+
+#[test]
+fn single_steps_of_shrinks_read_from_the_first_place(rt: HostRuntime) -> Result<(), Fail> {
+    let mut play = Play::open(rt.alloc(), PlainWords::<FlagAnd>::open(FIVE_COMMS)?)?;
+    for (parent, _, steps) in SHRINKS {
+        assert!(rt; play.begin(0, parent, Verb::Shrink));
+        while play.step(0).is_none() {}
+        assert!(rt; play.begin(0, parent, Verb::Poll));
+        while play.step(0).is_none() {}
+        assert!(rt; play.last_steps(0) == Some(steps));
+    }
+    Ok(())
+}
+
 #[test]
 fn others_steps_are_not_counted(rt: HostRuntime) -> Result<(), Fail> {
     let mut play = Play::open(rt.alloc(), PlainWords::<FlagAnd>::open(limits(3))?)?;

@@ -8,10 +8,10 @@ use ulfm_comm::Rank;
 use ulfm_laws::flag_and::FlagAnd;
 use ulfm_record::held::HeldComm;
 
-/// A rank has 80 bytes of its own. Room for a communicator takes 48: for four 192, and for 64 3,072. Its two lists have 2 bytes for each rank.
+/// A rank has 80 bytes of its own. Room for a communicator takes 56: for four 224, and for 64 3,584. Its list of failures has 2 bytes for each rank.
 #[test]
 fn bytes_of_a_rank(rt: HostRuntime) -> Result<(), Fail> {
     assert_eq!(rt; size_of::<Rank<FlagAnd, Global>>(), 80);
-    assert_eq!(rt; size_of::<HeldComm<Global>>(), 48);
+    assert_eq!(rt; size_of::<HeldComm<Global>>(), 56);
     Ok(())
 }

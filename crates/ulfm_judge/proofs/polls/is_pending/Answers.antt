@@ -16,7 +16,7 @@ returns-then-is_late g c =
     let x = c.args.x.now in
     let last = c.hint_of-open.result.1 in
     let seen = seen_at c.args.view.now.numbers.now c.args.view.now.point in
-    let group : c.deref.result.now ≡ x.group = c.deref.ensures.value ∙ ap (λ (y : Held). y.group) c.x.view_is in
+    let group : c.deref-group.result.now ≡ x.group = c.deref-group.ensures.value ∙ ap (λ (y : Held). y.group) c.x.view_is in
     let there : has x.group last ≡ true = sym (ap (λ (ms : List ℕ). has ms last) group) ∙ (sym c.has_member.ensures ∙ c.if-has_member.true) in
     let is : late_test c.args.view.now.look.now seen x.comm c.args.round last ≡ true =
     sym (ap (λ (y : Held). late_test c.args.view.now.look.now seen y.comm c.args.round last) c.x.view_is) ∙ (sym c.is_late.ensures ∙ c.if-is_late.true) in

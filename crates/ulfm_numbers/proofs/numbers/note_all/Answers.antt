@@ -3,7 +3,7 @@ use Rattle.std.proofs.lemmas.Bool.{eqb-true}
 use Rattle.std.specs.{HashMap.{get}}
 use Rattle.ulfm_model.specs.{History.{same_place, says}}
 use Rattle.ulfm_model.specs.declared.event.Entry.{Entry}
-use Rattle.ulfm_numbers.specs.{Failed.{AreFailed, members_of}, Grids.{cell_at}}
+use Rattle.ulfm_numbers.specs.{Cells.{number_at}, Failed.{AreFailed, members_of}}
 use Rattle.ulfm_numbers.proofs.{Lasting.{no_value, ok_anyway, written}, Tabling.{noted, place_is}}
 use Rattle.ulfm_numbers.proofs.numbers.note_all.Goals as goal
 
@@ -123,7 +123,7 @@ returns g c =
       slots = λ h tells count. ok_anyway noted_last (c.in_ok-note_slot.ensures.told h tells count);
       arrivals = λ h tells count.
           let kept = c.in_ok-note_arrival.ensures in
-          ok_anyway noted_last (noted same_place place_is arrives h entry (cell_at c.args.arrivals.now) (cell_at c.note_arrival.new.arrivals) number c.arrival_by.result c.arrival_by.ensures kept tells count);
+          ok_anyway noted_last (noted same_place place_is arrives h entry (number_at c.args.arrivals.now) (number_at c.note_arrival.new.arrivals) number c.arrival_by.result c.arrival_by.ensures kept tells count);
       revocations = λ h tells count.
           let kept = c.in_ok-note_first.ensures in
           ok_anyway noted_last (noted nat_eq eqb-true revokes h entry (get nat_eq c.args.revocations.now) (get nat_eq c.note_first.new.table) number c.revoked_by.result c.revoked_by.ensures kept tells count);

@@ -16,4 +16,4 @@ loop-number-preserved g c =
     let rows = c.loop-number.records.items in
     let n = c.loop-number.number in
     simp unary_clauses
-    (one_more (record_of limits) (new_record limits) rows c.push.new.self.items c.in_ok-record.record (first_ranks n) n c.in_ok-push.ensures.items c.loop-number.invariant c.in_ok-record.ensures)
+    (one_more (record_of limits) (new_record limits) rows c.push.new.self.items c.in_ok-record.record (first_ranks n) n c.in_ok-push.ensures.items c.loop-number.invariant (c.in_ok-record.ensures limits (c.in_ok-ranks.ensures ∙ c.in_ok-first_ranks.ensures)))

@@ -4,4 +4,4 @@ use Rattle.ulfm_record.specs.Kept.{record_of}
 use Rattle.ulfm_record.proofs.fresh.new_records.Given as goal
 
 abbrev pub invariant-loop-number : goal.invariant-loop-number
-invariant-loop-number g l = map (record_of l.limits) l.records.items ≡ map (new_record l.limits) (first_ranks l.number)
+invariant-loop-number g l = map (record_of l.fn.limits) l.records.items ≡ map (new_record l.fn.limits) (first_ranks l.number)

@@ -3,15 +3,26 @@ use Rattle.ulfm_model.specs.Records.{Held}
 use Rattle.ulfm_model.specs.Terms.{new_held}
 use Rattle.ulfm_record.proofs.Places.{is_of, kept_all, kept_removed}
 use Rattle.ulfm_record.proofs.held.release.Goals as goal
+use Rattle.ulfm_record.proofs.held.release.Goals.{After-remove}
 
-pub loop-i-preserved : goal.loop-i-preserved
-loop-i-preserved g c =
+-- the others stay where one of the number goes
+others : (g : _) (c : After-remove g) → filter (λ (x : Held). not (is_of c.args.comm x)) c.remove.new.self.items ≡ filter (λ (x : Held). not (is_of c.args.comm x)) c.args.held.now.items
+others g c =
     let items = c.loop-i.held.items in
     let at : position (is_of c.args.comm) items ≡ Some c.in-Some.i = ap (position (is_of c.args.comm)) (sym c.deref.ensures.value) ∙ (sym c.place_of.ensures ∙ c.in-Some.is) in
-    record {
-      others = ap (filter (λ (x : Held). not (is_of c.args.comm x))) c.remove.ensures.items ∙ (kept_removed c.args.comm items c.in-Some.i (new_held 0 0 []) at ∙ c.loop-i.invariant.others);
-      room = c.remove.ensures.capacity ∙ c.loop-i.invariant.room;
-    }
+    ap (filter (λ (x : Held). not (is_of c.args.comm x))) c.remove.ensures.items ∙ (kept_removed c.args.comm items c.in-Some.i (new_held 0 0 []) at ∙ c.loop-i.invariant.others)
+
+pub loop-i-preserved : goal.loop-i-preserved
+loop-i-preserved g c = record {
+  others = others g (goal.at.loop-i-preserved g c).After-remove;
+  room = c.remove.ensures.capacity ∙ c.loop-i.invariant.room;
+}
+
+pub loop-i-preserved-in-Some : goal.loop-i-preserved-in-Some
+loop-i-preserved-in-Some g c = record {
+  others = others g (goal.at.loop-i-preserved-in-Some g c).After-remove;
+  room = c.remove.ensures.capacity ∙ c.loop-i.invariant.room;
+}
 
 pub returns-clause-items : goal.returns-clause-items
 returns-clause-items g c =

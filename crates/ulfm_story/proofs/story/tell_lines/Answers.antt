@@ -1,6 +1,6 @@
 use Rattle.std.proofs.Common.{◌≡◌, ℕ, ◌<◌, ◌+◌, ◌-◌, min, ◌∷◌, ◌++◌, [], List, arith, length, length-append, ap, sym, subst, refl, inl, inr, Some, None, ◌∙◌}
 use Rattle.ulfm_lines.specs.Telling.{TextTells}
-use Rattle.ulfm_story.proofs.Stories.{no_split, rows_push, same_line}
+use Rattle.ulfm_story.proofs.Stories.{no_split, rows_push, same_line, stops}
 use Rattle.ulfm_story.specs.Tellings.{AreRowsOf, IsRowOf}
 use Rattle.ulfm_script.specs.Buffers.{HasNoNewline}
 use Rattle.ulfm_story.proofs.story.tell_lines.Goals as goal
@@ -30,36 +30,19 @@ lines-preserved g c = λ limits first.
 
 pub returns-in_default : goal.returns-in_default
 returns-in_default g c = λ limits first.
-    let so = c.lines.invariant limits first in
-    record {
-      rows = so.0;
-      left = c.lines.left.now;
-      is_told = so.1;
-      are_rows = so.2;
-      ends = inr (λ line behind ranks told free splits tells. no_split line behind (subst HasNoNewline splits c.in_default.ensures));
-    }
+    stops limits c.args.text.now c.lines.left.now _ _ _ (c.lines.invariant limits first)
+    (inr (λ line behind ranks told free splits tells. no_split line behind (subst HasNoNewline splits c.in_default.ensures)))
 
 pub returns-in_default-2 : goal.returns-in_default-2
 returns-in_default-2 g c = λ limits first.
-    let so = c.lines.invariant limits first in
-    record {
-      rows = so.0;
-      left = c.lines.left.now;
-      is_told = so.1;
-      are_rows = so.2;
-      ends = inr (λ line behind ranks told free splits tells.
-          let same = same_line line c.in-Some.line.now behind c.in-Some.behind.now free c.in-Some.ensures.0 (sym splits ∙ c.in-Some.ensures.1) in
-          let read = c.in_ok-told.ensures.only told ranks (subst (λ (xs : List ℕ). TextTells xs ranks told) same tells) in
-          absurd (cc (read.0, c.in_default-2.is)));
-    }
+    stops limits c.args.text.now c.lines.left.now _ _ _ (c.lines.invariant limits first)
+    (inr (λ line behind ranks told free splits tells.
+    let same = same_line line c.in-Some.line.now behind c.in-Some.behind.now free c.in-Some.ensures.0 (sym splits ∙ c.in-Some.ensures.1) in
+    let read = c.in_ok-told.ensures.only told ranks (subst (λ (xs : List ℕ). TextTells xs ranks told) same tells) in
+    absurd (cc (read.0, c.in_default-2.is))))
 
 pub returns : goal.returns
 returns g c = λ limits first.
     let so = c.lines.invariant limits first in
-    record {
-      rows = so.0;
-      left = c.lines.left.now;
-      is_told = so.1;
-      are_rows = so.2;
-      ends = inl (omega (arith, so.3, c.lines-test.false, c.min.ensures, c.saturating_sub-most.ensures, c.lines.auto.number-end));
-    }
+    stops limits c.args.text.now c.lines.left.now _ _ _ so
+    (inl (omega (arith, so.3, c.lines-test.false, c.min.ensures, c.saturating_sub-most.ensures, c.lines.auto.number-end)))

@@ -114,46 +114,10 @@ returns-in-Revoking g c =
       wins = λ not. c.go_revoking.ensures.wins;
     })
 
--- a call that asks whether its communicator is revoked loads it
-pub load_revocation-requires-clause-within : goal.load_revocation-requires-clause-within
-load_revocation-requires-clause-within g c =
-    let stands = subst (λ phase. StillStands g.P.Meld.meld (under_way c.args.asked.now phase c.args.prepared.now) (local c.args.self.now (view_of g.P.Packed.pack (g.W.Words.name c.args.words.now) (g.W.Words.sight c.args.pass.now)))) c.in-Asking.is c.requires.stands in
-    rw c.comm_of.ensures (asked_below _ _ _ _ _ _ _ _ stands.2.at.0 c.requires.of.legal c.requires.of.may_open)
-
 pub returns-in-Asking : goal.returns-in-Asking
 returns-in-Asking g c =
     rw c.in-Asking.is (record {
-      turn = record {
-        walks = walks_none g.P.Meld.meld g.W.Words.alone (over g.P.Packed.pack (g.W.Words.name c.args.words.now)) c.args.self.now.number (g.W.Words.sight c.args.pass.now)
-            (g.W.Words.sight c.load_revocation.new.pass)
-            c.load_revocation.ensures.loads.of c.load_revocation.ensures.loads.steps c.load_revocation.ensures.loads.cached c.load_revocation.ensures.loads.did;
-        beside = turn_same _ _ _ _ _ (λ w. w) (did_prefix g.W.Words.alone _ _ _ c.load_revocation.ensures.loads.did) c.load_revocation.ensures.loads.caches;
-        named = search rules;
-        nearer = λ not. tt;
-        spends = omega (arith, c.load_revocation.ensures.loads.steps);
-        also = λ all.
-            also_ends 1 (g.W.Words.name c.args.words.now).limits c.args.asked.now c.args.self.now c.args.self.now (g.W.Words.sight c.args.pass.now)
-            (g.W.Words.sight c.load_revocation.new.pass) _ (omega (arith, c.load_revocation.ensures.loads.steps)) refl;
-        further = λ all. tt;
-        adds = λ not. c.load_revocation.ensures.loads.did;
-        sees = refl;
-        looks = λ at. absurd (cc at);
-        knows = λ known of. absurd (cc of);
-        leads = tt;
-        turns = λ alone only old before stands.
-            let name = over g.P.Packed.pack (g.W.Words.name c.args.words.now) in
-            let own = c.args.self.now in
-            let now = g.W.Words.sight c.args.pass.now in
-            let after = g.W.Words.sight c.load_revocation.new.pass in
-            let found = c.load_revocation.result in
-            let is = c.load_revocation.ensures.revoked ∙ ap (is_revoked after.seen) c.comm_of.ensures in
-            subst (λ asked. HasLooked (frame g.P.Meld.meld name.limits alone) asked (moment old before.seen) (moment own now.seen)
-            → Answered g.P.Meld.meld alone asked (local old (view_at name before)) (Standing found) (local own (view_at name after))) (sym stands.at.1)
-            (λ p. asked_answered g.P.Meld.meld alone g.W.Words.alone only name (comm_of c.args.asked.now) old before own now after
-            (omega (arith, stands.onward, c.load_revocation.ensures.loads.steps)) stands.fits c.load_revocation.ensures.loads.of p found
-            c.load_revocation.ensures.loads.did is)
-            stands.at.0;
-      };
+      turn = c.go_asking.ensures c.args.prepared.now c.args.whole;
       over = λ at. absurd (cc at);
       checks = tt;
       early = tt;
@@ -270,6 +234,13 @@ go_revoking-requires-clause-stands g c = (
   c.args.prepared.now,
   still g.P.Meld.meld (over g.P.Packed.pack (g.W.Words.name c.args.words.now)) c.args.asked.now
       c.args.prepared.now c.args.self.now (g.W.Words.sight c.args.pass.now) c.args.phase _ c.in-Revoking.is c.requires.stands,
+)
+
+pub go_asking-requires-clause-stands : goal.go_asking-requires-clause-stands
+go_asking-requires-clause-stands g c = (
+  c.args.prepared.now,
+  still g.P.Meld.meld (over g.P.Packed.pack (g.W.Words.name c.args.words.now)) c.args.asked.now
+      c.args.prepared.now c.args.self.now (g.W.Words.sight c.args.pass.now) c.args.phase _ c.in-Asking.is c.requires.stands,
 )
 
 pub go_peeking-requires-clause-stands : goal.go_peeking-requires-clause-stands

@@ -1,4 +1,5 @@
-use Rattle.std.proofs.Common.{◌≡◌, ◌<◌, false, Some, take, sym, ap, ap₂, ◌∙◌, subst, arith}
+use Rattle.std.proofs.Common.{◌≡◌, ◌<◌, ◌≤◌, ◌-◌, ℕ, Bool, true, false, Some, if◌then◌else◌, min, take, sym, ap, ap₂, ◌∙◌, subst, arith}
+use Rattle.std.proofs.Math.Nat.{min-le_left, min-le_right}
 use Rattle.ulfm_words.specs.Steps.{over}
 use Rattle.std.specs.Prelude.{IfOk, Result, Ok, Err}
 use Rattle.std.specs.Result.{is_err}
@@ -7,16 +8,21 @@ use Rattle.ulfm_model.specs.History.{has, without}
 use Rattle.ulfm_model.specs.Records.{Held, held_at}
 use Rattle.ulfm_model.specs.declared.call.Call.{Call}
 use Rattle.ulfm_model.specs.declared.event.Caller.TheVariants.{Rank as ByRank}
-use Rattle.ulfm_steps.specs.Appends.{room}
+use Rattle.ulfm_steps.specs.Appends.{Passed, room}
 use Rattle.ulfm_steps.specs.declared.append.Append.{Append}
 use Rattle.ulfm_steps.specs.declared.item.Item.{Item}
 use Rattle.ulfm_steps.specs.declared.item.Item.TheVariants.{Comm as OfComm}
 use Rattle.ulfm_model.specs.declared.limits.Limits.{Limits}
 use Rattle.ulfm_model.specs.Terms.{comm_of}
-use Rattle.ulfm_comm.proofs.Spawning.{ends_full, ends_out, ends_self_failed, full_alone, held_is, number_is}
+use Rattle.ulfm_comm.proofs.Spawning.{ends_full, ends_out, ends_self_failed, full_alone, held_is, number_is, passes_parent}
 use Rattle.ulfm_comm.specs.Prepared.{HasPlaces}
 use Rattle.ulfm_comm.proofs.rank.LocalState.reached.Goals as goal
 use Rattle.ulfm_comm.proofs.rank.LocalState.reached.Goals.{After-has_rank, After-is_err}
+
+-- the place from which the list is read: behind no child of the parent, and in the list
+first_place : (whole : Bool) (parent comms n : ℕ) → n ≡ (if whole then min parent (comms - 2) else 0) → (n ≤ parent) × (1 < comms → n < comms - 1)
+first_place true parent comms n is = (omega (arith, is, min-le_left parent (comms - 2)), λ several. omega (arith, is, min-le_right parent (comms - 2), several))
+first_place false parent comms n is = (omega (arith, is), λ several. omega (arith, is, several))
 
 -- whether the rank is among the failures that reach so far
 among : (g : _) (c : After-has_rank g) → c.has_rank.result ≡ has (take c.args.reach c.args.self.now.seen) c.args.self.now.number
@@ -77,9 +83,12 @@ returns-clause-turns g c = λ alone old before r.
     c.args.self.now now.seen r.decided in
     let number = number_is g.P.Meld.meld name.limits alone (comm_of c.args.asked.now) c.args.made.round c.args.made.mask r.x c.args.made.count old before.seen
     c.args.self.now now.seen r.decided in
-    let item : c.new.result.item ≡ OfComm (comm_of c.args.asked.now) c.args.made.round = ap (λ (a : Append). a.item) c.new.ensures
+    let item : c.new-append.result.item ≡ OfComm (comm_of c.args.asked.now) c.args.made.round = ap (λ (a : Append). a.item) c.new-append.ensures
     ∙ ap (λ n. OfComm n c.args.made.round) c.comm_of-comm.ensures in
-    let index : c.new.result.index ≡ 0 = ap (λ (a : Append). a.index) c.new.ensures in
+    let index = c.first_place-index.result in
+    let first = first_place c.args.whole (comm_of c.args.asked.now) name.limits.comms index
+    (c.first_place-index.ensures ∙ ap₂ (λ parent comms. if c.args.whole then min parent (comms - 2) else 0) c.comm_of-comm.ensures
+    (ap (λ (l : Limits). l.comms) c.limits-2.ensures.limits)) in
     let some = c.requires.of.may_open.in_range.some_comms in
     let limits = ap (λ (l : Limits). l.comms) c.limits.ensures.limits in
     let several = c.if-limits-eq1.false in
@@ -101,9 +110,10 @@ returns-clause-turns g c = λ alone old before r.
           stays = sym there ∙ c.if-has_rank.false;
           left = prepared.0 r.x held;
           item = item;
-          mine = ap (λ (a : Append). a.by) c.new.ensures ∙ ap ByRank (c.number-number.ensures ∙ number);
-          passed = λ j lt. absurd (omega (arith, lt, index));
-          more = subst (λ (i : Item). c.new.result.index < room i name.limits) (sym item) (omega (arith, index, some, limits, several));
+          mine = ap (λ (a : Append). a.by) c.new-append.ensures ∙ ap ByRank (c.number-number.ensures ∙ number);
+          passed = subst (λ (i : Item). Passed now.seen i index) (sym item) (passes_parent g.P.Meld.meld name.limits alone (comm_of c.args.asked.now)
+              c.args.made.round c.args.made.mask r.x c.args.made.count old before.seen c.args.self.now now.seen r.decided c.requires.of.legal index first.0);
+          more = subst (λ (i : Item). index < room i name.limits) (sym item) (first.1 (omega (arith, some, limits, several)));
         },
         prepared.1,
       );

@@ -17,6 +17,3 @@ returns-in-Settling g c =
     turn_ends g.P.Meld.meld g.W.Words.alone true name asked c.args.phase unprepared own start c.requires.past c.requires.stands unprepared c.go_settling.result new after
     (subst (λ phase. TakesTurn g.P.Meld.meld g.W.Words.alone true (under_way asked phase unprepared) (local own (view_at name start)) (coming (Ends c.go_settling.result) unprepared) (local new (view_at name after)))
     (sym c.in-Settling.is) (c.go_settling.ensures.turn unprepared true))
-
-pub returns-in-Asking : goal.returns-in-Asking
-returns-in-Asking g c = rw c.in-Asking.is c.run_asking.ensures

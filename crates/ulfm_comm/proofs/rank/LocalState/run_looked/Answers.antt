@@ -1,13 +1,14 @@
-use Rattle.std.proofs.Common.{Bool, false, ap, arith, refl, sym, ◌∙◌}
+use Rattle.std.proofs.Common.{Bool, false, true, ap, arith, refl, sym, ◌∙◌}
 use Rattle.ulfm_words.specs.Steps.{over, view_of, Sight}
 use Rattle.ulfm_model.specs.{Records.{Held, Record, held_at}}
 use Rattle.ulfm_model.specs.declared.{call.Request.TheVariants.{Agree as OfAgree}, contribution.Offer.TheVariants.{Flag}, refusal.Refusal.TheVariants.{NoSuchComm}, reply.Reply.TheVariants.{Refused}}
 use Rattle.ulfm_comm.specs.{AlsoLeft.{also_behind_look}, Local.{local}, Look.{JustLooked, Passes}, Phase.{Stands, under_way}, StepsLeft.{behind_look}}
 use Rattle.ulfm_comm.specs.declared.phases.phase.Next.TheVariants.{Ends, Goes}
-use Rattle.ulfm_comm.specs.declared.phases.phase.Phase.TheVariants.{Spreading}
-use Rattle.ulfm_comm.proofs.{AlsoLeft.{follows_behind, follows_ends}, Known.{refused_stand}, Look.{just_missing, just_passed, just_refused, starts_agree}, StepsLeft.{behind_left}}
+use Rattle.ulfm_comm.specs.declared.phases.phase.Phase.TheVariants.{Asking, Spreading}
+use Rattle.ulfm_comm.proofs.{AlsoLeft.{follows_behind, follows_ends}, Known.{refused_stand}, Look.{just_missing, just_passed, just_refused, own_question, starts_agree}, StepsLeft.{behind_left}}
+use Rattle.ulfm_comm.proofs.Runs.{turn_ends}
 use Rattle.ulfm_comm.proofs.rank.LocalState.run_looked.Goals as goal
-use Rattle.ulfm_comm.proofs.rank.LocalState.run_looked.Goals.{In-Agree}
+use Rattle.ulfm_comm.proofs.rank.LocalState.run_looked.Goals.{In-Agree, In-IsRevoked}
 use Rattle.ulfm_comm.specs.Prepared.{Prepared, unprepared}
 
 pub returns-in_default : goal.returns-in_default
@@ -87,4 +88,50 @@ returns-in-Agree g c =
       knows = λ cached. tt;
       turns = spreads g at;
       runs = c.run_spreading.ensures;
+    }
+
+-- a question whether the communicator is revoked stands before its load
+asks : (g : _) (c : In-IsRevoked g) (prepared : Prepared) (alone : Bool) (old : Record) (before : Sight g.row.P.Denot)
+    → JustLooked g.P.Meld.meld alone c.args.asked.now (local old (view_of g.P.Packed.pack (g.W.Words.name c.args.words.now) before)) (local c.args.self.now (view_of g.P.Packed.pack (g.W.Words.name c.args.words.now) (g.W.Words.sight c.args.pass.now)))
+    → Stands g.P.Meld.meld alone (local old (view_of g.P.Packed.pack (g.W.Words.name c.args.words.now) before)) (under_way c.args.asked.now Asking prepared) (local c.args.self.now (view_of g.P.Packed.pack (g.W.Words.name c.args.words.now) (g.W.Words.sight c.args.pass.now)))
+asks g c prepared alone old before j = record {
+  fits = j.fits;
+  mine = j.mine;
+  onward = j.onward;
+  at = (
+    just_passed g.P.Meld.meld alone (over g.P.Packed.pack (g.W.Words.name c.args.words.now)) c.args.asked.now old before c.args.self.now
+        (g.W.Words.sight c.args.pass.now) j c.requires.of c.in-Some.x.now (ap (held_at c.args.self.now) (sym c.comm_of.ensures) ∙ c.in-Some.ensures.held)
+        (sym c.refusal.ensures ∙ c.in_default-refusal.is),
+    own_question c.args.asked.now _ _ old.number j.mine c.in-IsRevoked.is,
+  );
+}
+
+pub go_asking-requires-clause-stands : goal.go_asking-requires-clause-stands
+go_asking-requires-clause-stands g c =
+    let just = c.requires.just in
+    (unprepared, (just.0, just.1, asks g (goal.at.go_asking-requires-clause-stands g c).In-IsRevoked unprepared false just.0 just.1 just.2))
+
+pub returns-in-IsRevoked : goal.returns-in-IsRevoked
+returns-in-IsRevoked g c =
+    let at = (goal.at.returns-in-IsRevoked g c).In-IsRevoked in
+    let name = over g.P.Packed.pack (g.W.Words.name c.args.words.now) in
+    let limits = (g.W.Words.name c.args.words.now).limits in
+    let own = c.args.self.now in
+    let just = c.requires.just in
+    let may : Passes own c.args.asked.now = record {
+      x = c.in-Some.x.now;
+      held = ap (held_at own) (sym c.comm_of.ensures) ∙ c.in-Some.ensures.held;
+      passed = sym c.refusal.ensures ∙ c.in_default-refusal.is;
+    } in
+    record {
+      next = Goes Asking;
+      mid = own;
+      further = omega arith;
+      nearer = behind_left limits own c.args.asked.now _ may (ap (behind_look limits own) c.in-IsRevoked.is);
+      also = follows_behind limits own c.args.asked.now _ _ refl (λ cached. tt) may (ap (also_behind_look limits own) c.in-IsRevoked.is);
+      knows = λ cached. tt;
+      turns = asks g at;
+      runs = turn_ends g.P.Meld.meld g.W.Words.alone true name c.args.asked.now Asking unprepared own (g.W.Words.sight c.args.pass.now) refl
+          (just.0, just.1, asks g at unprepared false just.0 just.1 just.2) unprepared c.go_asking.result own (g.W.Words.sight c.go_asking.new.pass)
+          (c.go_asking.ensures unprepared true);
     }

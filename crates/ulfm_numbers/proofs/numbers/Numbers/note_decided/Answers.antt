@@ -13,3 +13,16 @@ pub invariant_of-self-clause-rounds_by_round : goal.invariant_of-self-clause-rou
 invariant_of-self-clause-rounds_by_round g c =
     let old = c.args.self.now in
     by_round_put old.rounds c.insert.new.self c.args.comm c.args.round c.in-Some.done c.insert.result old.rounds_by_round c.insert.ensures.updates c.insert.ensures.err
+
+pub returns : goal.returns
+returns g c = λ ranks h tells.
+    c.forget_earlier.ensures ranks h (record {
+      slots = tells.slots;
+      arrivals = tells.arrivals;
+      revocations = tells.revocations;
+      declared = tells.declared;
+      failures = tells.failures;
+      spawns = tells.spawns;
+      groups = tells.groups;
+      count = tells.count;
+    })
