@@ -29,6 +29,7 @@ use ulfm_model::limits::Limits;
 use ulfm_model::refusal::Refusal;
 use ulfm_record::held::{self, HeldComm, place_of, refusal_on, take_in};
 use ulfm_record::ids::free_ids;
+use ulfm_record::members::Members;
 use ulfm_steps::group::{has_rank, make_room, put_in, without};
 use ulfm_steps::{Append, Look, ReadOn};
 use ulfm_words::Words;
@@ -79,7 +80,7 @@ impl<P: Packed, A: Allocator + Copy> LocalState<P, A> {
         let group = ranks.clone()?;
         let seen = Vec::with_capacity(alloc, limits.ranks as usize)?;
         let mut held = Vec::with_capacity(alloc, FEW)?;
-        held.push(HeldComm::of_world(group))?;
+        held.push(HeldComm::with_members(0, 0, Members::Shared(group)))?;
         Ok(LocalState {
             number,
             limits,

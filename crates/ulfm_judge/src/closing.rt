@@ -10,7 +10,7 @@ ghost use Rattle.ulfm_model.specs.Records.{Held, Record, held_at, new_held};
 ghost use Rattle.ulfm_model.specs.Words.{MayOpen};
 ghost use Rattle.ulfm_model.specs.declared.event.Caller.{Caller};
 ghost use Rattle.ulfm_model.specs.declared.reply.Reply.{Reply};
-ghost use Rattle.ulfm_record.specs.Kept.{FitsNext, record_of};
+ghost use Rattle.ulfm_record.specs.{Kept.{FitsNext, record_of}, Members.{members_of}};
 ghost use Rattle.ulfm_model.specs.Traces.{Takes, Under, caller_of, record_in, records_after, same_caller};
 ghost use Rattle.ulfm_model.specs.declared.line.Line.{Line};
 
@@ -30,6 +30,7 @@ use ulfm_model::reply::Reply;
 use ulfm_numbers::numbers::Numbers;
 use ulfm_record::held::{HeldComm, take_in};
 use ulfm_record::leaves::settle;
+use ulfm_record::members::Members;
 use ulfm_record::record::RankRecord;
 
 /// Whether a rank's call is answered so, at a point.
@@ -140,13 +141,6 @@ fn seen_after<A: Allocator + Copy + Drop>(
     Ok(seen)
 }
 
-/// A list of ranks as a vector.
-fn copied<A: Allocator + Copy + Drop>(alloc: A, ranks: &[u16]) -> Result<Vec<u16, A>, AllocError>
-    ensures { IfOk result (λ made. made.items ≡ ranks.now) }
-{
-    ranks.iter().copied().collect(alloc)
-}
-
 /// Takes the communicator that a shrink made into a record, in place of the request, with the failures that the rank has seen then.
 fn hold_made<P: Copy, A: Allocator + Copy + Drop>(
     limits: Limits,
@@ -155,13 +149,13 @@ fn hold_made<P: Copy, A: Allocator + Copy + Drop>(
     asked: &Call<P>,
     comm: u16,
     context: u8,
-    group: Vec<u16, A>,
+    group: Members<A>,
 ) -> Result<(), AllocError>
     ensures number { own.new.number ≡ own.old.number }
     ensures left { let now : Record = record (record_of limits own.old) { seen = seen.items } in let rest = closed now (comm_of asked.now) in
-        OnOk result (record_of limits own.new ≡ record rest { held = rest.held ++ new_held comm context group.items ∷ [] }) }
+        OnOk result (record_of limits own.new ≡ record rest { held = rest.held ++ new_held comm context (members_of group) ∷ [] }) }
 {
-    let made = HeldComm::new(comm, context, group);
+    let made = HeldComm::with_members(comm, context, group);
     own.held.reserve(1)?;
     take_in(&mut own.held, comm_of(asked), made);
     own.seen = seen;
@@ -186,7 +180,7 @@ fn leave<P: Meld, A: Allocator + Copy + Drop>(
 {
     match reply {
         Reply::Shrunk { comm, context, .. } => {
-            let group = copied(alloc, numbers.members_at(comm, point))?;
+            let group = numbers.shared_members_at(alloc, comm, point)?;
             hold_made(limits, own, seen, asked, comm, context, group)
         }
         _ => {

@@ -5,13 +5,14 @@ ghost use Rattle.ulfm_numbers.specs.Groups.{same_ranks};
 ghost use Rattle.ulfm_model.specs.History.{has};
 
 use std::alloc::{AllocError, Allocator};
+use std::sync::ArcSlice;
 use ulfm_record::reads::has_rank;
 
 /// The group of a communicator.
 #[derive(Drop)]
 pub struct Group<A: Allocator> {
-    /// The members, in order.
-    pub members: Vec<u16, A>,
+    /// The members, in order, in a list that the ranks who hold the communicator share.
+    pub members: ArcSlice<u16, A>,
     /// The declared failures among them, in the order of the declarations.
     pub failed: Vec<u16, A>,
     /// Of each of these, how many failures of all were declared before it.
@@ -51,10 +52,10 @@ fn declare<A: Allocator + Copy>(
     rank: u16,
     before: u64,
 ) -> Result<(), AllocError>
-    ensures members { group.new.members.items ≡ group.old.members.items }
+    ensures members { members_of group.new ≡ members_of group.old }
     ensures failed { (failures : List ℕ) → before ≡ length failures → IsFailed failures group.old → OnOk result (IsFailed (failures ++ rank ∷ []) group.new) }
 {
-    if has_member(&group.members, rank) {
+    if has_member(group.members.as_slice(), rank) {
         group.failed.push(rank)?;
         group.places.push(before)?;
     }
@@ -82,11 +83,11 @@ pub(crate) fn group_of<A: Allocator + Copy + Drop>(
     members: Vec<u16, A>,
     failures: &[u16],
 ) -> Result<Group<A>, AllocError>
-    ensures members { IfOk result (λ group. group.members.items ≡ members.items) }
+    ensures members { IfOk result (λ group. members_of group ≡ members.items) }
     ensures failed { IfOk result (IsFailed failures.now) }
 {
     let mut group = Group {
-        members,
+        members: ArcSlice::from_vec(members)?,
         failed: Vec::new(alloc),
         places: Vec::new(alloc),
     };

@@ -4,7 +4,7 @@
 ghost use Rattle.std.specs.Prelude.{◌≡◌, ◌+◌, ◌++◌, ◌<◌, ◌%◌, ◌∷◌, [], ℕ, IfOk, IfSome, OnOk, Some, filter, filter_map, if◌then◌else◌, is_some, length, map, min, take, true};
 ghost use Rattle.std.specs.HashMap.{get};
 ghost use Rattle.std.specs.List.{cons_option, list_all};
-ghost use Rattle.ulfm_record.specs.Walked.{decision_of};
+ghost use Rattle.ulfm_record.specs.{Members.{members_of as held_members}, Walked.{decision_of}};
 ghost use Rattle.std.specs.Option.{option_map};
 ghost use Rattle.ulfm_numbers.specs.Failed.{AreFailed, members_of};
 ghost use Rattle.ulfm_numbers.specs.Numbers.{TellsArrivals, TellsDeclared, TellsFailures, TellsRevocations, TellsSlots, TellsSpawns};
@@ -29,6 +29,7 @@ use ulfm_model::contribution::Slot;
 use ulfm_model::event::{Entry, Event};
 use ulfm_record::decide::{Decided, decided_by};
 use ulfm_record::groups::{first_ranks, union_of, without};
+use ulfm_record::members::Members;
 
 /// A place in a round: a communicator, a round and a rank.
 pub type RoundKey = (u16, u16, u16);
@@ -374,7 +375,7 @@ fn group_at<A: Allocator>(groups: &[Group<A>], number: u16) -> &[u16]
     ensures { result.now ≡ group_at (map members_of groups.now) number }
 {
     match groups.get(usize::from(number)) {
-        Some(group) => &group.members,
+        Some(group) => group.members.as_slice(),
         None => &[],
     }
 }
@@ -693,6 +694,24 @@ impl<P: Meld, A: Allocator + Copy + Drop> Numbers<P, A> {
             group_at(&self.groups, comm)
         } else {
             &[]
+        }
+    }
+
+    /// The members of a communicator at a point, in the list that is kept of them and without a copy, or nobody where it wasn't made.
+    pub fn shared_members_at(
+        &self,
+        alloc: A,
+        comm: u16,
+        point: u64,
+    ) -> Result<Members<A>, AllocError>
+        ensures { IfOk result (λ ranks. held_members ranks ≡ (seen_at self.now point).members comm) }
+    {
+        if self.count_made_at(point) < usize::from(comm) {
+            return Ok(Members::Own(Vec::new(alloc)));
+        }
+        match self.groups.get(usize::from(comm)) {
+            Some(group) => Ok(Members::Shared(group.members.clone()?)),
+            None => Ok(Members::Own(Vec::new(alloc))),
         }
     }
 

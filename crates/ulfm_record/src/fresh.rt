@@ -8,6 +8,7 @@ ghost use Rattle.ulfm_record.specs.Kept.{record_of};
 
 use crate::groups::first_ranks;
 use crate::held::HeldComm;
+use crate::members::Members;
 use crate::record::RankRecord;
 use std::alloc::{AllocError, Allocator};
 use std::sync::ArcSlice;
@@ -23,7 +24,8 @@ fn record_among<A: Allocator + Copy + Drop>(
         → record_of limits own ≡ new_record limits number) }
 {
     let mut held = Vec::new(alloc);
-    held.push(HeldComm::of_world(ranks.clone()?))?;
+    let members = Members::Shared(ranks.clone()?);
+    held.push(HeldComm::with_members(0, 0, members))?;
     let seen = Vec::new(alloc);
     Ok(RankRecord {
         number,

@@ -4,7 +4,6 @@ ghost use Rattle.std.specs.List.{list_any};
 ghost use Rattle.ulfm_model.specs.Records.{change_at, is_shrink};
 ghost use Rattle.ulfm_model.specs.Answers.{first_refusal, opened, refusal_of as refusal_by};
 ghost use Rattle.ulfm_model.specs.Terms.{new_held, tests_of};
-ghost use Rattle.std.specs.Arc.{arc_slice_items};
 ghost use Rattle.ulfm_record.specs.Members.{members_of};
 ghost use Rattle.ulfm_record.specs.Kept.{FitsNext, HasNext, record_of, tested};
 
@@ -12,7 +11,6 @@ use crate::members::Members;
 use crate::record::RankRecord;
 use std::alloc::Allocator;
 use std::marker::Model;
-use std::sync::ArcSlice;
 use ulfm_model::call::{Call, Request, comm_of};
 use ulfm_model::limits::Limits;
 use ulfm_model::refusal::Refusal;
@@ -54,22 +52,16 @@ impl<A: Allocator> Model for HeldComm<A> {
 }
 
 impl<A: Allocator> HeldComm<A> {
-    /// The world's communicator, of these ranks, as a rank first holds it: nobody is acknowledged, no round is used up, and no request is open.
-    pub fn of_world(ranks: ArcSlice<u16, A>) -> HeldComm<A>
-        ensures { result ≡ new_held 0 0 (arc_slice_items ranks) }
-    {
-        HeldComm::unused(0, 0, Members::Shared(ranks))
-    }
-
-    /// A communicator that a shrink made, as a rank first holds it.
+    /// A communicator that a shrink made, as a rank first holds it, with a list of the rank's own.
     pub fn new(comm: u16, context: u8, group: Vec<u16, A>) -> HeldComm<A>
         ensures { result ≡ new_held comm context group.items }
     {
-        HeldComm::unused(comm, context, Members::Own(group))
+        HeldComm::with_members(comm, context, Members::Own(group))
     }
 
-    // One of which nothing was used yet.
-    fn unused(comm: u16, context: u8, group: Members<A>) -> HeldComm<A>
+    /// A communicator of these members, as a rank first holds it: nobody is acknowledged, no round is used up, and no request is open.
+    /// The world's own has number 0 and context id 0.
+    pub fn with_members(comm: u16, context: u8, group: Members<A>) -> HeldComm<A>
         ensures { result ≡ new_held comm context (members_of group) }
     {
         HeldComm {

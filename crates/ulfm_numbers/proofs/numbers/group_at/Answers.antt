@@ -7,7 +7,7 @@ pub returns-in-Some : goal.returns-in-Some
 returns-in-Some g c =
     let within = ltb-true _ _ (sym c.in-Some.ensures.lookup.0) in
     let there = group_there c.args.groups.now c.from.result c.in-Some.group.now within c.in-Some.ensures.lookup.1 in
-    c.deref.ensures.value ∙ sym (rw c.from.ensures at there)
+    c.as_slice.ensures.value ∙ sym (rw c.from.ensures at there)
 
 pub returns-in-None : goal.returns-in-None
 returns-in-None g c =

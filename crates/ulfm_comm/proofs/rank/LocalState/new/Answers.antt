@@ -11,5 +11,5 @@ invariant_of-result g c =
       below = c.requires.below;
       others_are = others_none c.args.number c.in_ok-seen.seen.items;
       room = rw (c.in_ok-push.ensures.items, c.in_ok-held.ensures.items) (room_new c.args.limits (vec_capacity c.in_ok-seen.seen)
-          (vec_capacity c.push.new.self) _ c.requires.may_open room few (omega (arith, ap (λ (y : Held). y.context) c.of_world.ensures)));
+          (vec_capacity c.push.new.self) _ c.requires.may_open room few (omega (arith, ap (λ (y : Held). y.context) c.with_members.ensures)));
     }
