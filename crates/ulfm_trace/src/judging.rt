@@ -71,6 +71,7 @@ fn check_through<J: LineJudge<A>, A: Allocator + Copy, R: Read>(
 }
 
 /// Takes a line up to its newline, and keeps one byte more of it than a line may have: in the buffer, or in the vector.
+#[inline(always)]
 fn next_line<A: Allocator, R: Read>(
     input: &mut Input<A>,
     reader: &mut R,
@@ -112,7 +113,9 @@ fn open_judge<J: LineJudge<A>, A: Allocator, R: Read>(
     }
 }
 
-/// Judges the line of this number; where it is none of a trace, nothing is taken.
+/// Judges the line of this number; where it is none of a trace, nothing is taken. It is one function for all readers, so that what it calls at
+/// this one place stands in it.
+#[inline(never)]
 fn judge_line<J: LineJudge<A>, A: Allocator>(
     judge: &mut J,
     number: u32,
