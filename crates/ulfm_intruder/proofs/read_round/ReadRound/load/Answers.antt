@@ -1,6 +1,5 @@
-use Rattle.std.proofs.Common.{◌≡◌, ℕ, ◌+◌, ◌≤◌, true, false, slice_index_or, length, take, ap, ◌∙◌, arith, rules}
+use Rattle.std.proofs.Common.{ℕ, ◌+◌, ◌≤◌, true, false, slice_index_or, take, ap, ◌∙◌, arith, rules}
 use Rattle.ulfm_laws.specs.Summaries.{summary_meld}
-use Rattle.ulfm_model.specs.Laws.{summary_of}
 use Rattle.ulfm_model.proofs.Summed.{summed_later, summed_push}
 use Rattle.ulfm_words.specs.Steps.{view_of, Goes}
 use Rattle.ulfm_words.proofs.Trails.{did_prefix}
