@@ -67,8 +67,8 @@ module _ {P : Type 0} (meld : P → P → P) (pack : P → ℕ) (name : Name) (o
       → LoadsWing meld pack true wing word (view_of pack mid.name mid) (view_of pack mid.name new)
       → LoadsWing meld pack false wing word (view_of pack name (passing old was)) (view_of pack name (passing new is))
   loads_wing_after wing word more e =
-      let none = noted_wing was.log.items is.log.items word wing (noted_since _ _ _ more) in
       let stands = subst (λ n. IsWing meld pack n.limits.ranks new.seen wing word) first.of.name_is e.stands in
+      let none = noted_wing was.log.items is.log.items word wing (noted_since _ _ _ more) in
       record { of = view e.of; did = among e.did; cached = knows e.cached; caches = none; steps = count _ _ _ more; last = ends _ _ _ more; stands = stands }
 
   outcome : (unpack : ℕ → Option P) (s : Step) (result : Result (Unit {0}) ℕ)
