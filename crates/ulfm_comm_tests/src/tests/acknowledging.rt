@@ -78,12 +78,16 @@ fn all_known_are_acknowledged(rt: HostRuntime) -> Result<(), Fail> {
     // So the agree that follows raises no error.
     let value = FlagAnd { bits: 0x3 };
     assert!(rt; first.iagree(0, value) == Ok(()));
-    let agreed = Polled::Agreed {
-        value,
-        failed: 3,
-        raised: false,
-    };
-    assert!(rt; first.poll(0) == Ok(agreed));
+    let polled = first.poll(0)?;
+    let (failed, raised) = (3, false);
+    assert!(rt;
+        polled
+            == Polled::Agreed {
+                value,
+                failed,
+                raised
+            }
+    );
     Ok(())
 }
 

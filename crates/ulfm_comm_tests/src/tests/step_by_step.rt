@@ -40,12 +40,12 @@ fn limits(ranks: u16, comms: u16, rounds: u16) -> Limits {
     }
 }
 
-fn open(alloc: Global, limits: Limits) -> Result<Plain, Fail> {
-    Play::open(alloc, PlainWords::open(limits)?)
-}
-
 fn agree(bits: u64) -> Verb<FlagAnd> {
     Verb::Agree(FlagAnd { bits })
+}
+
+fn open(alloc: Global, limits: Limits) -> Result<Plain, Fail> {
+    Play::open(alloc, PlainWords::open(limits)?)
 }
 
 /// A rank's call, from its beginning to its reply, with nobody in between: it is answered so, by steps of these names.
