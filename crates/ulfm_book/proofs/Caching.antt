@@ -9,7 +9,7 @@ use Rattle.ulfm_words.specs.{Besides.{written}}
 use Rattle.ulfm_words.proofs.Standing.{now_has}
 use Rattle.ulfm_book.specs.declared.{line.Line.{Line}, line.Line.TheVariants.{Kept}}
 use Rattle.ulfm_book.specs.{Logs.{IsLog, cached_in, history_in, limits_in}, Rules.{AddsBlock, AreWords, Extends, IsAddedBlock, IsBlockAdded, IsBlockFound, IsOfBlock, LooksBlock, Represents, number_at}, Layout.{block_offset, row_length, place_offset, wing_offset}}
-use Rattle.ulfm_book.proofs.{Growing.{cached_in-append, log_kept, written_kept}, Listing.{listed_block}, Seating.{block_seat_lt, one_block_seat, seats_apart, wing_block_apart}, Stepping.{exchange, look, moved, set_home, set_long, set_other, set_same, shown}}
+use Rattle.ulfm_book.proofs.{Growing.{cached_in-append, log_kept, written_kept}, Listing.{listed_block}, Seating.{block_seat_lt, one_block_seat, seats_apart, wing_block_apart}, Stepping.{exchange, look, moved, others_stay, set_same, shown, words_set}}
 
 not_true : (t : Bool) → (t ≡ true → ⊥) → t ≡ false
 not_true true never = absurd (never refl)
@@ -29,29 +29,20 @@ module _ {P : Type 0} (meld : P → P → P) (pack : P → ℕ) where
   -- the words after this block's at the end of the log
   module _ (a : Block) (w : ℕ) (cells : List Cell) (log : List (Line P)) (kept : Represents meld pack cells log) (within : IsBlockWithin (limits_in log) a)
       (is : IsBlock meld pack (limits_in log).ranks (history_in log) a w) (spread : number_at cells (wing_offset (limits_in log) (Wing.Block a)) ≢ 0) where
-    abbrev limits : Limits
-    limits = limits_in log
-
-    abbrev key : ℕ
-    key = block_offset limits a
-
     abbrev after : List Cell
-    after = slice_set cells key (w, true)
+    after = slice_set cells (block_offset (limits_in log) a) (w, true)
 
-    others : (k : ℕ) → k ≢ key → number_at after k ≡ number_at cells k
-    others k other = set_other cells (row_length limits) key w kept.words.size (block_seat_lt limits a within) k other
+    others : (k : ℕ) → k ≢ (block_offset (limits_in log) a) → number_at after k ≡ number_at cells k
+    others k other = others_stay meld pack (written (history_in log) (limits_in log) (cached_in log)) cells (block_offset (limits_in log) a) w kept.words (block_seat_lt (limits_in log) a within) k other
 
-    words_after : AreWords meld pack (written (history_in log) limits (cached_in log ++ Beside.Block a ∷ [])) after
-    words_after = record {
-      size = set_long cells (row_length limits) key w kept.words.size (block_seat_lt limits a within);
-      home = set_home cells (row_length limits) key w kept.words.size (block_seat_lt limits a within) kept.words.home;
-      places = λ p there. others (place_offset limits p) (λ same. seats_apart limits p a there (sym same)) ∙ kept.words.places p there;
-      listed =
-          listed_block meld pack limits (history_in log) (cached_in log) (λ b. number_at cells (block_offset limits b)) (λ x. number_at cells (wing_offset limits x)) a w
-          (λ b. number_at after (block_offset limits b)) (λ x. number_at after (wing_offset limits x)) within is spread
-          (set_same cells (row_length limits) key w kept.words.size (block_seat_lt limits a within))
-          (λ b there other. others (block_offset limits b) (λ same. other (one_block_seat limits b a there within same))) (λ x there. others (wing_offset limits x) (wing_block_apart limits x a there)) kept.words.listed;
-    }
+    words_after : AreWords meld pack (written (history_in log) (limits_in log) (cached_in log ++ Beside.Block a ∷ [])) after
+    words_after =
+        words_set meld pack (written (history_in log) (limits_in log) (cached_in log)) cells (block_offset (limits_in log) a) w kept.words (block_seat_lt (limits_in log) a within) (history_in log) (cached_in log ++ Beside.Block a ∷ [])
+        (λ p there. others (place_offset (limits_in log) p) (λ same. seats_apart (limits_in log) p a there (sym same)) ∙ kept.words.places p there)
+        (listed_block meld pack (limits_in log) (history_in log) (cached_in log) (λ b. number_at cells (block_offset (limits_in log) b)) (λ x. number_at cells (wing_offset (limits_in log) x)) a w
+        (λ b. number_at after (block_offset (limits_in log) b)) (λ x. number_at after (wing_offset (limits_in log) x)) within is spread
+        (set_same cells (row_length (limits_in log)) (block_offset (limits_in log) a) w kept.words.size (block_seat_lt (limits_in log) a within))
+        (λ b there other. others (block_offset (limits_in log) b) (λ same. other (one_block_seat (limits_in log) b a there within same))) (λ x there. others (wing_offset (limits_in log) x) (wing_block_apart (limits_in log) x a there)) kept.words.listed)
 
     after_block : Represents meld pack after (log ++ Kept (Beside.Block a) ∷ [])
     after_block = record {

@@ -7,3 +7,4 @@ pub mod Moving
 pub mod Caching
 pub mod Spreading
 pub mod Telling
+pub mod Owning

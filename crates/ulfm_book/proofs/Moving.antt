@@ -10,7 +10,7 @@ use Rattle.ulfm_model.proofs.WordRules.{word_kept, word_set}
 use Rattle.ulfm_words.specs.{Besides.{written}, Places.{IsWithin}, Steps.{IsWinged}}
 use Rattle.ulfm_book.specs.declared.{line.Line.{Line}, line.Line.TheVariants.{Made}}
 use Rattle.ulfm_book.specs.{Logs.{IsLog, cached_in, history_in, limits_in}, Rules.{AreWords, Exchanges, Extends, IsExchanged, IsFound, Represents, Looks, number_at}, Layout.{block_offset, row_length, place_offset, wing_offset}}
-use Rattle.ulfm_book.proofs.{Growing.{log_push, written_made}, Listing.{listed_as, listed_event, winged_stays}, Seating.{one_seat, seat_in_row, seats_apart, wing_apart}, Stepping.{exchange, look, moved, same_or_not, set_home, set_long, set_other, set_same, shown}}
+use Rattle.ulfm_book.proofs.{Growing.{log_push, written_made}, Listing.{listed_as, listed_event, winged_stays}, Seating.{one_seat, seat_in_row, seats_apart, wing_apart}, Stepping.{exchange, look, moved, others_stay, same_or_not, set_same, shown, words_set}}
 
 module _ {P : Type 0} (meld : P → P → P) (pack : P → ℕ) where
   -- the caller's premise: whatever others did in between, the event may come while the word is 0, and sets this word
@@ -38,7 +38,7 @@ module _ {P : Type 0} (meld : P → P → P) (pack : P → ℕ) where
     after = slice_set cells key (w, true)
 
     others : (k : ℕ) → k ≢ key → number_at after k ≡ number_at cells k
-    others k other = set_other cells (row_length limits) key w kept.words.size (seat_in_row limits p within) k other
+    others k other = others_stay meld pack (written h limits (cached_in log)) cells key w kept.words (seat_in_row limits p within) k other
 
     place_after : (q : Place) → IsWithin limits q → (place_offset limits q ≡ key) ⊎ (place_offset limits q ≢ key) → number_at after (place_offset limits q) ≡ word_at pack (h ++ e ∷ []) q
     place_after q there (inl same) =
@@ -50,16 +50,13 @@ module _ {P : Type 0} (meld : P → P → P) (pack : P → ℕ) where
         others (place_offset limits q) other ∙ (kept.words.places q there ∙ sym (word_kept pack meld limits h e.by e.event q may apart))
 
     words_after : AreWords meld pack (written (h ++ e ∷ []) limits (cached_in log)) after
-    words_after = record {
-      size = set_long cells (row_length limits) key w kept.words.size (seat_in_row limits p within);
-      home = set_home cells (row_length limits) key w kept.words.size (seat_in_row limits p within) kept.words.home;
-      places = λ q there. place_after q there (same_or_not (place_offset limits q) key);
-      listed =
-          listed_as meld pack limits (h ++ e ∷ []) (cached_in log) (λ b. number_at cells (block_offset limits b)) (λ x. number_at cells (wing_offset limits x))
-          (λ b. number_at after (block_offset limits b)) (λ x. number_at after (wing_offset limits x))
-          (λ b there. others (block_offset limits b) (seats_apart limits p b within)) (λ x there. others (wing_offset limits x) (wing_apart limits x p there within))
-          (listed_event meld pack limits h (cached_in log) (λ b. number_at cells (block_offset limits b)) (λ x. number_at cells (wing_offset limits x)) e winged kept.words.listed);
-    }
+    words_after =
+        words_set meld pack (written h limits (cached_in log)) cells key w kept.words (seat_in_row limits p within) (h ++ e ∷ []) (cached_in log)
+        (λ q there. place_after q there (same_or_not (place_offset limits q) key))
+        (listed_as meld pack limits (h ++ e ∷ []) (cached_in log) (λ b. number_at cells (block_offset limits b)) (λ x. number_at cells (wing_offset limits x))
+        (λ b. number_at after (block_offset limits b)) (λ x. number_at after (wing_offset limits x))
+        (λ b there. others (block_offset limits b) (seats_apart limits p b within)) (λ x there. others (wing_offset limits x) (wing_apart limits x p there within))
+        (listed_event meld pack limits h (cached_in log) (λ b. number_at cells (block_offset limits b)) (λ x. number_at cells (wing_offset limits x)) e winged kept.words.listed))
 
     after_event : Represents meld pack after (log ++ Made e ∷ [])
     after_event = record {

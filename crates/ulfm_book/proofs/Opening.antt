@@ -1,10 +1,11 @@
 -- The words as they are opened.
-use Rattle.std.proofs.Common.{◌≡◌, ℕ, zero, suc, ◌<◌, true, false, List, [], ◌∷◌, get_or, replicate, slice_get, Some, ap, sym, ◌∙◌, arith}
+use Rattle.std.proofs.Common.{◌≡◌, ℕ, zero, suc, ◌<◌, true, false, List, [], ◌∷◌, get_or, replicate, slice_get, Some, ap, sym, ◌∙◌, subst, arith}
 use Rattle.std.proofs.lemmas.List.{get_or-replicate, length-replicate}
 use Rattle.logbook.specs.Pages.{Book, Cell, Named, cell}
 use Rattle.ulfm_model.specs.declared.limits.Limits.{Limits}
+use Rattle.ulfm_words.specs.Steps.{Name}
 use Rattle.ulfm_words.proofs.Tied.{zero_at}
-use Rattle.ulfm_book.specs.{Logs.{log_of}, Rules.{Represents, number_at, word_named}, Layout.{block_offset, row_length, place_offset, wing_offset}}
+use Rattle.ulfm_book.specs.{Logs.{log_of}, Rules.{Represents, book_of, name_of, number_at, word_named}, Layout.{block_offset, row_length, place_offset, wing_offset}}
 use Rattle.ulfm_book.proofs.{Listing.{listed_new}, Seating.{block_seat_lt, seat_in_row, wing_seat_lt}}
 
 -- zeros are the words of the log that has no event
@@ -34,3 +35,12 @@ word_in words book size key word all lt = got words key word (word_named book ke
     got [] k d x e = absurd cc
     got (y ∷ xs) zero d x e = cc
     got (y ∷ xs) (suc k) d x e = got xs k d x e
+
+-- .. and of a name: the word under an offset within its limits
+pub word_of : (words : List Named) (book : Book) (limits : Limits) (name : Name) (Within : Limits → Type 0) (offset : Limits → ℕ) (key : ℕ) (word : Named) → name_of book limits ≡ name → Within name.limits
+    → ((n : Limits) → Within n → offset n < row_length n) → ((k : ℕ) → k < row_length limits → slice_get words k ≡ Some (word_named book k)) → key ≡ offset limits → word ≡ get_or words key word
+    → word ≡ word_named (book_of name) (offset name.limits)
+word_of words book limits name Within offset key word is within below all at got =
+    let there : Within limits = subst (λ (n : Name). Within n.limits) (sym is) within in
+    let lt : key < row_length limits = omega (arith, at, below limits there) in
+    subst (λ (n : Name). word ≡ word_named (book_of n) (offset n.limits)) is (got ∙ (word_in words book (row_length limits) key word all lt ∙ ap (word_named book) at))

@@ -9,7 +9,7 @@ use Rattle.ulfm_words.specs.{Besides.{written}, Blocks.{MaySetWing, WasWing}, Pl
 use Rattle.ulfm_words.proofs.Pairs.{wing_small}
 use Rattle.ulfm_book.specs.declared.{line.Line.{Line}, line.Line.TheVariants.{Kept}}
 use Rattle.ulfm_book.specs.{Logs.{IsLog, cached_in, history_in, limits_in}, Rules.{AddsWing, AreWords, Extends, IsAddedWing, IsSpreadIn, IsWingAdded, IsWingFound, LooksWing, Represents, number_at}, Layout.{block_offset, row_length, place_offset, wing_offset}}
-use Rattle.ulfm_book.proofs.{Growing.{cached_in-append, log_kept, written_kept}, Listing.{listed_wing}, Seating.{one_wing_seat, wing_apart, wing_block_apart, wing_seat_lt}, Stepping.{exchange, look, moved, set_home, set_long, set_other, set_same, shown}}
+use Rattle.ulfm_book.proofs.{Growing.{cached_in-append, log_kept, written_kept}, Listing.{listed_wing}, Seating.{one_wing_seat, wing_apart, wing_block_apart, wing_seat_lt}, Stepping.{exchange, look, moved, others_stay, set_same, shown, words_set}}
 
 module _ {P : Type 0} (meld : P → P → P) (pack : P → ℕ) where
   -- what may be set isn't 0, and a block's is that of its members
@@ -35,30 +35,21 @@ module _ {P : Type 0} (meld : P → P → P) (pack : P → ℕ) where
   -- the words after this wing's at the end of the log
   module _ (a : Wing) (w : ℕ) (cells : List Cell) (log : List (Line P)) (kept : Represents meld pack cells log) (within : IsWingWithin (limits_in log) a) (pos : 0 < w)
       (is : (b : Block) → a ≡ Wing.Block b → IsWing meld pack (limits_in log).ranks (history_in log) (Wing.Block b) w) (zero : number_at cells (wing_offset (limits_in log) a) ≡ 0) where
-    abbrev limits : Limits
-    limits = limits_in log
-
-    abbrev key : ℕ
-    key = wing_offset limits a
-
     abbrev after : List Cell
-    after = slice_set cells key (w, true)
+    after = slice_set cells (wing_offset (limits_in log) a) (w, true)
 
-    others : (k : ℕ) → k ≢ key → number_at after k ≡ number_at cells k
-    others k other = set_other cells (row_length limits) key w kept.words.size (wing_seat_lt limits a within) k other
+    others : (k : ℕ) → k ≢ (wing_offset (limits_in log) a) → number_at after k ≡ number_at cells k
+    others k other = others_stay meld pack (written (history_in log) (limits_in log) (cached_in log)) cells (wing_offset (limits_in log) a) w kept.words (wing_seat_lt (limits_in log) a within) k other
 
-    words_after : AreWords meld pack (written (history_in log) limits (cached_in log ++ Beside.Wing a w ∷ [])) after
-    words_after = record {
-      size = set_long cells (row_length limits) key w kept.words.size (wing_seat_lt limits a within);
-      home = set_home cells (row_length limits) key w kept.words.size (wing_seat_lt limits a within) kept.words.home;
-      places = λ p there. others (place_offset limits p) (λ same. wing_apart limits a p within there (sym same)) ∙ kept.words.places p there;
-      listed =
-          listed_wing meld pack limits (history_in log) (cached_in log) (λ b. number_at cells (block_offset limits b)) (λ x. number_at cells (wing_offset limits x)) a w
-          (λ b. number_at after (block_offset limits b)) (λ x. number_at after (wing_offset limits x)) pos is zero
-          (set_same cells (row_length limits) key w kept.words.size (wing_seat_lt limits a within))
-          (λ x there other. others (wing_offset limits x) (λ same. other (one_wing_seat limits x a there within same))) (λ b there. others (block_offset limits b) (λ same. wing_block_apart limits a b within (sym same)))
-          kept.words.listed;
-    }
+    words_after : AreWords meld pack (written (history_in log) (limits_in log) (cached_in log ++ Beside.Wing a w ∷ [])) after
+    words_after =
+        words_set meld pack (written (history_in log) (limits_in log) (cached_in log)) cells (wing_offset (limits_in log) a) w kept.words (wing_seat_lt (limits_in log) a within) (history_in log) (cached_in log ++ Beside.Wing a w ∷ [])
+        (λ p there. others (place_offset (limits_in log) p) (λ same. wing_apart (limits_in log) a p within there (sym same)) ∙ kept.words.places p there)
+        (listed_wing meld pack (limits_in log) (history_in log) (cached_in log) (λ b. number_at cells (block_offset (limits_in log) b)) (λ x. number_at cells (wing_offset (limits_in log) x)) a w
+        (λ b. number_at after (block_offset (limits_in log) b)) (λ x. number_at after (wing_offset (limits_in log) x)) pos is zero
+        (set_same cells (row_length (limits_in log)) (wing_offset (limits_in log) a) w kept.words.size (wing_seat_lt (limits_in log) a within))
+        (λ x there other. others (wing_offset (limits_in log) x) (λ same. other (one_wing_seat (limits_in log) x a there within same))) (λ b there. others (block_offset (limits_in log) b) (λ same. wing_block_apart (limits_in log) a b within (sym same)))
+        kept.words.listed)
 
     after_wing : Represents meld pack after (log ++ Kept (Beside.Wing a w) ∷ [])
     after_wing = record {

@@ -6,10 +6,12 @@ use Rattle.std.proofs.Math.ListN.{length-set}
 use mathlib.Core.List.{IsPrefix}
 use prog.Atomic.{either}
 use Rattle.logbook.specs.Pages.{Cell, Goes, Moves, View, cell, keeps, no_nib}
-use Rattle.ulfm_model.specs.declared.limits.Limits.{Limits}
+use Rattle.ulfm_model.specs.declared.{block.Beside.{Beside}, limits.Limits.{Limits}, place.Place.{Place}}
+use Rattle.ulfm_model.specs.{History.{History}, Words.{word_at}}
+use Rattle.ulfm_words.specs.{Besides.{Written, written}, Places.{IsWithin}}
 use Rattle.ulfm_words.proofs.Growing.{prefix_push}
 use Rattle.ulfm_book.specs.declared.line.Line.{Line}
-use Rattle.ulfm_book.specs.{Logs.{IsLog, limits_in}, Rules.{Extends, Represents, number_at}, Layout.{row_length}}
+use Rattle.ulfm_book.specs.{Logs.{IsLog, limits_in}, Rules.{AreListed, AreWords, Extends, Represents, number_at}, Layout.{block_offset, place_offset, row_length, wing_offset}}
 use Rattle.ulfm_book.proofs.Growing.{sees}
 
 -- clients see nothing of the log
@@ -42,6 +44,24 @@ module _ (cells : List Cell) (size key w : ℕ) (long : length cells ≡ size) (
       by : (k ≡ key) ⊎ (k ≢ key) → (cell set_at k).1 ≡ true
       by (inl same) = ap (λ n. (cell set_at n).1) same ∙ ap (λ (c : Cell). c.1) (get_or-set_same cells key (w, true) (0, false) (omega (arith, long, lt)))
       by (inr other) = ap (λ (c : Cell). c.1) (get_or-set_other cells key k (w, true) (0, false) other) ∙ home k below
+
+-- what the words stand for after one is set: the others are as they were
+module _ {P : Type 0} (meld : P → P → P) (pack : P → ℕ) (of : Written P) (cells : List Cell) (key w : ℕ) (words : AreWords meld pack of cells) (lt : key < row_length of.limits) where
+  abbrev after_it : List Cell
+  after_it = slice_set cells key (w, true)
+
+  pub others_stay : (k : ℕ) → k ≢ key → number_at after_it k ≡ number_at cells k
+  others_stay k other = set_other cells (row_length of.limits) key w words.size lt k other
+
+  pub words_set : (seen : History P) (cached : List Beside) → ((p : Place) → IsWithin of.limits p → number_at after_it (place_offset of.limits p) ≡ word_at pack seen p)
+      → AreListed meld pack (written seen of.limits cached) (λ b. number_at after_it (block_offset of.limits b)) (λ x. number_at after_it (wing_offset of.limits x))
+      → AreWords meld pack (written seen of.limits cached) after_it
+  words_set seen cached places listed = record {
+    size = set_long cells (row_length of.limits) key w words.size lt;
+    home = set_home cells (row_length of.limits) key w words.size lt words.home;
+    places = places;
+    listed = listed;
+  }
 
 module _ {P : Type 0} (meld : P → P → P) (pack : P → ℕ) (old : List (Line P)) (key : ℕ) (is : IsLog meld old) (lt : key < row_length (limits_in old)) where
   -- a step that leaves its word as it is adds nothing

@@ -30,3 +30,10 @@ pub(crate) fn two(rt: &impl Abort, alloc: Global) -> Result<(Outside, Member), F
     assert!(rt; members.len() == 2);
     Ok((outside, members.swap_remove(0)))
 }
+
+/// The member of rank 0, where rank 1 was declared failed before.
+pub(crate) fn left(rt: &impl Abort, alloc: Global) -> Result<Member, Fail> {
+    let (_, mut member) = two(rt, alloc)?;
+    member.fail(1)?;
+    Ok(member)
+}

@@ -1,6 +1,6 @@
 // Examples of `Rank`, and of its calls step by step.
 
-use crate::open::two;
+use crate::open::{left, two};
 use std::test::Fail;
 use ulfm_comm::Polled;
 use ulfm_laws::FlagAnd;
@@ -9,8 +9,7 @@ use ulfm_model::{Call, Refusal, Reply, Request, StepName};
 
 #[test]
 fn rank_number(rt: HostRuntime) -> Result<(), Fail> {
-    let (_, member) = two(&rt, rt.alloc())?;
-    let (_, rank, _) = member.into_parts();
+    let (_, rank, _) = two(&rt, rt.alloc())?.1.into_parts();
 
     assert!(rt; rank.number() == 0);
 
@@ -19,9 +18,7 @@ fn rank_number(rt: HostRuntime) -> Result<(), Fail> {
 
 #[test]
 fn rank_failures(rt: HostRuntime) -> Result<(), Fail> {
-    let (_, mut member) = two(&rt, rt.alloc())?;
-    member.fail(1)?;
-    let (world, mut rank, mut pass) = member.into_parts();
+    let (world, mut rank, mut pass) = left(&rt, rt.alloc())?.into_parts();
 
     // Rank 1 was declared failed before.
     // A call looks, and then the rank has seen it.
@@ -33,8 +30,7 @@ fn rank_failures(rt: HostRuntime) -> Result<(), Fail> {
 
 #[test]
 fn rank_members(rt: HostRuntime) -> Result<(), Fail> {
-    let (_, member) = two(&rt, rt.alloc())?;
-    let (_, rank, _) = member.into_parts();
+    let (_, rank, _) = two(&rt, rt.alloc())?.1.into_parts();
 
     assert!(rt; rank.members(0) == Some([0, 1].as_slice()));
     assert!(rt; rank.members(1).is_none());
@@ -44,8 +40,7 @@ fn rank_members(rt: HostRuntime) -> Result<(), Fail> {
 
 #[test]
 fn rank_context(rt: HostRuntime) -> Result<(), Fail> {
-    let (_, member) = two(&rt, rt.alloc())?;
-    let (_, rank, _) = member.into_parts();
+    let (_, rank, _) = two(&rt, rt.alloc())?.1.into_parts();
 
     assert!(rt; rank.context(0) == Some(0));
     assert!(rt; rank.context(1).is_none());
@@ -55,8 +50,7 @@ fn rank_context(rt: HostRuntime) -> Result<(), Fail> {
 
 #[test]
 fn rank_request(rt: HostRuntime) -> Result<(), Fail> {
-    let (_, member) = two(&rt, rt.alloc())?;
-    let (world, mut rank, mut pass) = member.into_parts();
+    let (world, mut rank, mut pass) = two(&rt, rt.alloc())?.1.into_parts();
 
     rank.ishrink(&world, &mut pass, 0)?;
     assert!(rt; rank.request(0) == Some(Request::Shrink { round: 0 }));
@@ -67,9 +61,7 @@ fn rank_request(rt: HostRuntime) -> Result<(), Fail> {
 
 #[test]
 fn rank_last_steps(rt: HostRuntime) -> Result<(), Fail> {
-    let (_, mut member) = two(&rt, rt.alloc())?;
-    member.fail(1)?;
-    let (world, mut rank, mut pass) = member.into_parts();
+    let (world, mut rank, mut pass) = left(&rt, rt.alloc())?.into_parts();
 
     // Rank 1 was declared failed before.
     // A call looks: one load finds that failure, and the next finds no other.
@@ -82,8 +74,7 @@ fn rank_last_steps(rt: HostRuntime) -> Result<(), Fail> {
 
 #[test]
 fn rank_iagree(rt: HostRuntime) -> Result<(), Fail> {
-    let (_, member) = two(&rt, rt.alloc())?;
-    let (world, mut rank, mut pass) = member.into_parts();
+    let (world, mut rank, mut pass) = two(&rt, rt.alloc())?.1.into_parts();
 
     let flag = FlagAnd { bits: 0b0110 };
     assert!(rt; rank.iagree(&world, &mut pass, 0, flag) == Ok(()));
@@ -95,9 +86,7 @@ fn rank_iagree(rt: HostRuntime) -> Result<(), Fail> {
 
 #[test]
 fn rank_ishrink(rt: HostRuntime) -> Result<(), Fail> {
-    let (_, mut member) = two(&rt, rt.alloc())?;
-    member.fail(1)?;
-    let (world, mut rank, mut pass) = member.into_parts();
+    let (world, mut rank, mut pass) = left(&rt, rt.alloc())?.into_parts();
 
     // Rank 1 was declared failed before.
     rank.ishrink(&world, &mut pass, 0)?;
@@ -113,9 +102,7 @@ fn rank_ishrink(rt: HostRuntime) -> Result<(), Fail> {
 
 #[test]
 fn rank_ibarrier(rt: HostRuntime) -> Result<(), Fail> {
-    let (_, mut member) = two(&rt, rt.alloc())?;
-    member.fail(1)?;
-    let (world, mut rank, mut pass) = member.into_parts();
+    let (world, mut rank, mut pass) = left(&rt, rt.alloc())?.into_parts();
 
     rank.ibarrier(&world, &mut pass, 0)?;
     // Rank 1 was declared failed before, and can't arrive any more.
@@ -126,9 +113,7 @@ fn rank_ibarrier(rt: HostRuntime) -> Result<(), Fail> {
 
 #[test]
 fn rank_poll(rt: HostRuntime) -> Result<(), Fail> {
-    let (_, mut member) = two(&rt, rt.alloc())?;
-    member.fail(1)?;
-    let (world, mut rank, mut pass) = member.into_parts();
+    let (world, mut rank, mut pass) = left(&rt, rt.alloc())?.into_parts();
 
     let value = FlagAnd { bits: 0b0110 };
     rank.iagree(&world, &mut pass, 0, value)?;
@@ -146,9 +131,7 @@ fn rank_poll(rt: HostRuntime) -> Result<(), Fail> {
 #[test]
 fn rank_get_failed(rt: HostRuntime) -> Result<(), Fail> {
     let alloc = rt.alloc();
-    let (_, mut member) = two(&rt, alloc)?;
-    member.fail(1)?;
-    let (world, mut rank, mut pass) = member.into_parts();
+    let (world, mut rank, mut pass) = left(&rt, alloc)?.into_parts();
 
     // Rank 1 was declared failed before.
     let mut found = Vec::new(alloc);
@@ -161,8 +144,7 @@ fn rank_get_failed(rt: HostRuntime) -> Result<(), Fail> {
 #[test]
 fn rank_missing(rt: HostRuntime) -> Result<(), Fail> {
     let alloc = rt.alloc();
-    let (_, member) = two(&rt, alloc)?;
-    let (world, mut rank, mut pass) = member.into_parts();
+    let (world, mut rank, mut pass) = two(&rt, alloc)?.1.into_parts();
 
     rank.ibarrier(&world, &mut pass, 0)?;
     let mut found = Vec::new(alloc);
@@ -174,9 +156,7 @@ fn rank_missing(rt: HostRuntime) -> Result<(), Fail> {
 
 #[test]
 fn rank_ack_failed(rt: HostRuntime) -> Result<(), Fail> {
-    let (_, mut member) = two(&rt, rt.alloc())?;
-    member.fail(1)?;
-    let (world, mut rank, mut pass) = member.into_parts();
+    let (world, mut rank, mut pass) = left(&rt, rt.alloc())?.into_parts();
 
     // Rank 1 was declared failed before.
     // There is one failure to acknowledge, however many are asked for.
@@ -187,9 +167,7 @@ fn rank_ack_failed(rt: HostRuntime) -> Result<(), Fail> {
 
 #[test]
 fn rank_failure_ack(rt: HostRuntime) -> Result<(), Fail> {
-    let (_, mut member) = two(&rt, rt.alloc())?;
-    member.fail(1)?;
-    let (world, mut rank, mut pass) = member.into_parts();
+    let (world, mut rank, mut pass) = left(&rt, rt.alloc())?.into_parts();
 
     // Rank 1 was declared failed before.
     assert!(rt; rank.failure_ack(&world, &mut pass, 0) == Ok(1));
@@ -200,9 +178,7 @@ fn rank_failure_ack(rt: HostRuntime) -> Result<(), Fail> {
 #[test]
 fn rank_failure_get_acked(rt: HostRuntime) -> Result<(), Fail> {
     let alloc = rt.alloc();
-    let (_, mut member) = two(&rt, alloc)?;
-    member.fail(1)?;
-    let (world, mut rank, mut pass) = member.into_parts();
+    let (world, mut rank, mut pass) = left(&rt, alloc)?.into_parts();
 
     // Rank 1 was declared failed before.
     let mut found = Vec::new(alloc);
@@ -217,8 +193,7 @@ fn rank_failure_get_acked(rt: HostRuntime) -> Result<(), Fail> {
 
 #[test]
 fn rank_revoke(rt: HostRuntime) -> Result<(), Fail> {
-    let (_, member) = two(&rt, rt.alloc())?;
-    let (world, mut rank, mut pass) = member.into_parts();
+    let (world, mut rank, mut pass) = two(&rt, rt.alloc())?.1.into_parts();
 
     assert!(rt; rank.revoke(&world, &mut pass, 0) == Ok(true));
     assert!(rt; rank.revoke(&world, &mut pass, 0) == Ok(false));
@@ -228,8 +203,7 @@ fn rank_revoke(rt: HostRuntime) -> Result<(), Fail> {
 
 #[test]
 fn rank_is_revoked(rt: HostRuntime) -> Result<(), Fail> {
-    let (_, member) = two(&rt, rt.alloc())?;
-    let (world, mut rank, mut pass) = member.into_parts();
+    let (world, mut rank, mut pass) = two(&rt, rt.alloc())?.1.into_parts();
 
     assert!(rt; rank.is_revoked(&world, &mut pass, 0) == Ok(false));
     rank.revoke(&world, &mut pass, 0)?;
@@ -240,9 +214,7 @@ fn rank_is_revoked(rt: HostRuntime) -> Result<(), Fail> {
 
 #[test]
 fn rank_free(rt: HostRuntime) -> Result<(), Fail> {
-    let (_, mut member) = two(&rt, rt.alloc())?;
-    member.fail(1)?;
-    let (world, mut rank, mut pass) = member.into_parts();
+    let (world, mut rank, mut pass) = left(&rt, rt.alloc())?.into_parts();
 
     // Rank 1 was declared failed before.
     rank.ishrink(&world, &mut pass, 0)?;
@@ -256,8 +228,7 @@ fn rank_free(rt: HostRuntime) -> Result<(), Fail> {
 
 #[test]
 fn rank_begin(rt: HostRuntime) -> Result<(), Fail> {
-    let (_, member) = two(&rt, rt.alloc())?;
-    let (_, rank, _) = member.into_parts();
+    let (_, rank, _) = two(&rt, rt.alloc())?.1.into_parts();
 
     let asked = Call::IsRevoked {
         rank: rank.number(),
@@ -271,8 +242,7 @@ fn rank_begin(rt: HostRuntime) -> Result<(), Fail> {
 
 #[test]
 fn rank_step(rt: HostRuntime) -> Result<(), Fail> {
-    let (_, member) = two(&rt, rt.alloc())?;
-    let (world, mut rank, mut pass) = member.into_parts();
+    let (world, mut rank, mut pass) = two(&rt, rt.alloc())?.1.into_parts();
 
     let asked = Call::IsRevoked {
         rank: rank.number(),
@@ -288,8 +258,7 @@ fn rank_step(rt: HostRuntime) -> Result<(), Fail> {
 
 #[test]
 fn rank_proposal(rt: HostRuntime) -> Result<(), Fail> {
-    let (_, member) = two(&rt, rt.alloc())?;
-    let (world, mut rank, mut pass) = member.into_parts();
+    let (world, mut rank, mut pass) = two(&rt, rt.alloc())?.1.into_parts();
 
     let asked = Call::Revoke {
         rank: rank.number(),
@@ -308,8 +277,7 @@ fn rank_proposal(rt: HostRuntime) -> Result<(), Fail> {
 
 #[test]
 fn doing_next(rt: HostRuntime) -> Result<(), Fail> {
-    let (_, member) = two(&rt, rt.alloc())?;
-    let (_, rank, _) = member.into_parts();
+    let (_, rank, _) = two(&rt, rt.alloc())?.1.into_parts();
 
     let asked = Call::IsRevoked {
         rank: rank.number(),
@@ -323,8 +291,7 @@ fn doing_next(rt: HostRuntime) -> Result<(), Fail> {
 
 #[test]
 fn doing_is_looking(rt: HostRuntime) -> Result<(), Fail> {
-    let (_, member) = two(&rt, rt.alloc())?;
-    let (_, rank, _) = member.into_parts();
+    let (_, rank, _) = two(&rt, rt.alloc())?.1.into_parts();
 
     let asked = Call::IsRevoked {
         rank: rank.number(),
@@ -338,8 +305,7 @@ fn doing_is_looking(rt: HostRuntime) -> Result<(), Fail> {
 
 #[test]
 fn doing_asked(rt: HostRuntime) -> Result<(), Fail> {
-    let (_, member) = two(&rt, rt.alloc())?;
-    let (_, rank, _) = member.into_parts();
+    let (_, rank, _) = two(&rt, rt.alloc())?.1.into_parts();
 
     let asked = Call::IsRevoked {
         rank: rank.number(),
@@ -353,8 +319,7 @@ fn doing_asked(rt: HostRuntime) -> Result<(), Fail> {
 
 #[test]
 fn doing_is_checking(rt: HostRuntime) -> Result<(), Fail> {
-    let (_, member) = two(&rt, rt.alloc())?;
-    let (_, rank, _) = member.into_parts();
+    let (_, rank, _) = two(&rt, rt.alloc())?.1.into_parts();
 
     let asked = Call::IsRevoked {
         rank: rank.number(),
@@ -368,8 +333,7 @@ fn doing_is_checking(rt: HostRuntime) -> Result<(), Fail> {
 
 #[test]
 fn rank_call(rt: HostRuntime) -> Result<(), Fail> {
-    let (_, member) = two(&rt, rt.alloc())?;
-    let (world, mut rank, mut pass) = member.into_parts();
+    let (world, mut rank, mut pass) = two(&rt, rt.alloc())?.1.into_parts();
 
     let asked = Call::Revoke {
         rank: rank.number(),

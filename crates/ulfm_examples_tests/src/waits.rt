@@ -1,6 +1,6 @@
 // Examples of calls that wait, of the future of an agree, and of a race.
 
-use crate::open::two;
+use crate::open::left;
 use futures::executor::block_on;
 use std::test::Fail;
 use ulfm_comm::Polled;
@@ -11,8 +11,7 @@ use ulfm_wait::AgreeFuture;
 
 #[test]
 fn blocking_agree(rt: HostRuntime) -> Result<(), Fail> {
-    let (_, mut member) = two(&rt, rt.alloc())?;
-    member.fail(1)?;
+    let mut member = left(&rt, rt.alloc())?;
 
     // Rank 1 of two was declared failed before, so nobody is waited for.
     let value = FlagAnd { bits: 0b0110 };
@@ -28,8 +27,7 @@ fn blocking_agree(rt: HostRuntime) -> Result<(), Fail> {
 
 #[test]
 fn blocking_shrink(rt: HostRuntime) -> Result<(), Fail> {
-    let (_, mut member) = two(&rt, rt.alloc())?;
-    member.fail(1)?;
+    let mut member = left(&rt, rt.alloc())?;
 
     // Rank 1 of two was declared failed before, and is left out.
     let alone = Polled::Shrunk {
@@ -45,8 +43,7 @@ fn blocking_shrink(rt: HostRuntime) -> Result<(), Fail> {
 
 #[test]
 fn blocking_barrier(rt: HostRuntime) -> Result<(), Fail> {
-    let (_, mut member) = two(&rt, rt.alloc())?;
-    member.fail(1)?;
+    let mut member = left(&rt, rt.alloc())?;
 
     // Rank 1 of two was declared failed before, and can't arrive any more.
     assert!(rt; ulfm_wait::barrier(&rt, &mut member, 0) == Err(Refusal::ProcFailed));
@@ -56,8 +53,7 @@ fn blocking_barrier(rt: HostRuntime) -> Result<(), Fail> {
 
 #[test]
 fn agree_future_new(rt: HostRuntime) -> Result<(), Fail> {
-    let (_, mut member) = two(&rt, rt.alloc())?;
-    member.fail(1)?;
+    let mut member = left(&rt, rt.alloc())?;
 
     let (world, rank, pass) = member.into_parts();
     // Rank 1 of two was declared failed before.

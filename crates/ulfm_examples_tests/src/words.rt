@@ -1,4 +1,5 @@
 // Examples of words, and of what stands below them.
+ghost use Rattle.std.specs.Prelude.{◌≡◌};
 
 use crate::open::two;
 use std::test::Fail;
@@ -9,13 +10,19 @@ use ulfm_model::{
 };
 use ulfm_words::{PlainWords, read_slot, slot_words};
 
+fn limits(ranks: u16, comms: u16, rounds: u16) -> Limits
+    ensures { result ≡ record { ranks = ranks; comms = comms; rounds = rounds } }
+{
+    Limits {
+        ranks,
+        comms,
+        rounds,
+    }
+}
+
 #[test]
 fn plain_words_open(rt: HostRuntime) -> Result<(), Fail> {
-    let limits = Limits {
-        ranks: 2,
-        comms: 1,
-        rounds: 4,
-    };
+    let limits = limits(2, 1, 4);
 
     let words: PlainWords<FlagAnd> = PlainWords::open(limits)?;
     assert!(rt; words.limits == limits);
@@ -78,11 +85,7 @@ fn summaries_read_slot(rt: HostRuntime) -> Result<(), Fail> {
 
 #[test]
 fn limits_size(rt: HostRuntime) -> Result<(), Fail> {
-    let limits = Limits {
-        ranks: 3,
-        comms: 2,
-        rounds: 4,
-    };
+    let limits = limits(3, 2, 4);
 
     assert!(rt; limits.size() == 3 + 2 * 2 + 2 * 2 * 4 * 3);
 
@@ -91,11 +94,7 @@ fn limits_size(rt: HostRuntime) -> Result<(), Fail> {
 
 #[test]
 fn limits_check(rt: HostRuntime) -> Result<(), Fail> {
-    let mut limits = Limits {
-        ranks: 1024,
-        comms: 1,
-        rounds: 2047,
-    };
+    let mut limits = limits(1024, 1, 2047);
 
     // Of 1,024 ranks, 1 communicator and 2,047 rounds.
     assert!(rt; limits.check().is_ok());

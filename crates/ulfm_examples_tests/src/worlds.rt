@@ -10,8 +10,7 @@ use ulfm_words::PlainWords;
 
 #[test]
 fn world_open(rt: HostRuntime) -> Result<(), Fail> {
-    let alloc = rt.alloc();
-    let limits = TWO;
+    let (alloc, limits) = (rt.alloc(), TWO);
 
     let words: PlainWords<FlagAnd> = PlainWords::open(limits)?;
     let (world, ranks) = World::open(alloc, words)?;
@@ -32,9 +31,9 @@ fn world_limits(rt: HostRuntime) -> Result<(), Fail> {
 
 #[test]
 fn world_pass(rt: HostRuntime) -> Result<(), Fail> {
-    let alloc = rt.alloc();
-    let (_, member) = two(&rt, alloc)?;
+    let (_, member) = two(&rt, rt.alloc())?;
     let (world, _, _) = member.into_parts();
+    let alloc = rt.alloc();
 
     let mut pass = world.pass(alloc)?;
     assert!(rt; world.fail(&mut pass, 1) == Ok(true));
@@ -44,9 +43,9 @@ fn world_pass(rt: HostRuntime) -> Result<(), Fail> {
 
 #[test]
 fn world_told(rt: HostRuntime) -> Result<(), Fail> {
-    let alloc = rt.alloc();
-    let (_, member) = two(&rt, alloc)?;
+    let (_, member) = two(&rt, rt.alloc())?;
     let (world, _, _) = member.into_parts();
+    let alloc = rt.alloc();
 
     let mut pass = world.pass(alloc)?;
     let mut other = world.pass(alloc)?;
@@ -58,9 +57,9 @@ fn world_told(rt: HostRuntime) -> Result<(), Fail> {
 
 #[test]
 fn world_learn(rt: HostRuntime) -> Result<(), Fail> {
-    let alloc = rt.alloc();
-    let (_, member) = two(&rt, alloc)?;
+    let (_, member) = two(&rt, rt.alloc())?;
     let (world, _, _) = member.into_parts();
+    let alloc = rt.alloc();
 
     let mut pass = world.pass(alloc)?;
     let mut other = world.pass(alloc)?;
@@ -85,8 +84,7 @@ fn world_fail(rt: HostRuntime) -> Result<(), Fail> {
 
 #[test]
 fn job_open(rt: HostRuntime) -> Result<(), Fail> {
-    let alloc = rt.alloc();
-    let limits = TWO;
+    let (alloc, limits) = (rt.alloc(), TWO);
 
     let words: PlainWords<FlagAnd> = PlainWords::open(limits)?;
     let job = Job::open(alloc, words)?;
@@ -97,8 +95,7 @@ fn job_open(rt: HostRuntime) -> Result<(), Fail> {
 
 #[test]
 fn job_pass(rt: HostRuntime) -> Result<(), Fail> {
-    let alloc = rt.alloc();
-    let limits = TWO;
+    let (alloc, limits) = (rt.alloc(), TWO);
     let words: PlainWords<FlagAnd> = PlainWords::open(limits)?;
     let job = Job::open(alloc, words)?;
 
@@ -109,8 +106,7 @@ fn job_pass(rt: HostRuntime) -> Result<(), Fail> {
 
 #[test]
 fn job_rank(rt: HostRuntime) -> Result<(), Fail> {
-    let alloc = rt.alloc();
-    let limits = TWO;
+    let (alloc, limits) = (rt.alloc(), TWO);
     let words: PlainWords<FlagAnd> = PlainWords::open(limits)?;
     let job = Job::open(alloc, words)?;
 
@@ -122,8 +118,7 @@ fn job_rank(rt: HostRuntime) -> Result<(), Fail> {
 
 #[test]
 fn job_apply(rt: HostRuntime) -> Result<(), Fail> {
-    let alloc = rt.alloc();
-    let limits = TWO;
+    let (alloc, limits) = (rt.alloc(), TWO);
     let words: PlainWords<FlagAnd> = PlainWords::open(limits)?;
     let mut job = Job::open(alloc, words)?;
 

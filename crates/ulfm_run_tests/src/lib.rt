@@ -3,14 +3,4 @@
 #![tactic(auto)]
 
 #[cfg(test)]
-mod devices;
-#[cfg(test)]
-mod failing_positions;
-#[cfg(test)]
-mod failing_scripts;
-#[cfg(test)]
-mod judged;
-#[cfg(test)]
-mod scripts;
-#[cfg(test)]
-mod step_lines;
+mod tests;

@@ -1,6 +1,6 @@
 // The calls of 2013: all known failures are acknowledged at once, and those that are acknowledged are listed.
 
-use crate::tests::member::first_member;
+use crate::tests::member::{alone_in, first_member};
 use linked_list_allocator::LocalHeap;
 use std::alloc::{Allocator, Global};
 use std::process::Abort;
@@ -31,6 +31,18 @@ where
     first_member(rt, alloc, words, 4)
 }
 
+/// Rank 0 of four, after the others were declared.
+fn beside_failures(
+    rt: &impl Abort,
+    alloc: Global,
+) -> Result<Member<PlainWords<FlagAnd>, FlagAnd, Global>, Fail> {
+    let mut first = first(rt, alloc, PlainWords::<FlagAnd>::open(FOUR)?)?;
+    for rank in [2, 3, 1] {
+        assert!(rt; first.fail(rank) == Ok(true));
+    }
+    Ok(first)
+}
+
 #[test]
 fn acknowledged_failures_are_the_first(rt: HostRuntime) -> Result<(), Fail> {
     let mut first = first(&rt, rt.alloc(), PlainWords::<FlagAnd>::open(FOUR)?)?;
@@ -59,40 +71,33 @@ fn acknowledged_failures_are_the_first(rt: HostRuntime) -> Result<(), Fail> {
 
 #[test]
 fn all_known_are_acknowledged(rt: HostRuntime) -> Result<(), Fail> {
-    let mut first = first(&rt, rt.alloc(), PlainWords::<FlagAnd>::open(FOUR)?)?;
-    for rank in [2, 3, 1] {
-        assert!(rt; first.fail(rank) == Ok(true));
-    }
+    let mut first = beside_failures(&rt, rt.alloc())?;
     // As `ack_failed` where it asks for more than there are.
     assert!(rt; first.failure_ack(0) == Ok(3));
     assert!(rt; first.ack_failed(0, 1024) == Ok(3));
     // So the agree that follows raises no error.
     let value = FlagAnd { bits: 0x3 };
     assert!(rt; first.iagree(0, value) == Ok(()));
-    let agreed = Polled::Agreed {
-        value,
-        failed: 3,
-        raised: false,
-    };
-    assert!(rt; first.poll(0) == Ok(agreed));
+    let polled = first.poll(0)?;
+    let (failed, raised) = (3, false);
+    assert!(rt;
+        polled
+            == Polled::Agreed {
+                value,
+                failed,
+                raised
+            }
+    );
     Ok(())
 }
 
 /// A communicator that a shrink made has no failure to acknowledge.
 #[test]
 fn a_new_communicator_has_acknowledged_none(rt: HostRuntime) -> Result<(), Fail> {
-    let mut first = first(&rt, rt.alloc(), PlainWords::<FlagAnd>::open(FOUR)?)?;
-    for rank in [2, 3, 1] {
-        assert!(rt; first.fail(rank) == Ok(true));
-    }
+    let mut first = beside_failures(&rt, rt.alloc())?;
     assert!(rt; first.failure_ack(0) == Ok(3));
     assert!(rt; first.ishrink(0) == Ok(()));
-    let alone = Polled::Shrunk {
-        comm: 1,
-        context: 1,
-        size: 1,
-    };
-    assert!(rt; first.poll(0) == Ok(alone));
+    assert!(rt; first.poll(0) == Ok(alone_in(1, 1)));
     let mut found = Vec::new(rt.alloc());
     found.push(7)?;
     assert!(rt; first.failure_ack(1) == Ok(0));
@@ -122,12 +127,9 @@ fn acknowledging_is_refused(rt: HostRuntime) -> Result<(), Fail> {
 
 /// A vector with room for one rank, which gets no more memory: it serves for one acknowledged failure of three, and not for two.
 fn list_in(rt: &impl Abort, alloc: Global, full: &LocalHeap) -> Result<(), Fail> {
-    let mut first = first(rt, alloc, PlainWords::<FlagAnd>::open(FOUR)?)?;
+    let mut first = beside_failures(rt, alloc)?;
     let mut found = Vec::with_capacity(full, 1)?;
     found.push(7)?;
-    for rank in [2, 3, 1] {
-        assert!(rt; first.fail(rank) == Ok(true));
-    }
     assert!(rt; first.ack_failed(0, 1) == Ok(1));
     assert!(rt; first.failure_get_acked(0, &mut found) == Ok(()));
     assert_eq!(rt; found.as_slice(), [2].as_slice());

@@ -1,7 +1,7 @@
 // Calls of single ranks: memory that is refused, and others' events that come in between.
 ghost use Rattle.std.specs.Prelude.{◌<◌};
 
-use crate::tests::member::first_member;
+use crate::tests::member::{alone_in, first_member};
 use linked_list_allocator::LocalHeap;
 use std::alloc::{AllocError, Allocator, Global};
 use std::process::Abort;
@@ -196,22 +196,12 @@ fn survivor_shrinks(rt: HostRuntime) -> Result<(), Fail> {
     assert!(rt; first.ishrink(0) == Ok(()));
     assert!(rt; first.poll(0) == Ok(Polled::Pending));
     assert!(rt; first.fail(1) == Ok(true));
-    let alone = Polled::Shrunk {
-        comm: 1,
-        context: 1,
-        size: 1,
-    };
-    assert!(rt; first.poll(0) == Ok(alone));
+    assert!(rt; first.poll(0) == Ok(alone_in(1, 1)));
     assert!(rt; first.poll(0) == Err(Refusal::Idle));
     assert!(rt; first.members(1) == Some([0].as_slice()));
     assert!(rt; first.context(1) == Some(1));
     assert!(rt; first.ishrink(1) == Ok(()));
-    let again = Polled::Shrunk {
-        comm: 2,
-        context: 2,
-        size: 1,
-    };
-    assert!(rt; first.poll(1) == Ok(again));
+    assert!(rt; first.poll(1) == Ok(alone_in(2, 2)));
     assert!(rt; first.ishrink(2) == Ok(()));
     assert!(rt; first.poll(2) == Err(Refusal::NoRoom));
     assert!(rt; first.poll(2) == Err(Refusal::Idle));
@@ -252,12 +242,7 @@ fn shrink_with<R: Abort, A: Allocator + Copy, B: Allocator + Copy>(
     assert!(rt; first.poll(0) == Err(Refusal::OutOfMemory));
     assert!(rt; first.members(1).is_none());
     drop(taken);
-    let made = Polled::Shrunk {
-        comm: 1,
-        context: 1,
-        size: 1,
-    };
-    assert!(rt; first.poll(0) == Ok(made));
+    assert!(rt; first.poll(0) == Ok(alone_in(1, 1)));
     Ok(())
 }
 

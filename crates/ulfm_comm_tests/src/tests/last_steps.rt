@@ -35,17 +35,17 @@ fn asked_of(made: Move) -> Option<(u16, Verb<FlagAnd>, u32)> {
     }
 }
 
-fn limits(ranks: u16) -> Limits {
+fn limits(ranks: u16, comms: u16) -> Limits {
     Limits {
         ranks,
-        comms: 1,
+        comms,
         rounds: 4,
     }
 }
 
 // By whole calls.
 fn whole(rt: &impl Abort, alloc: Global, ranks: u16, moves: &[Move]) -> Result<(), Fail> {
-    let mut job = Job::open(alloc, PlainWords::<FlagAnd>::open(limits(ranks))?)?;
+    let mut job = Job::open(alloc, PlainWords::<FlagAnd>::open(limits(ranks, 1))?)?;
     let mut group = Vec::new(alloc);
     for made in moves {
         if let Move::Fail(rank) = *made {
@@ -62,7 +62,7 @@ fn whole(rt: &impl Abort, alloc: Global, ranks: u16, moves: &[Move]) -> Result<(
 
 // Step by step: before the reply the count is that of the call before.
 fn stepped(rt: &impl Abort, alloc: Global, ranks: u16, moves: &[Move]) -> Result<(), Fail> {
-    let mut play = Play::open(alloc, PlainWords::<FlagAnd>::open(limits(ranks))?)?;
+    let mut play = Play::open(alloc, PlainWords::<FlagAnd>::open(limits(ranks, 1))?)?;
     for made in moves {
         if let Move::Fail(rank) = *made {
             assert!(rt; play.fail(rank) == Ok(true));
@@ -180,15 +180,9 @@ fn waiting_polls_of_two_blocks_are_counted(rt: HostRuntime) -> Result<(), Fail> 
 // the parent's place, and an exchange puts the new one there. The last finds the list full.
 const SHRINKS: [(u16, u32, u32); 5] = [(0, 8, 8), (1, 8, 9), (2, 8, 10), (0, 11, 11), (4, 7, 10)];
 
-const FIVE_COMMS: Limits = Limits {
-    ranks: 1,
-    comms: 5,
-    rounds: 4,
-};
-
 #[test]
 fn whole_shrinks_read_behind_their_parents(rt: HostRuntime) -> Result<(), Fail> {
-    let mut job = Job::open(rt.alloc(), PlainWords::<FlagAnd>::open(FIVE_COMMS)?)?;
+    let mut job = Job::open(rt.alloc(), PlainWords::<FlagAnd>::open(limits(1, 5))?)?;
     let mut group = Vec::new(rt.alloc());
     for (parent, steps, _) in SHRINKS {
         apply(&mut job, &call_of(0, parent, Verb::Shrink), &mut group)?;
@@ -200,7 +194,7 @@ fn whole_shrinks_read_behind_their_parents(rt: HostRuntime) -> Result<(), Fail> 
 
 #[test]
 fn single_steps_of_shrinks_read_from_the_first_place(rt: HostRuntime) -> Result<(), Fail> {
-    let mut play = Play::open(rt.alloc(), PlainWords::<FlagAnd>::open(FIVE_COMMS)?)?;
+    let mut play = Play::open(rt.alloc(), PlainWords::<FlagAnd>::open(limits(1, 5))?)?;
     for (parent, _, steps) in SHRINKS {
         assert!(rt; play.begin(0, parent, Verb::Shrink));
         while play.step(0).is_none() {}
@@ -213,7 +207,7 @@ fn single_steps_of_shrinks_read_from_the_first_place(rt: HostRuntime) -> Result<
 
 #[test]
 fn others_steps_are_not_counted(rt: HostRuntime) -> Result<(), Fail> {
-    let mut play = Play::open(rt.alloc(), PlainWords::<FlagAnd>::open(limits(3))?)?;
+    let mut play = Play::open(rt.alloc(), PlainWords::<FlagAnd>::open(limits(3, 1))?)?;
     assert!(rt; play.last_steps(0) == Some(0));
     assert!(rt; play.begin(0, 0, Verb::Standing));
     assert!(rt; play.step(0).is_none());

@@ -23,19 +23,14 @@ type Plain = Play<PlainWords<FlagAnd>, FlagAnd, Global>;
 
 const FAILED: Reply<FlagAnd> = Reply::Refused(Refusal::SelfFailed);
 
-/// The reply with communicator 1, which ranks 0 and 1 are left in.
-const PAIR: Reply<FlagAnd> = Reply::Shrunk {
-    comm: 1,
-    context: 1,
-    size: 2,
-};
-
-/// The reply with communicator 1, which rank 0 alone is left in.
-const ALONE: Reply<FlagAnd> = Reply::Shrunk {
-    comm: 1,
-    context: 1,
-    size: 1,
-};
+/// The reply with communicator 1, which the first so many ranks are left in.
+fn shrunk(size: u16) -> Reply<FlagAnd> {
+    Reply::Shrunk {
+        comm: 1,
+        context: 1,
+        size,
+    }
+}
 
 fn limits(ranks: u16, comms: u16, rounds: u16) -> Limits {
     Limits {
@@ -45,12 +40,12 @@ fn limits(ranks: u16, comms: u16, rounds: u16) -> Limits {
     }
 }
 
-fn open(alloc: Global, limits: Limits) -> Result<Plain, Fail> {
-    Play::open(alloc, PlainWords::open(limits)?)
-}
-
 fn agree(bits: u64) -> Verb<FlagAnd> {
     Verb::Agree(FlagAnd { bits })
+}
+
+fn open(alloc: Global, limits: Limits) -> Result<Plain, Fail> {
+    Play::open(alloc, PlainWords::open(limits)?)
 }
 
 /// A rank's call, from its beginning to its reply, with nobody in between: it is answered so, by steps of these names.
@@ -210,13 +205,13 @@ fn reads_on_after_its_look(rt: HostRuntime) -> Result<(), Fail> {
         Move::Finish(1, Reply::Started),
         // Rank 1 marks rank 2, so that the round is decided, and makes the communicator.
         Move::Begin(1, 0, Verb::Poll),
-        Move::Finish(1, PAIR),
+        Move::Finish(1, shrunk(2)),
         Move::FinishBy(
             0,
             &[
                 Slot, Wing, Slot, Wing, Wing, Cache, Slot, Wing, Slot, Wing, Cache, List, Comm,
             ],
-            PAIR,
+            shrunk(2),
         ),
     ];
     let mut play = open(rt.alloc(), limits(3, 2, 2))?;
@@ -275,7 +270,7 @@ fn names_in_order(rt: HostRuntime) -> Result<(), Fail> {
         Move::Call(0, 0, agree(0x3), settles, Reply::Started),
         Move::Call(0, 0, Verb::Poll, reads, agreed(0x3, 2, true)),
         Move::Call(0, 0, Verb::Shrink, settles, Reply::Started),
-        Move::Call(0, 0, Verb::Poll, spawns, ALONE),
+        Move::Call(0, 0, Verb::Poll, spawns, shrunk(1)),
         Move::Call(0, 1, Verb::Barrier, arrives, Reply::Started),
         Move::Call(0, 1, Verb::Poll, waits, Reply::Done),
         Move::Call(0, 1, Verb::Revoke, revokes, Reply::Revoked),
@@ -494,8 +489,8 @@ fn shrinks_as_whole(rt: HostRuntime) -> Result<(), Fail> {
         (Line::Ask(0, 0, Verb::Shrink), Reply::Started, 4),
         (Line::Ask(0, 0, Verb::Poll), Reply::Pending, 7),
         (Line::Ask(1, 0, Verb::Shrink), Reply::Started, 4),
-        (Line::Ask(0, 0, Verb::Poll), PAIR, 17),
-        (Line::Ask(1, 0, Verb::Poll), PAIR, 6),
+        (Line::Ask(0, 0, Verb::Poll), shrunk(2), 17),
+        (Line::Ask(1, 0, Verb::Poll), shrunk(2), 6),
         (Line::Ask(0, 1, Verb::Shrink), Reply::Started, 3),
         refused(Line::Ask(0, 0, Verb::Shrink), Refusal::ShrinkOpen, 1),
         (Line::Ask(0, 0, agree(0x1)), Reply::Started, 3),

@@ -85,8 +85,8 @@ fn all_may_be_declared(rt: HostRuntime) -> Result<(), Fail> {
         assert!(rt; missing(&words, &mut pass, &group, &declared, whole) == Missing::Declared);
         assert_eq!(rt; pass.loads, 1);
         assert!(rt; arrive(&words, &mut pass, 3));
-        assert!(rt; missing(&words, &mut pass, &group, &declared, whole) == Missing::Nobody);
-        assert_eq!(rt; pass.loads, 5);
+        let end = missing(&words, &mut pass, &group, &declared, whole);
+        assert_eq!(rt; (end, pass.loads), (Missing::Nobody, 5));
     }
     Ok(())
 }

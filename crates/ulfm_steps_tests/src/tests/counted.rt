@@ -76,14 +76,14 @@ impl<P: Packed, A: Allocator + Copy + Drop> Words<P, A> for Counted<P> {
         pass.plain.cache(block, word)
     }
 
-    fn load_wing(&self, pass: &mut CountedPass<P, A>, wing: Wing) -> u64 {
-        pass.wing_loads = pass.wing_loads.saturating_add(1);
-        pass.plain.load_wing(wing)
-    }
-
     fn set_wing(&self, pass: &mut CountedPass<P, A>, wing: Wing, word: u64) -> Result<(), u64> {
         pass.spreads = pass.spreads.saturating_add(1);
         pass.plain.set_wing(wing, word)
+    }
+
+    fn load_wing(&self, pass: &mut CountedPass<P, A>, wing: Wing) -> u64 {
+        pass.wing_loads = pass.wing_loads.saturating_add(1);
+        pass.plain.load_wing(wing)
     }
 
     fn steps_made(&self, pass: &CountedPass<P, A>) -> u64 {

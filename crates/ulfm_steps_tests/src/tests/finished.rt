@@ -4,7 +4,7 @@ ghost use Rattle.ulfm_model.specs.History.{first_ranks};
 ghost use Rattle.ulfm_words.specs.Steps.{view_of, IsView};
 
 use crate::tests::counted::Counted;
-use crate::tests::world::{THREE, declare};
+use crate::tests::world::{GROUP, THREE, declare, flag};
 use std::alloc::Allocator;
 use std::test::Fail;
 use ulfm_intruder::{Intruder, ReadRound};
@@ -117,35 +117,16 @@ fn steps_over_own_words(rt: HostRuntime) -> Result<(), Fail> {
     let words = Counted::<FlagAnd>::open(THREE)?;
     let mut pass = words.pass(rt.alloc())?;
     let mut found = Vec::with_capacity(rt.alloc(), 3)?;
-    let group = [0, 1, 2];
-    assert!(rt;
-        give(
-            &words,
-            &mut pass,
-            0,
-            FlagAnd {
-                bits: 0xa_0000_000f
-            }
-        )
-    );
-    assert!(rt; poll(&words, &mut pass, &group, &mut found).is_none());
+    assert!(rt; give(&words, &mut pass, 0, flag(0xa_0000_000f)));
+    assert!(rt; poll(&words, &mut pass, &GROUP, &mut found).is_none());
     // One load of the list, then the places of ranks 0 and 1.
     assert_eq!(rt; (pass.loads, pass.exchanges), (3, 1));
     // The wing of rank 0, which it had set before its place.
     assert_eq!(rt; (pass.wing_loads, pass.spreads), (1, 1));
-    assert!(rt;
-        give(
-            &words,
-            &mut pass,
-            1,
-            FlagAnd {
-                bits: 0x6_0000_003c
-            }
-        )
-    );
+    assert!(rt; give(&words, &mut pass, 1, flag(0x6_0000_003c)));
     assert!(rt; declare(&words, &mut pass, 2) == Appended::Won(0));
     assert_eq!(rt; (pass.loads, pass.exchanges), (4, 3));
-    let all = poll(&words, &mut pass, &group, &mut found);
+    let all = poll(&words, &mut pass, &GROUP, &mut found);
     // Two loads of the list, the mark of rank 2, and the places of all.
     assert_eq!(rt; (pass.loads, pass.exchanges), (9, 4));
     // Rank 2 has a mark, which has no wing.
@@ -165,9 +146,10 @@ fn steps_over_own_words(rt: HostRuntime) -> Result<(), Fail> {
 fn a_rank_contributes_once(rt: HostRuntime) -> Result<(), Fail> {
     let words = Counted::<FlagAnd>::open(THREE)?;
     let mut pass = words.pass(rt.alloc())?;
-    assert!(rt; give(&words, &mut pass, 0, FlagAnd { bits: 0xf }));
+    let gives = give(&words, &mut pass, 0, flag(0xf));
     // Its wing is set, and nothing is tried beside that.
-    assert!(rt; !give(&words, &mut pass, 0, FlagAnd { bits: 0xf }));
+    let again = give(&words, &mut pass, 0, flag(0xf));
+    assert!(rt; gives && !again);
     assert_eq!(rt; (pass.spreads, pass.exchanges), (2, 1));
     Ok(())
 }

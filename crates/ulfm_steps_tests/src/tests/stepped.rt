@@ -5,7 +5,7 @@ ghost use Rattle.ulfm_words.specs.Steps.{view_of, IsView};
 ghost use Rattle.ulfm_steps.specs.Marks.{MayMarkAll};
 
 use crate::tests::counted::Counted;
-use crate::tests::world::THREE;
+use crate::tests::world::{GROUP, THREE};
 use std::alloc::Allocator;
 use std::test::Fail;
 use ulfm_intruder::ReadRound;
@@ -22,8 +22,8 @@ fn declare<P: Packed, A: Allocator, W: Words<P, A>>(
     pass: &mut W::Pass,
     rank: u16,
 ) -> Appended
-    requires of { IsView P.meld (view_of P.pack (W.name words.now) (W.sight pass.old)) }
     requires there { rank < (W.name words.now).limits.ranks }
+    requires of { IsView P.meld (view_of P.pack (W.name words.now) (W.sight pass.old)) }
     ensures { IsView P.meld (view_of P.pack (W.name words.now) (W.sight pass.new)) }
 {
     let mut append = Append::new(Item::Failure { rank }, Caller::Outside);
@@ -111,19 +111,18 @@ fn one_step_at_a_time(rt: HostRuntime) -> Result<(), Fail> {
     let words = Counted::<FlagAnd>::open(THREE)?;
     let mut pass = words.pass(rt.alloc())?;
     let mut found = Vec::with_capacity(rt.alloc(), 3)?;
-    let group = [0, 1, 2];
     assert!(rt; declare(&words, &mut pass, 2) == Appended::Won(0));
     assert!(rt; declare(&words, &mut pass, 0) == Appended::Won(1));
     assert!(rt; declare(&words, &mut pass, 2) == Appended::Found(0));
     assert!(rt; declare(&words, &mut pass, 1) == Appended::Won(2));
     // At each place a load, and an exchange where it is empty.
     assert_eq!(rt; (pass.loads, pass.exchanges), (7, 3));
-    assert!(rt; read(&words, &mut pass, &group).is_none());
+    assert!(rt; read(&words, &mut pass, &GROUP).is_none());
     assert_eq!(rt; (pass.loads, pass.exchanges), (8, 3));
-    look_and_mark(&words, &mut pass, &group, &mut found);
+    look_and_mark(&words, &mut pass, &GROUP, &mut found);
     assert_eq!(rt; found.as_slice(), [2, 0, 1].as_slice());
     assert_eq!(rt; (pass.loads, pass.exchanges), (11, 6));
-    assert!(rt; read(&words, &mut pass, &group).is_some());
+    assert!(rt; read(&words, &mut pass, &GROUP).is_some());
     assert_eq!(rt; (pass.loads, pass.exchanges), (14, 6));
     Ok(())
 }

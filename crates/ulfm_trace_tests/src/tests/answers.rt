@@ -91,7 +91,7 @@ fn is_unrefused<A: Allocator + Copy>(
             let offer = Offer::Ctx(holder.free_ids());
             is_started(asking, holder, comm, rank, offer, reply)
         }
-        Call::Barrier { comm, .. } => Ok(is_arrived(asking, holder, comm, rank, reply)),
+        Call::Barrier { comm, .. } => Ok(is_arrived(asking, holder, (comm, rank), reply)),
         Call::Poll { comm, .. } => match holder.at(comm) {
             None => Ok(false),
             Some(held) => is_polled(asking, held, rank, reply, group),
@@ -130,14 +130,14 @@ fn is_started<A: Allocator + Copy>(
     }
 }
 
-/// The start of a barrier.
+/// The start of a barrier, on a communicator by a rank.
 fn is_arrived<A: Allocator + Copy>(
     asking: &Asking<'_, A>,
     holder: &Holder<A>,
-    comm: u16,
-    rank: u16,
+    by: (u16, u16),
     reply: Reply<FlagAnd>,
 ) -> bool {
+    let (comm, rank) = by;
     let Some(held) = holder.at(comm) else {
         return false;
     };

@@ -36,15 +36,15 @@ pub(crate) fn those<A: Allocator>(
 }
 
 /// The place of an agreement round that an event settles.
-fn place_of(event: Event<FlagAnd>) -> Option<(u16, u16, u16)> {
+pub(crate) fn place_of(event: Event<FlagAnd>) -> Option<(u16, u16, u16)> {
     match event {
         Event::Settle {
             comm,
             round,
             rank,
             ..
-        }
-        | Event::Mark {
+        } => Some((comm, round, rank)),
+        Event::Mark {
             comm,
             round,
             rank,
@@ -55,7 +55,7 @@ fn place_of(event: Event<FlagAnd>) -> Option<(u16, u16, u16)> {
 }
 
 /// What an event settles at its place of an agreement round.
-fn slot_of(event: Event<FlagAnd>) -> Option<Slot<FlagAnd>> {
+pub(crate) fn slot_of(event: Event<FlagAnd>) -> Option<Slot<FlagAnd>> {
     match event {
         Event::Settle { given, .. } => Some(Slot::Given(given)),
         Event::Mark { known, .. } => Some(Slot::Mark(known)),

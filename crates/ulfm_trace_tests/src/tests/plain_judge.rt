@@ -4,11 +4,13 @@ ghost use Rattle.std.specs.Prelude.{◌<◌, length, IfSome};
 use crate::tests::answers::{Asking, is_answer, is_fail_answer};
 use crate::tests::holder::{Holder, caller_of, may_own};
 use crate::tests::past::{
-    Comm, comm_at, decided, failures, first, has_arrived, is_revoked, made_of, slot_at,
+    Comm, comm_at, decided, failures, first, has_arrived, is_revoked, made_of, place_of, slot_at,
+    slot_of,
 };
 use std::alloc::{AllocError, Allocator};
 use ulfm_laws::FlagAnd;
 use ulfm_laws::summary::Body;
+use ulfm_model::contribution::Slot;
 use ulfm_model::{Call, Caller, Entry, Event, Limits, Line, Refusal, Reply, Why};
 
 /// A call under way.
@@ -123,27 +125,26 @@ impl<A: Allocator + Copy> PlainJudge<A> {
 
     /// Whether an event may come next, in anybody's name.
     fn may_follow(&self, event: Event<FlagAnd>) -> Result<bool, AllocError> {
+        match (place_of(event), slot_of(event)) {
+            (Some(place), Some(Slot::Given(given))) => {
+                let of = self.comm(place.0)?;
+                let known = usize::from(given.known.count) <= of.failed.len();
+                Ok(known && self.is_open(&of, place))
+            }
+            (Some(place), Some(Slot::Mark(mark))) => {
+                self.may_mark(place, usize::from(mark.known.count))
+            }
+            _ => self.may_come(event),
+        }
+    }
+
+    /// The same, of an event that settles nothing.
+    fn may_come(&self, event: Event<FlagAnd>) -> Result<bool, AllocError> {
         match event {
             Event::Fail { rank } => {
                 let found = failures(self.alloc, &self.past)?;
                 Ok(rank < self.limits.ranks && !found.contains(&rank))
             }
-            Event::Settle {
-                comm,
-                round,
-                rank,
-                given,
-            } => {
-                let of = self.comm(comm)?;
-                let known = usize::from(given.known.count) <= of.failed.len();
-                Ok(known && self.is_open(&of, (comm, round, rank)))
-            }
-            Event::Mark {
-                comm,
-                round,
-                rank,
-                known,
-            } => self.may_mark((comm, round, rank), usize::from(known.known.count)),
             Event::Arrive { comm, round, rank } => {
                 let of = self.comm(comm)?;
                 let free = !has_arrived(&self.past, (comm, round, rank));
@@ -158,6 +159,7 @@ impl<A: Allocator + Copy> PlainJudge<A> {
                 parent,
                 round,
             } => self.may_spawn(comm, (parent, round)),
+            Event::Settle { .. } | Event::Mark { .. } => Ok(false),
         }
     }
 

@@ -30,14 +30,13 @@ fn lines_of<'a, A: Allocator>(alloc: A, text: &'a [u8]) -> Result<Vec<&'a [u8], 
     Ok(lines)
 }
 
-/// A text whose line at this place, from 0, is changed; none where there is no such line.
+/// A text of these lines whose line at this place, from 0, is changed; none where there is no such line.
 fn with_line<A: Allocator + Copy>(
     alloc: A,
-    text: &[u8],
+    lines: &[&[u8]],
     change: Change,
     place: usize,
 ) -> Result<Option<Vec<u8, A>>, AllocError> {
-    let lines = lines_of(alloc, text)?;
     if place >= lines.len() {
         return Ok(None);
     }
@@ -141,6 +140,6 @@ pub fn changed<A: Allocator + Copy>(
 ) -> Result<Option<Vec<u8, A>>, AllocError> {
     match change {
         Change::More | Change::Less => with_number(alloc, text, change, place),
-        _ => with_line(alloc, text, change, place),
+        _ => with_line(alloc, &lines_of(alloc, text)?, change, place),
     }
 }

@@ -1,29 +1,20 @@
-use Rattle.std.proofs.Common.{◌≡◌, sym, ◌∙◌, ap, subst}
+use Rattle.std.proofs.Common.{sym, ◌∙◌, ap, subst}
 use Rattle.ulfm_model.specs.Blocks.{IsBlock, IsBlockWithin}
 use Rattle.ulfm_words.specs.{Blocks.{IsSpreadBlock}, Steps.{Sight, view_of}}
-use Rattle.ulfm_book.specs.{Logs.{history_in, limits_in}, Rules.{book_of, sight_of, word_named}, Layout.{block_offset}}
-use Rattle.ulfm_book.proofs.{Caching.{add_block_moves}, Telling.{cache_lost_tells, cache_won_tells}}
+use Rattle.ulfm_book.specs.{Logs.{history_in, limits_in}, Rules.{sight_of}, Layout.{block_offset}}
+use Rattle.ulfm_book.proofs.{Owning.{own_word}, Caching.{add_block_moves}, Telling.{cache_lost_tells, cache_won_tells}}
 use Rattle.ulfm_book.proofs.pass.BookPass.cache.Goals as goal
 
 pub compare_exchange-stood-requires : goal.compare_exchange-stood-requires
 compare_exchange-stood-requires g c =
     let seen = c.self.inside.seen in
-    let block = c.args.block in
-    let word : c.args.word.now ≡ word_named seen.book (block_offset (limits_in seen.log) block) =
-    subst (λ s. c.args.word.now ≡ word_named (book_of s.name) (block_offset s.name.limits block)) (sym c.self.view_is) c.requires.word in
-    let within : IsBlockWithin (limits_in seen.log) block = subst (λ s. IsBlockWithin s.name.limits block) (sym c.self.view_is) c.requires.within in
-    let may : IsBlock g.P.Meld.meld g.P.Packed.pack (limits_in seen.log).ranks (history_in seen.log) block c.args.said =
-    subst (λ s. IsBlock g.P.Meld.meld g.P.Packed.pack s.name.limits.ranks s.seen block c.args.said) (sym c.self.view_is) c.requires.may in
-    let spread : IsSpreadBlock (view_of g.P.Packed.pack c.args.self.now.name (sight_of seen.book seen.log c.self.inside.trail.log.items)) block =
-    subst (λ (s : Sight _). IsSpreadBlock (view_of g.P.Packed.pack c.args.self.now.name s) block) (sym c.self.view_is) c.requires.winged in
-    let book : seen.book ≡ c.args.word.now.book = sym (ap (λ w. w.book) word) in (
-      ap (λ w. w.tracked) word,
-      book,
-      c.no_pen-pen.ensures.0 ∙ book,
-      c.plain-offer.ensures.0,
-      rw (c.plain-offer.ensures.3, c.no_pen-pen.ensures.1)
-          (add_block_moves g.P.Meld.meld g.P.Packed.pack block seen.log c.args.word.now.key c.self.invariant within (ap (λ w. w.key) word) c.args.said spread.0 c.plain-offer.result.ask may spread.2),
-    )
+    let own = own_word c.self.inside.seen.log c.self.inside.seen.book c.self.inside.trail.log.items c.args.self.now (λ n. IsBlockWithin n c.args.block) (λ n. block_offset n c.args.block) c.args.word.now c.self.view_is c.requires.within c.requires.word in
+    let may : IsBlock g.P.Meld.meld g.P.Packed.pack (limits_in seen.log).ranks (history_in seen.log) c.args.block c.args.said =
+    subst (λ s. IsBlock g.P.Meld.meld g.P.Packed.pack s.name.limits.ranks s.seen c.args.block c.args.said) (sym c.self.view_is) c.requires.may in
+    let spread : IsSpreadBlock (view_of g.P.Packed.pack c.args.self.now.name (sight_of seen.book seen.log c.self.inside.trail.log.items)) c.args.block =
+    subst (λ (s : Sight _). IsSpreadBlock (view_of g.P.Packed.pack c.args.self.now.name s) c.args.block) (sym c.self.view_is) c.requires.winged in
+    let moves = add_block_moves g.P.Meld.meld g.P.Packed.pack c.args.block seen.log c.args.word.now.key c.self.invariant own.within own.key c.args.said spread.0 c.plain-offer.result.ask may spread.2 in
+    (own.tracked, own.book, c.no_pen-pen.ensures.0 ∙ own.book, c.plain-offer.ensures.0, rw (c.plain-offer.ensures.3, c.no_pen-pen.ensures.1) moves)
 
 pub returns-then-stood-eq0 : goal.returns-then-stood-eq0
 returns-then-stood-eq0 g c =

@@ -1,20 +1,14 @@
-use Rattle.std.proofs.Common.{◌≡◌, sym, ap, subst}
+use Rattle.std.proofs.Common.{ap}
 use Rattle.ulfm_words.specs.Places.{IsWithin}
-use Rattle.ulfm_book.specs.{Logs.{limits_in}, Rules.{book_of, word_named}, Layout.{place_offset}}
-use Rattle.ulfm_book.proofs.{Moving.{look_moves}, Telling.{load_tells}}
+use Rattle.ulfm_book.specs.{Layout.{place_offset}}
+use Rattle.ulfm_book.proofs.{Owning.{own_word}, Moving.{look_moves}, Telling.{load_tells}}
 use Rattle.ulfm_book.proofs.pass.BookPass.load.Goals as goal
 
 pub load-found-requires : goal.load-found-requires
 load-found-requires g c =
-    let seen = c.self.inside.seen in
-    let word : c.args.word.now ≡ word_named seen.book (place_offset (limits_in seen.log) c.args.place) =
-    subst (λ s. c.args.word.now ≡ word_named (book_of s.name) (place_offset s.name.limits c.args.place)) (sym c.self.view_is) c.requires.word in
-    let within : IsWithin (limits_in seen.log) c.args.place = subst (λ s. IsWithin s.name.limits c.args.place) (sym c.self.view_is) c.requires.within in (
-      ap (λ w. w.tracked) word,
-      sym (ap (λ w. w.book) word),
-      c.plain-offer.ensures.0,
-      rw c.plain-offer.ensures.3 (look_moves g.P.Meld.meld g.P.Packed.pack c.args.place seen.log c.args.word.now.key c.self.invariant within (ap (λ w. w.key) word) c.plain-offer.result.ask),
-    )
+    let own = own_word c.self.inside.seen.log c.self.inside.seen.book c.self.inside.trail.log.items c.args.self.now (λ n. IsWithin n c.args.place) (λ n. place_offset n c.args.place) c.args.word.now c.self.view_is c.requires.within c.requires.word in
+    let moves = look_moves g.P.Meld.meld g.P.Packed.pack c.args.place c.self.inside.seen.log c.args.word.now.key c.self.invariant own.within own.key c.plain-offer.result.ask in
+    (own.tracked, own.book, c.plain-offer.ensures.0, rw c.plain-offer.ensures.3 moves)
 
 pub returns-clause-loads : goal.returns-clause-loads
 returns-clause-loads g c =

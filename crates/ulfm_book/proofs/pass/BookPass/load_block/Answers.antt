@@ -1,20 +1,14 @@
-use Rattle.std.proofs.Common.{◌≡◌, sym, ap, subst}
+use Rattle.std.proofs.Common.{ap}
 use Rattle.ulfm_model.specs.Blocks.{IsBlockWithin}
-use Rattle.ulfm_book.specs.{Logs.{limits_in}, Rules.{book_of, word_named}, Layout.{block_offset}}
-use Rattle.ulfm_book.proofs.{Caching.{look_block_moves}, Telling.{load_block_tells}}
+use Rattle.ulfm_book.specs.{Layout.{block_offset}}
+use Rattle.ulfm_book.proofs.{Owning.{own_word}, Caching.{look_block_moves}, Telling.{load_block_tells}}
 use Rattle.ulfm_book.proofs.pass.BookPass.load_block.Goals as goal
 
 pub load-found-requires : goal.load-found-requires
 load-found-requires g c =
-    let seen = c.self.inside.seen in
-    let word : c.args.word.now ≡ word_named seen.book (block_offset (limits_in seen.log) c.args.block) =
-    subst (λ s. c.args.word.now ≡ word_named (book_of s.name) (block_offset s.name.limits c.args.block)) (sym c.self.view_is) c.requires.word in
-    let within : IsBlockWithin (limits_in seen.log) c.args.block = subst (λ s. IsBlockWithin s.name.limits c.args.block) (sym c.self.view_is) c.requires.within in (
-      ap (λ w. w.tracked) word,
-      sym (ap (λ w. w.book) word),
-      c.plain-offer.ensures.0,
-      rw c.plain-offer.ensures.3 (look_block_moves g.P.Meld.meld g.P.Packed.pack c.args.block seen.log c.args.word.now.key c.self.invariant within (ap (λ w. w.key) word) c.plain-offer.result.ask),
-    )
+    let own = own_word c.self.inside.seen.log c.self.inside.seen.book c.self.inside.trail.log.items c.args.self.now (λ n. IsBlockWithin n c.args.block) (λ n. block_offset n c.args.block) c.args.word.now c.self.view_is c.requires.within c.requires.word in
+    let moves = look_block_moves g.P.Meld.meld g.P.Packed.pack c.args.block c.self.inside.seen.log c.args.word.now.key c.self.invariant own.within own.key c.plain-offer.result.ask in
+    (own.tracked, own.book, c.plain-offer.ensures.0, rw c.plain-offer.ensures.3 moves)
 
 pub returns : goal.returns
 returns g c =

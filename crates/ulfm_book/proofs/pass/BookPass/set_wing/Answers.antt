@@ -1,30 +1,22 @@
 use Rattle.std.proofs.Common.{◌≡◌, ◌++◌, ◌∷◌, [], false, sym, ◌∙◌, ap, subst}
 use Rattle.ulfm_words.specs.{Blocks.{MaySetWing}, Places.{IsWingWithin}, Steps.{Sight, view_of}}
 use Rattle.ulfm_words.proofs.Standing.{at_wing}
-use Rattle.ulfm_book.specs.{Logs.{limits_in}, Rules.{book_of, name_of, sight_of, word_named}, Layout.{wing_offset}}
-use Rattle.ulfm_book.proofs.{Spreading.{add_wing_moves, may_own, may_some}, Telling.{wing_lost_tells, wing_won_tells}}
+use Rattle.ulfm_book.specs.{Logs.{limits_in}, Rules.{name_of, sight_of}, Layout.{wing_offset}}
+use Rattle.ulfm_book.proofs.{Owning.{own_word}, Spreading.{add_wing_moves, may_own, may_some}, Telling.{wing_lost_tells, wing_won_tells}}
 use Rattle.ulfm_book.proofs.pass.BookPass.set_wing.Goals as goal
 use Rattle.ulfm_book.proofs.pass.BookPass.set_wing.Goals.{then-before-eq0, else-before-eq0, Then-before-eq0-2, Else-before-eq0-2}
 
 pub compare_exchange-before-requires : goal.compare_exchange-before-requires
 compare_exchange-before-requires g c =
     let seen = c.self.inside.seen in
-    let wing = c.args.wing in
-    let word : c.args.word.now ≡ word_named seen.book (wing_offset (limits_in seen.log) wing) =
-    subst (λ s. c.args.word.now ≡ word_named (book_of s.name) (wing_offset s.name.limits wing)) (sym c.self.view_is) c.requires.word in
-    let within : IsWingWithin (limits_in seen.log) wing = subst (λ s. IsWingWithin s.name.limits wing) (sym c.self.view_is) c.requires.within in
+    let own = own_word c.self.inside.seen.log c.self.inside.seen.book c.self.inside.trail.log.items c.args.self.now (λ n. IsWingWithin n c.args.wing) (λ n. wing_offset n c.args.wing) c.args.word.now c.self.view_is c.requires.within c.requires.word in
     let view = view_of g.P.Packed.pack (name_of seen.book (limits_in seen.log)) (sight_of seen.book seen.log c.self.inside.trail.log.items) in
-    let may : MaySetWing g.P.Meld.meld g.P.Packed.pack view wing c.args.upper =
-    subst (λ (s : Sight _). MaySetWing g.P.Meld.meld g.P.Packed.pack (view_of g.P.Packed.pack s.name s) wing c.args.upper) (sym c.self.view_is) c.requires.may in
-    let book : seen.book ≡ c.args.word.now.book = sym (ap (λ w. w.book) word) in (
-      ap (λ w. w.tracked) word,
-      book,
-      c.no_pen-pen.ensures.0 ∙ book,
-      c.plain-offer.ensures.0,
-      rw (c.plain-offer.ensures.3, c.no_pen-pen.ensures.1)
-          (add_wing_moves g.P.Meld.meld g.P.Packed.pack wing seen.log c.args.word.now.key c.self.invariant within (ap (λ w. w.key) word) c.args.upper c.plain-offer.result.ask
-          (may_some g.P.Meld.meld g.P.Packed.pack view wing c.args.upper may) (may_own g.P.Meld.meld g.P.Packed.pack view wing c.args.upper may)),
-    )
+    let may : MaySetWing g.P.Meld.meld g.P.Packed.pack view c.args.wing c.args.upper =
+    subst (λ (s : Sight _). MaySetWing g.P.Meld.meld g.P.Packed.pack (view_of g.P.Packed.pack s.name s) c.args.wing c.args.upper) (sym c.self.view_is) c.requires.may in
+    let pos = may_some g.P.Meld.meld g.P.Packed.pack view c.args.wing c.args.upper may in
+    let same = may_own g.P.Meld.meld g.P.Packed.pack view c.args.wing c.args.upper may in
+    let moves = add_wing_moves g.P.Meld.meld g.P.Packed.pack c.args.wing seen.log c.args.word.now.key c.self.invariant own.within own.key c.args.upper c.plain-offer.result.ask pos same in
+    (own.tracked, own.book, c.no_pen-pen.ensures.0 ∙ own.book, c.plain-offer.ensures.0, rw (c.plain-offer.ensures.3, c.no_pen-pen.ensures.1) moves)
 
 -- the step, with the word that stands after it
 won : (g : _) (c : Then-before-eq0-2 g) → c.and-self-inside.result.log.items ≡ c.self.inside.trail.log.items ++ at_wing c.args.wing c.args.upper false ∷ []

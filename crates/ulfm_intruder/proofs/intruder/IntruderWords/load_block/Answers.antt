@@ -1,29 +1,8 @@
-use Rattle.std.proofs.Common.{◌≡◌, ◌++◌, ◌∷◌, [], true, false, Some, ap, subst, ◌∙◌}
-use Rattle.ulfm_model.specs.{Blocks.{IsCached}, History.{IsLegal}}
-use Rattle.ulfm_model.proofs.Lists.{prefix_trans}
-use Rattle.ulfm_words.specs.declared.step.Site.{Site}
-use Rattle.ulfm_words.proofs.Trails.{did_wait}
-use Rattle.ulfm_intruder.proofs.{Noted.{noted, noted_block, noted_count, noted_last}, Welcome.{unalone}}
+use Rattle.ulfm_intruder.proofs.{Passing.{loads_block_after}}
 use Rattle.ulfm_intruder.proofs.intruder.IntruderWords.load_block.Goals as goal
 
 pub returns : goal.returns
 returns g c =
     let first = c.intrude.ensures in
-    let old = c.args.pass.now.plain in
-    let mid = c.intrude.new.pass.plain in
-    let new = c.load_block-word.new.self in
-    let log = c.args.pass.now.trail.log.items in
-    let after = c.note.new.self.trail.log.items in
-    let is : after ≡ log ++ noted (Site.Block c.args.block) c.load_block-word.result true ∷ [] = c.note.ensures.log ∙ ap (λ t. t.log.items ++ noted (Site.Block c.args.block) c.load_block-word.result true ∷ []) first.trail in
-    let e = c.load_block-word.ensures in
-    rw c.note.ensures.plain (record {
-      of = record { name_is = e.of.name_is ∙ first.of.name_is; may_open = first.of.may_open; legal = subst (λ n. IsLegal g.P.Meld.meld n.limits new.seen) first.of.name_is e.of.legal };
-      did = did_wait false _ old.seen mid.seen new.seen first.did (unalone true [] mid.seen new.seen e.did);
-      cached = prefix_trans old.cached mid.cached new.cached first.cached e.cached;
-      caches = noted_block log after c.load_block-word.result c.args.block is;
-      steps = noted_count log after (Site.Block c.args.block) c.load_block-word.result true is;
-      last = noted_last log after (Site.Block c.args.block) c.load_block-word.result true is;
-      stands = subst (λ n. IsCached g.P.Meld.meld g.P.Packed.pack n.limits.ranks new.seen c.args.block c.load_block-word.result) first.of.name_is e.stands;
-      unset = e.unset;
-      set = e.set;
-    })
+    rw c.note.ensures.plain (loads_block_after g.P.Meld.meld g.P.Packed.pack _ c.args.pass.now.plain c.intrude.new.pass.plain c.load_block-word.new.self _ _ c.note.new.self.trail (record { of = first.of; did = first.did; cached = first.cached; same = first.trail })
+    c.args.block c.load_block-word.result c.note.ensures.log c.load_block-word.ensures)

@@ -1,6 +1,5 @@
-use Rattle.std.proofs.Common.{◌≡◌, ℕ, ◌+◌, ◌≤◌, true, false, slice_index_or, length, take, ap, ◌∙◌, arith, rules}
+use Rattle.std.proofs.Common.{ℕ, ◌+◌, ◌≤◌, true, false, slice_index_or, take, ap, ◌∙◌, arith, rules}
 use Rattle.ulfm_laws.specs.Summaries.{summary_meld}
-use Rattle.ulfm_model.specs.Laws.{summary_of}
 use Rattle.ulfm_model.proofs.Summed.{summed_later, summed_push}
 use Rattle.ulfm_words.specs.Steps.{view_of, Goes}
 use Rattle.ulfm_words.proofs.Trails.{did_prefix}
@@ -74,13 +73,12 @@ pub returns-in-First-clause-reads : goal.returns-in-First-clause-reads
 returns-in-First-clause-reads g c =
     let r = c.args.self.now in
     let old = (g.W.Words.sight c.args.pass.now).seen in
-    let new = (g.W.Words.sight c.load_slot.new.pass).seen in
     record {
       goes = went g (goal.at.returns-in-First-clause-reads g c).After-load_slot;
       takes = takes g (goal.at.returns-in-First-clause-reads g c).After-load_slot _ (rw c.requires.none (omega (arith, c.requires.more)));
       comm = search rules;
       round = search rules;
-      read = summed_later g.P.Meld.meld old new r.comm r.round (take r.read c.args.group.now) r.all (did_prefix g.W.Words.alone _ old new c.load_slot.ensures.loads.did) c.requires.may.read;
+      read = summed_later g.P.Meld.meld old (g.W.Words.sight c.load_slot.new.pass).seen r.comm r.round (take r.read c.args.group.now) r.all (did_prefix g.W.Words.alone _ old _ c.load_slot.ensures.loads.did) c.requires.may.read;
       first = (c.requires.more, c.in-First.ensures.found);
       missing = search rules;
       within = omega (arith, c.requires.more);

@@ -1,4 +1,4 @@
-use Rattle.std.proofs.Common.{◌≡◌, ◌<◌, length, slice_index_or, take, ap, subst, ◌∙◌, IfSome, arith, rules}
+use Rattle.std.proofs.Common.{◌<◌, length, slice_index_or, take, ap, subst, ◌∙◌, IfSome, arith, rules}
 use Rattle.ulfm_laws.specs.Summaries.{summary_meld}
 use Rattle.ulfm_model.specs.{History.{slot}}
 use Rattle.ulfm_words.specs.Blocks.{IsFirstOf}

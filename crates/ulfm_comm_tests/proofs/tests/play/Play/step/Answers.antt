@@ -6,9 +6,9 @@ use Rattle.ulfm_comm_tests.proofs.tests.play.Play.step.Goals as goal
 
 pub step-requires-clause-sits : goal.step-requires-clause-sits
 step-requires-clause-sits g c =
-    let name = over g.P.Packed.pack c.self.inside.world in
     rw c.index_mut.ensures.value
-    (each_at (Plays g.P.Meld.meld name (g.W.Words.sight c.self.inside.pass)) c.self.inside.seats.items c.args.rank _ c.self.invariant.sits (omega (arith, c.if-rank-len.false, c.len.ensures)))
+    (each_at (Plays g.P.Meld.meld (over g.P.Packed.pack c.self.inside.world) (g.W.Words.sight c.self.inside.pass)) c.self.inside.seats.items c.args.rank _ c.self.invariant.sits
+    (omega (arith, c.if-rank-len.false, c.len.ensures)))
 
 pub invariant_of-self : goal.invariant_of-self
 invariant_of-self g c =

@@ -68,6 +68,18 @@ impl Engine {
 
 const ENGINES: [Engine; 3] = [Engine::Calls, Engine::Steps, Engine::FailingSteps];
 
+/// The script was run to its end, and all of the output was taken.
+fn is_whole(
+    rt: &impl Abort,
+    end: Result<(), RunFault>,
+    output: &LimitedWriter,
+    whole: &[u8],
+) -> Result<(), Fail> {
+    assert_eq!(rt; end, Ok(()));
+    assert_eq!(rt; output.bytes.as_slice(), whole);
+    Ok(())
+}
+
 /// The whole lines at the beginning of a text.
 fn whole_lines(text: &[u8]) -> &[u8] {
     match text.iter().rposition(|byte| *byte == b'\n') {
@@ -85,9 +97,7 @@ fn fail_reads(rt: &impl Abort, alloc: Global, engine: Engine, most: usize) -> Re
         let mut output = LimitedWriter::new(alloc, 10_000, 0, FailureMode::ByError);
         let end = engine.run(alloc, &mut input, &mut output);
         if input.calls < failing {
-            assert_eq!(rt; end, Ok(()));
-            assert_eq!(rt; output.bytes.as_slice(), whole.as_slice());
-            return Ok(());
+            return is_whole(rt, end, &output, &whole);
         }
         assert_eq!(rt; end, Err(RunFault::Read), "{failing}");
         let given = script.len().saturating_sub(input.text.len());
@@ -127,9 +137,7 @@ fn fail_writes(
         let mut output = LimitedWriter::new(alloc, most, failing, how);
         let end = engine.run(alloc, &mut input, &mut output);
         if output.calls < failing {
-            assert_eq!(rt; end, Ok(()));
-            assert_eq!(rt; output.bytes.as_slice(), whole.as_slice());
-            return Ok(());
+            return is_whole(rt, end, &output, &whole);
         }
         assert_eq!(rt; end, Err(RunFault::Write), "{failing}");
         assert!(rt; whole.starts_with(output.bytes.as_slice()), "{failing}");

@@ -1,6 +1,6 @@
 use denote.Text.{Utf8}
 use denote.Shadow.{shadow}
-use Rattle.ulfm_run_tests.proofs.judged.add_agreed.Given as goal
+use Rattle.ulfm_run_tests.proofs.tests.judged.add_agreed.Given as goal
 
 abbrev pub invariant-loop-line : goal.invariant-loop-line
 invariant-loop-line l =

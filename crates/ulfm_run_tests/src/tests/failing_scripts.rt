@@ -2,7 +2,7 @@
 //! declared behind each step.
 ghost use Rattle.std.specs.Prelude.{◌<◌};
 
-use crate::judged;
+use crate::tests::judged;
 use std::alloc::Global;
 use std::io::{self, Write};
 use std::process::Abort;
