@@ -36,10 +36,6 @@ module _ {P : Type 0} (meld : P → P → P) (pack : P → ℕ) where
       legal = subst (λ n. IsLegal meld n (history_in new)) s.limits s.is_log.legal;
     }
 
-    -- others' events alone may have come in between
-    came : Extends meld old new → Did false [] (history_in old) (history_in new)
-    came s = others (history_in old) (history_in new) s.history
-
     one_more : (step : Last × Bool) → trail' ≡ trail ++ step ∷ [] → length trail' ≡ length trail + 1
     one_more step is = ap length is ∙ length-append trail (step ∷ [])
 
@@ -55,8 +51,16 @@ module _ {P : Type 0} (meld : P → P → P) (pack : P → ℕ) where
     pub load_tells : (p : Place) (k found : ℕ) (pass : Sight P) → sight_of b old trail ≡ pass → LoadTells p k found pass
     load_tells p k found pass e =
         subst (LoadTells p k found) e (λ of within key same looks is.
-        let word : found ≡ word_at pack (history_in new) p = sym (found_at old new p k found looks.0 within key looks.1) in
-        record { of = still same of.may_open looks.0; did = came looks.0; cached = looks.0.cached; caches = ap caches_in is ∙ caches_place trail p found true; steps = one_more _ is; last = last_is _ is ∙ ap (λ n. Some (made (Site.Place p) n true).0) word })
+        let s = looks.0 in
+        let word : found ≡ word_at pack (history_in new) p = sym (found_at old new p k found s within key looks.1) in
+        record {
+          of = still same of.may_open s;
+          did = others (history_in old) (history_in new) s.history;
+          cached = s.cached;
+          caches = ap caches_in is ∙ caches_place trail p found true;
+          steps = one_more (made (Site.Place p) found true) is;
+          last = last_is (made (Site.Place p) found true) is ∙ ap (λ n. Some (made (Site.Place p) n true).0) word;
+        })
 
     -- what an exchange of this step sees and finds, where it asked for this line
     abbrev Finds : Step → ℕ → ℕ → Line P → Type 0
@@ -130,9 +134,19 @@ module _ {P : Type 0} (meld : P → P → P) (pack : P → ℕ) where
     pub load_block_tells : (block : Block) (k found : ℕ) (pass : Sight P) → sight_of b old trail ≡ pass → LoadBlockTells block k found pass
     load_block_tells block k found pass e =
         subst (LoadBlockTells block k found) e (λ of within key same looks is.
-        let stands = of_block block k (λ x. IsOfBlock meld pack new x found) looks.0 within key looks.1 in
-        let standing = subst (λ n. IsCached meld pack n.ranks (history_in new) block found) looks.0.limits stands.stands in
-        record { of = still same of.may_open looks.0; did = came looks.0; cached = looks.0.cached; caches = ap caches_in is ∙ caches_loaded trail block found; steps = one_more _ is; last = last_is _ is; stands = standing; unset = stands.unset; set = stands.set })
+        let s = looks.0 in
+        let stands = of_block block k (λ x. IsOfBlock meld pack new x found) s within key looks.1 in
+        record {
+          of = still same of.may_open s;
+          did = others (history_in old) (history_in new) s.history;
+          cached = s.cached;
+          caches = ap caches_in is ∙ caches_loaded trail block found;
+          steps = one_more (made (Site.Block block) found true) is;
+          last = last_is (made (Site.Block block) found true) is;
+          stands = subst (λ n. IsCached meld pack n.ranks (history_in new) block found) s.limits stands.stands;
+          unset = stands.unset;
+          set = stands.set;
+        })
 
     abbrev CacheTells : Block → ℕ → ℕ → ℕ → Result (Unit {0}) ℕ → Sight P → Type 0
     CacheTells block k word found result pass = BlockTells block k found false (IsBlockAdded k word found old new) pass (Caches meld false block word (view_of pack pass.name pass) result (view_of pack pass.name (sight_of b' new trail')))
@@ -141,15 +155,35 @@ module _ {P : Type 0} (meld : P → P → P) (pack : P → ℕ) where
     pub cache_won_tells : (block : Block) (k word found : ℕ) (pass : Sight P) → sight_of b old trail ≡ pass → found ≡ 0 → CacheTells block k word found (Ok tt) pass
     cache_won_tells block k word found pass e zero =
         subst (CacheTells block k word found (Ok tt)) e (λ of within key same looks is.
-        let added = of_block block k (λ x. IsAddedBlock word found x old new) looks.0 within key looks.1 in
-        record { of = still same of.may_open looks.0; did = came looks.0; cached = looks.0.cached; caches = ap caches_in is ∙ caches_set trail block found; steps = one_more _ is; last = last_is _ is ∙ ap (λ n. Some (made (Site.Block block) n false).0) zero; set = added.set; stood = added.won zero })
+        let s = looks.0 in
+        let added = of_block block k (λ x. IsAddedBlock word found x old new) s within key looks.1 in
+        record {
+          of = still same of.may_open s;
+          did = others (history_in old) (history_in new) s.history;
+          cached = s.cached;
+          caches = ap caches_in is ∙ caches_set trail block found;
+          steps = one_more (made (Site.Block block) found false) is;
+          last = last_is (made (Site.Block block) found false) is ∙ ap (λ n. Some (made (Site.Block block) n false).0) zero;
+          set = added.set;
+          stood = added.won zero;
+        })
 
     -- .. and that was lost
     pub cache_lost_tells : (block : Block) (k word found : ℕ) (pass : Sight P) → sight_of b old trail ≡ pass → found ≢ 0 → CacheTells block k word found (Err found) pass
     cache_lost_tells block k word found pass e some =
         subst (CacheTells block k word found (Err found)) e (λ of within key same looks is.
-        let added = of_block block k (λ x. IsAddedBlock word found x old new) looks.0 within key looks.1 in
-        record { of = still same of.may_open looks.0; did = came looks.0; cached = looks.0.cached; caches = ap caches_in is ∙ caches_set trail block found; steps = one_more _ is; last = last_is _ is; set = added.set; stood = added.lost some })
+        let s = looks.0 in
+        let added = of_block block k (λ x. IsAddedBlock word found x old new) s within key looks.1 in
+        record {
+          of = still same of.may_open s;
+          did = others (history_in old) (history_in new) s.history;
+          cached = s.cached;
+          caches = ap caches_in is ∙ caches_set trail block found;
+          steps = one_more (made (Site.Block block) found false) is;
+          last = last_is (made (Site.Block block) found false) is;
+          set = added.set;
+          stood = added.lost some;
+        })
 
     -- where a wing was looked at under this key
     abbrev WingTells : Wing → ℕ → ℕ → Bool → Type 0 → Sight P → Type 0 → Type 0
@@ -173,9 +207,17 @@ module _ {P : Type 0} (meld : P → P → P) (pack : P → ℕ) where
     pub load_wing_tells : (x : Wing) (k found : ℕ) (pass : Sight P) → sight_of b old trail ≡ pass → LoadWingTells x k found pass
     load_wing_tells x k found pass e =
         subst (LoadWingTells x k found) e (λ of within key same looks is spread.
-        let stands = of_wing x k (λ y. IsSpreadIn new y → IsWing meld pack (limits_in new).ranks (history_in new) y found) looks.0 within key looks.1 in
-        let standing = subst (λ n. IsWing meld pack n.ranks (history_in new) x found) looks.0.limits (stands (still_spread x looks.0 spread)) in
-        record { of = still same of.may_open looks.0; did = came looks.0; cached = looks.0.cached; caches = ap caches_in is ∙ caches_wing_load trail x found; steps = one_more _ is; last = last_is _ is; stands = standing })
+        let s = looks.0 in
+        let stands = of_wing x k (λ y. IsSpreadIn new y → IsWing meld pack (limits_in new).ranks (history_in new) y found) s within key looks.1 in
+        record {
+          of = still same of.may_open s;
+          did = others (history_in old) (history_in new) s.history;
+          cached = s.cached;
+          caches = ap caches_in is ∙ caches_wing_load trail x found;
+          steps = one_more (made (Site.Wing x) found true) is;
+          last = last_is (made (Site.Wing x) found true) is;
+          stands = subst (λ n. IsWing meld pack n.ranks (history_in new) x found) s.limits (stands (still_spread x s spread));
+        })
 
     abbrev SetWingTells : Wing → ℕ → ℕ → ℕ → ℕ → Result (Unit {0}) ℕ → Sight P → Type 0
     SetWingTells x k word found stands result pass =
@@ -185,15 +227,39 @@ module _ {P : Type 0} (meld : P → P → P) (pack : P → ℕ) where
     pub wing_won_tells : (x : Wing) (k word found : ℕ) (pass : Sight P) → sight_of b old trail ≡ pass → found ≡ 0 → SetWingTells x k word found word (Ok tt) pass
     wing_won_tells x k word found pass e zero =
         subst (SetWingTells x k word found word (Ok tt)) e (λ of within key same looks is.
-        let added = (of_wing x k (λ y. IsAddedWing word found y new) looks.0 within key looks.1).won zero in
-        record { of = still same of.may_open looks.0; did = came looks.0; cached = looks.0.cached; caches = ap caches_in is ∙ caches_wing_set trail x word; steps = one_more _ is; last = last_is _ is; set = added.0; some = added.1; was = tt; before = λ here. tt })
+        let s = looks.0 in
+        let added = (of_wing x k (λ y. IsAddedWing word found y new) s within key looks.1).won zero in
+        record {
+          of = still same of.may_open s;
+          did = others (history_in old) (history_in new) s.history;
+          cached = s.cached;
+          caches = ap caches_in is ∙ caches_wing_set trail x word;
+          steps = one_more (made (Site.Wing x) word false) is;
+          last = last_is (made (Site.Wing x) word false) is;
+          set = added.0;
+          some = added.1;
+          was = tt;
+          before = λ here. tt;
+        })
 
     -- .. and that was lost
     pub wing_lost_tells : (x : Wing) (k word found : ℕ) (pass : Sight P) → sight_of b old trail ≡ pass → found ≢ 0 → SetWingTells x k word found found (Err found) pass
     wing_lost_tells x k word found pass e some =
         subst (SetWingTells x k word found found (Err found)) e (λ of within key same looks is.
-        let added = (of_wing x k (λ y. IsAddedWing word found y new) looks.0 within key looks.1).lost some in
-        record { of = still same of.may_open looks.0; did = came looks.0; cached = looks.0.cached; caches = ap caches_in is ∙ caches_wing_set trail x found; steps = one_more _ is; last = last_is _ is; set = added.0; some = omega (arith, some); was = added.1; before = λ here. absurd (cc here) })
+        let s = looks.0 in
+        let added = (of_wing x k (λ y. IsAddedWing word found y new) s within key looks.1).lost some in
+        record {
+          of = still same of.may_open s;
+          did = others (history_in old) (history_in new) s.history;
+          cached = s.cached;
+          caches = ap caches_in is ∙ caches_wing_set trail x found;
+          steps = one_more (made (Site.Wing x) found false) is;
+          last = last_is (made (Site.Wing x) found false) is;
+          set = added.0;
+          some = omega (arith, some);
+          was = added.1;
+          before = λ here. absurd (cc here);
+        })
 
   module _ (b b' t : Book) (old told new : List (Line P)) (trail : List (Last × Bool)) where
     abbrev LearnTells : Heard P → Sight P → Type 0
