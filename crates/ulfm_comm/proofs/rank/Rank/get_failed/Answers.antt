@@ -25,7 +25,7 @@ returns-then-is_err-clause-memory g c = λ _.
     c.call.new.self.own (g.W.Words.sight c.call.new.pass) c.number-rank.ensures c.call.result c.in_ok-counted.ensures c.call.ensures.ends c.requires.fits in
     let lacks = err_of c.put_failed.result c.put_failed.ensures.lacks (sym c.is_err.ensures.value ∙ c.if-is_err.true) h.x (ap (λ (r : Ranked). held_at r.own c.args.comm) c.self.view_is ∙ h.held) in
     let seen = ap (λ (r : Ranked). r.own.seen) c.self.view_is in
-    let all = ap₂ (λ f s. take (length f) s) c.failures-reach.ensures seen ∙ take-length c.call.new.self.own.seen in
+    let all = ap₂ (λ f s. take (length f) s) c.failures-all.ensures seen ∙ take-length c.call.new.self.own.seen in
     subst (λ n. vec_capacity c.args.found.now < n) (ap length (ap (filter (has h.x.group)) all ∙ h.group)) lacks
 
 pub returns-clause-gets : goal.returns-clause-gets
@@ -34,7 +34,7 @@ returns-clause-gets g c =
     c.call.new.self.own (g.W.Words.sight c.call.new.pass) c.number-rank.ensures c.call.result c.in_ok-counted.ensures c.call.ensures.ends c.requires.fits in
     let items = ok_of c.put_failed.result c.put_failed.ensures.group (sym c.is_err.ensures.value ∙ c.if-is_err.false) h.x (ap (λ (r : Ranked). held_at r.own c.args.comm) c.self.view_is ∙ h.held) in
     let seen = ap (λ (r : Ranked). r.own.seen) c.self.view_is in
-    let all = ap₂ (λ f s. take (length f) s) c.failures-reach.ensures seen ∙ take-length c.call.new.self.own.seen in
+    let all = ap₂ (λ f s. take (length f) s) c.failures-all.ensures seen ∙ take-length c.call.new.self.own.seen in
     let number = h.counted ∙ ap length (sym (items ∙ ap (filter (has h.x.group)) all)) in
     subst (λ n. Calls g.P.Meld.meld g.W.Words.alone (call.GetFailed c.args.self.now.own.number c.args.comm) (local c.args.self.now.own (view_of g.P.Packed.pack c.args.world.now (g.W.Words.sight c.args.pass.now))) (FailedGroup n) (local c.call.new.self.own (view_of g.P.Packed.pack c.args.world.now (g.W.Words.sight c.call.new.pass)))) number
     (counted_call g.P.Meld.meld g.W.Words.alone (over g.P.Packed.pack c.args.world.now) false c.number-rank.result c.args.comm c.in_ok-counted.field-0 c.args.self.now.own (g.W.Words.sight c.args.pass.now)
@@ -46,5 +46,5 @@ returns-clause-group g c =
     c.call.new.self.own (g.W.Words.sight c.call.new.pass) c.number-rank.ensures c.call.result c.in_ok-counted.ensures c.call.ensures.ends c.requires.fits in
     let items = ok_of c.put_failed.result c.put_failed.ensures.group (sym c.is_err.ensures.value ∙ c.if-is_err.false) h.x (ap (λ (r : Ranked). held_at r.own c.args.comm) c.self.view_is ∙ h.held) in
     let seen = ap (λ (r : Ranked). r.own.seen) c.self.view_is in
-    let all = ap₂ (λ f s. take (length f) s) c.failures-reach.ensures seen ∙ take-length c.call.new.self.own.seen in
+    let all = ap₂ (λ f s. take (length f) s) c.failures-all.ensures seen ∙ take-length c.call.new.self.own.seen in
     items ∙ (ap (filter (has h.x.group)) all ∙ h.group)
