@@ -22,7 +22,7 @@ use Rattle.ulfm_words.specs.Steps.{IsView, Over, Sight, view_at}
 use Rattle.ulfm_words.proofs.Trails.{did_none, did_prefix, did_quiet, did_wait}
 use Rattle.ulfm_comm.specs.{Calls.{Calls, FindsTwice, HadCome, RanOut, Linearizes}, Ends.{IsEarlyRun, IsEndRun, IsRefusedAgain}, Look.{Looked}}
 use Rattle.ulfm_comm.proofs.ReplyKinds.{counted_seen}
-use Rattle.ulfm_comm.proofs.WholeCall.{refused_missing, sees_later, self_failed}
+use Rattle.ulfm_comm.proofs.WholeCall.{refused_missing, sees_later, self_failed, span_ends}
 use Rattle.ulfm_comm.specs.Local.{local}
 
 -- a call of a rank where nobody else steps: one that was refused for good before is refused again, without a step
@@ -200,17 +200,7 @@ module _ {P : Type 0} (meld : P → P → P) (alone : Bool) (name : Over P) (bef
         fits = subst (Fits meld name.limits after.seen) (sym is) (fits_seen meld name.limits after.seen old new.seen still begins);
         run_out = record {
           in_use = looked.in_use;
-          span = record {
-            look = look;
-            point = after.seen;
-            own = own;
-            looked = looked.did;
-            did = did;
-            point_begins = whole;
-            point_ends = ([], append-nil after.seen);
-            legal = of.legal;
-            spread = false;
-          };
+          span = span_ends (Rank old.number) own false looked.did did of.legal;
           not_declared = looked.not_declared;
           not_refused = passed;
           own = may;

@@ -15,6 +15,7 @@ use Rattle.ulfm_steps.specs.{Appends.{Appends}, declared.append.Appended.TheVari
 use Rattle.ulfm_steps.specs.declared.item.Item.TheVariants.{Failure}
 use Rattle.ulfm_steps.specs.Appends.{wanted}
 use Rattle.ulfm_comm.specs.Fails.{Fails}
+use Rattle.ulfm_comm.proofs.WholeCall.{span_ends}
 
 -- the failure at a place of the list
 failure_at : (fs : List ℕ) (i r : ℕ) → slice_get (map (λ x. Failure x) fs) i ≡ Some (Failure r) → slice_get fs i ≡ Some r
@@ -38,17 +39,7 @@ module _ {P : Type 0} (meld : P → P → P) (alone : Bool) (name : Over P) (ran
     words = refl;
     of = of;
     run = record {
-      span = record {
-        look = before.seen;
-        point = after.seen;
-        own = own;
-        looked = did_none alone before.seen;
-        did = did;
-        point_begins = did_prefix alone (entries_by Outside own) before.seen after.seen did;
-        point_ends = ([], append-nil after.seen);
-        legal = of.legal;
-        spread = false;
-      };
+      span = span_ends Outside own false (did_none alone before.seen) did of.legal;
       no_look = refl;
       answer = answer;
     };
