@@ -26,12 +26,12 @@ use Rattle.ulfm_model.specs.Records.{moment}
 use Rattle.ulfm_steps.proofs.{InBlocks.{are_later, few_members, starts}, Marking.{marks_join, marks_wait, new_members, take_all}}
 use Rattle.ulfm_steps.specs.Turns.{running}
 use Rattle.ulfm_steps.specs.Among.{among}
-use Rattle.ulfm_comm.specs.{Polls.{PollHasMarked}, Requests.{agreement}, Phase.{Answered, Stands, next_step}, StepsLeft.{MakesStep}}
+use Rattle.ulfm_comm.specs.{Polls.{PollHasMarked}, Requests.{agreement}, Phase.{Answered, Stands, StandsAt, next_step, under_way}, StepsLeft.{MakesStep}}
 use Rattle.ulfm_comm.specs.Agreement.{HasReadAll, IsMarking, IsReading, agreed_reply}
-use Rattle.ulfm_comm.specs.declared.phases.phase.Phase.TheVariants.{Marking, Reading}
+use Rattle.ulfm_comm.specs.declared.phases.phase.{Phase.{Phase}, Phase.TheVariants.{Marking, Reading}}
 use Rattle.ulfm_comm.proofs.{CallRuns.{calls_is}, Stands.{marked_lasts}, Holding.{exists_is, group_is, holds, same_held}, AmongOthers.{did_loosely, marks_loosely}}
 use Rattle.ulfm_comm.proofs.Polls.{held_first, later, not_found, not_marked, open_round, poll_agreed, poll_mismatch, poll_pending}
-use Rattle.ulfm_comm.specs.Local.{frame, local}
+use Rattle.ulfm_comm.specs.Local.{Local, frame, local}
 use Rattle.ulfm_comm.specs.Requests.{polled_round}
 use Rattle.ulfm_comm.specs.Prepared.{Prepared}
 
@@ -42,6 +42,12 @@ poll_mine {P} asked old rank comm is mine =
     let by : Rank rank ≡ Rank old.number = sym (ap (λ (a : Call P). (traits_of a).by) is) ∙ mine in
     let same : rank ≡ old.number = cc by in
     is ∙ ap₂ call.Poll same (sym (ap (λ (a : Call P). comm_of a) is))
+
+-- it stands so
+pub polls_stand : {P : Type 0} {meld : P → P → P} {alone : Bool} {asked : Call P} {start now : Local P} {phase : Phase P} {prepared : Prepared}
+    → Fits meld start.view.words.limits start.view.pass.seen start.own → asked ≡ call.Poll start.own.number (comm_of asked)
+    → start.view.pass.steps ≤ now.view.pass.steps → StandsAt meld alone asked start phase prepared now → Stands meld alone start (under_way asked phase prepared) now
+polls_stand {P} fits polls onward at = record { fits = fits; mine = ap (λ (a : Call P). (traits_of a).by) polls; onward = onward; at = at }
 
 -- a group with a member isn't empty
 pub some_member : (xs : List ℕ) (r : ℕ) → has xs r ≡ true → 0 < length xs
