@@ -9,7 +9,7 @@ use Rattle.ulfm_model.specs.declared.{refusal.Refusal.TheVariants.{NoSuchRank}, 
 use Rattle.ulfm_model.specs.{Answers.{AnswersFail}, History.{entries_by, failures}, Runs.{Did}}
 use Rattle.ulfm_model.proofs.Lists.{has_at, in_list}
 use Rattle.ulfm_words.specs.{Steps.{IsView, Over, Sight}}
-use Rattle.ulfm_words.proofs.{Ranks.{full_has}, Trails.{did_added, did_none, did_prefix}}
+use Rattle.ulfm_words.proofs.{Ranks.{full_has}, Trails.{did_added, did_none}}
 use Rattle.ulfm_words.specs.Steps.{view_at}
 use Rattle.ulfm_steps.specs.{Appends.{Appends}, declared.append.Appended.TheVariants.{Won, Found, Full}, declared.item.Item.{Item}}
 use Rattle.ulfm_steps.specs.declared.item.Item.TheVariants.{Failure}

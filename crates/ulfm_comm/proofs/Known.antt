@@ -20,8 +20,8 @@ use Rattle.ulfm_comm.specs.{Known.{KnowsIn, KnowsNext}, Phase.{GoesOn, IsMaking,
 use Rattle.ulfm_comm.specs.{Requests.{BlocksStand, LeavesSet, agreement, is_agreement, is_of_round, is_round_refusal}, Wings.{MayTry, WingsSettled}, Revokes.{revoked}}
 use Rattle.ulfm_comm.specs.Step.{HasReadOn, StepSees}
 use Rattle.ulfm_comm.specs.declared.{phases.phase.Next.{Next}, phases.phase.Next.TheVariants.{Goes, Ends}, phases.phase.Phase.{Phase}}
-use Rattle.ulfm_comm.specs.declared.phases.phase.Phase.TheVariants.{Over, Begun, Looking, Spreading, Settling, Arriving, Revoking, Asking, Peeking, Marking, Reading}
-use Rattle.ulfm_comm.specs.declared.phases.phase.Phase.TheVariants.{ReadingOn, Spawning, Waiting, Checking}
+use Rattle.ulfm_comm.specs.declared.phases.phase.Phase.TheVariants.{Begun, Looking, Peeking, Marking, Reading}
+use Rattle.ulfm_comm.specs.declared.phases.phase.Phase.TheVariants.{ReadingOn, Spawning, Waiting}
 use Rattle.ulfm_comm.proofs.Look.{idle_poll}
 use Rattle.ulfm_comm.specs.Local.{local}
 

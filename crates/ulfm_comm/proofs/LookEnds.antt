@@ -4,7 +4,7 @@ use Rattle.ulfm_model.specs.declared.{call.Call.{Call}, refusal.Refusal.TheVaria
 use Rattle.ulfm_model.specs.{History.{failures, has}, Records.{Record}, Runs.{Did}}
 use Rattle.ulfm_words.specs.Steps.{Goes, Over, Sight, View, view_at}
 use Rattle.ulfm_words.proofs.Trails.{did_wait}
-use Rattle.ulfm_comm.specs.{AlsoLeft.{AlsoFollows, AlsoLooks, also_left}, Look.{JustLooked, Looked}, Phase.{Stands, under_way}, Prepared.{Prepared}}
+use Rattle.ulfm_comm.specs.{AlsoLeft.{AlsoFollows, AlsoLooks, also_left}, Look.{JustLooked}, Phase.{Stands, under_way}, Prepared.{Prepared}}
 use Rattle.ulfm_comm.specs.{Local.{local, stance}, Step.{LooksOn, Walks}, StepsLeft.{FewerLeft, Spends, steps_left, with_look}}
 use Rattle.ulfm_comm.specs.declared.phases.phase.{Next.{Next}, Next.TheVariants.{Ends}, Phase.TheVariants.{Looking}}
 use Rattle.ulfm_comm.proofs.{AlsoLeft.{also_looks_over}, AmongOthers.{did_loosely}, StepsLeft.{looks_over}}

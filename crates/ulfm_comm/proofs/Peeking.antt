@@ -11,7 +11,7 @@ use Rattle.std.specs.List.{AllByRecursion, list_all}
 use Rattle.std.specs.List.Sorted.{IsStrictlyIncreasing}
 use Rattle.ulfm_laws.specs.declared.summary.Summary.{Summary}
 use Rattle.ulfm_model.specs.declared.{call.Call.{Call}, limits.Limits.{Limits}}
-use Rattle.ulfm_model.specs.{Answers.{traits_of}, Blocks.{IsSide, IsSummed}, History.{History, IsLegal, failures, has, slot}}
+use Rattle.ulfm_model.specs.{Blocks.{IsSide, IsSummed}, History.{History, IsLegal, failures, has, slot}}
 use Rattle.ulfm_model.specs.{Records.{Fits, Held, Record, held_at}, Runs.{Did}, Terms.{comm_of}}
 use Rattle.ulfm_model.proofs.{Lists.{each_from, filter_none}, OnlyReply.{all_member}, Stable.{fits_stays}}
 use Rattle.ulfm_model.specs.Records.{moment}

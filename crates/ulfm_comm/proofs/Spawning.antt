@@ -18,7 +18,7 @@ use Rattle.ulfm_model.proofs.{Groups.{members_few}, Histories.{failures_begin}, 
 use Rattle.ulfm_model.proofs.Stable.{fits_stays}
 use Rattle.ulfm_model.specs.Records.{moment}
 use Rattle.ulfm_words.specs.Steps.{IsView, Over, Sight, view_at}
-use Rattle.ulfm_words.proofs.{Ranks.{spawns_below}, Trails.{did_none, did_prefix, did_wait}}
+use Rattle.ulfm_words.proofs.{Ranks.{spawns_below}, Trails.{did_none, did_prefix}}
 use Rattle.ulfm_steps.proofs.{Appending.{append_stays}, Spawning.{may_spawn}}
 use Rattle.ulfm_steps.specs.Appends.{MayAppend, Passed, room}
 use Rattle.ulfm_steps.specs.declared.{append.Append.{Append}, item.Item.{Item}, item.Item.TheVariants.{Comm as OfComm}}
