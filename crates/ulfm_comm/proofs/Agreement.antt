@@ -26,12 +26,12 @@ use Rattle.ulfm_model.specs.Records.{moment}
 use Rattle.ulfm_steps.proofs.{InBlocks.{are_later, few_members, starts}, Marking.{marks_join, marks_wait, new_members, take_all}}
 use Rattle.ulfm_steps.specs.Turns.{running}
 use Rattle.ulfm_steps.specs.Among.{among}
-use Rattle.ulfm_comm.specs.{Polls.{PollHasMarked}, Requests.{agreement}, Phase.{Answered, Stands, next_step}, StepsLeft.{MakesStep}}
+use Rattle.ulfm_comm.specs.{Polls.{PollHasMarked}, Requests.{agreement}, Phase.{Answered, Stands, StandsAt, next_step, under_way}, StepsLeft.{MakesStep}}
 use Rattle.ulfm_comm.specs.Agreement.{HasReadAll, IsMarking, IsReading, agreed_reply}
-use Rattle.ulfm_comm.specs.declared.phases.phase.Phase.TheVariants.{Marking, Reading}
-use Rattle.ulfm_comm.proofs.{CallRuns.{calls_is}, Holding.{exists_is, group_is, holds, same_held}, AmongOthers.{did_loosely, marks_loosely}}
+use Rattle.ulfm_comm.specs.declared.phases.phase.{Phase.{Phase}, Phase.TheVariants.{Marking, Reading}}
+use Rattle.ulfm_comm.proofs.{CallRuns.{calls_is}, Stands.{marked_lasts}, Holding.{exists_is, group_is, holds, same_held}, AmongOthers.{did_loosely, marks_loosely}}
 use Rattle.ulfm_comm.proofs.Polls.{held_first, later, not_found, not_marked, open_round, poll_agreed, poll_mismatch, poll_pending}
-use Rattle.ulfm_comm.specs.Local.{frame, local}
+use Rattle.ulfm_comm.specs.Local.{Local, frame, local}
 use Rattle.ulfm_comm.specs.Requests.{polled_round}
 use Rattle.ulfm_comm.specs.Prepared.{Prepared}
 
@@ -43,6 +43,12 @@ poll_mine {P} asked old rank comm is mine =
     let same : rank ≡ old.number = cc by in
     is ∙ ap₂ call.Poll same (sym (ap (λ (a : Call P). comm_of a) is))
 
+-- it stands so
+pub polls_stand : {P : Type 0} {meld : P → P → P} {alone : Bool} {asked : Call P} {start now : Local P} {phase : Phase P} {prepared : Prepared}
+    → Fits meld start.view.words.limits start.view.pass.seen start.own → asked ≡ call.Poll start.own.number (comm_of asked)
+    → start.view.pass.steps ≤ now.view.pass.steps → StandsAt meld alone asked start phase prepared now → Stands meld alone start (under_way asked phase prepared) now
+polls_stand {P} fits polls onward at = record { fits = fits; mine = ap (λ (a : Call P). (traits_of a).by) polls; onward = onward; at = at }
+
 -- a group with a member isn't empty
 pub some_member : (xs : List ℕ) (r : ℕ) → has xs r ≡ true → 0 < length xs
 some_member [] r is = absurd (cc is)
@@ -52,24 +58,6 @@ some_member (x ∷ xs) r is = omega arith
 pub all_in : (group declared : List ℕ) (n : ℕ) → n ≤ length declared → length declared ≤ n → members_in group declared n ≡ filter (has group) declared
 all_in group declared n within past =
     let last : n ≡ length declared = omega (arith, within, past) in ap (members_in group declared) last ∙ ap (filter (has group)) (take_all declared)
-
--- a poll under way, after others' events
-marked_later : {P : Type 0} (meld : P → P → P) (limits : Limits) (alone : Bool) (c : ℕ) (shrinks : Bool) (k : ℕ) (x : Held) (old : Record) (before : History P)
-    (mid : Record) (now after : History P)
-    → PollHasMarked (frame meld limits alone) c (polled_round shrinks k) x (moment old before) (moment mid now) → Did alone [] now after → IsLegal meld limits after
-    → PollHasMarked (frame meld limits alone) c (polled_round shrinks k) x (moment old before) (moment mid after)
-marked_later meld limits alone c shrinks k x old before mid now after p did legal =
-    record {
-      look = p.look;
-      looked = p.looked;
-      fits = p.fits;
-      held = p.held;
-      open_is = p.open_is;
-      marked = p.marked;
-      marks = p.marks;
-      waited = did_wait alone [] p.marked now after p.waited did;
-      legal = legal;
-    }
 
 -- once all declared members are marked, the reading of those blocks begins that aren't known
 pub reading_begins : {P : Type 0} (meld : P → P → P) (limits : Limits) (alone : Bool) (c : ℕ) (shrinks : Bool) (k : ℕ) (x : Held) (old : Record)
@@ -300,8 +288,8 @@ module _ {P : Type 0} (meld : P → P → P) (limits : Limits) (alone : Bool) (c
 
   module _ (quiet : Bool) (only : IsTrue alone → IsTrue quiet) (after : History P) (did : Did quiet [] now after) (legal : IsLegal meld limits after) where
     reading_marked : PollHasMarked (frame meld limits alone) c (polled_round shrinks reading.round) p.x (moment old before) (moment own after)
-    reading_marked = marked_later meld limits alone c shrinks reading.round p.x old before own now after p.marked
-        (did_loosely alone quiet only [] now after did) legal
+    reading_marked = marked_lasts meld limits alone old before own now after (did_loosely alone quiet only [] now after did) legal c shrinks
+        reading.round p.x p.marked
 
     -- it goes on
     reading_on : (next : ReadBlocks P) → next.comm ≡ reading.comm → next.round ≡ reading.round → AtBlock meld after p.x.group next

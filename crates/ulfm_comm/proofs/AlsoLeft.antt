@@ -354,18 +354,8 @@ also_begun {P} limits own asked f in_use more some =
 
     by_call : (asked : Call P) → again + 1 + also_behind_look limits own asked + f ≤ also_call_bound f (length (group_of (held_at own (comm_of asked))))
         limits.comms (request_of (held_at own (comm_of asked))) asked
-    by_call (call.Fail rank) = omega (arith, none)
-    by_call (call.GetFailed rank c) = omega (arith, none)
-    by_call (call.FailureGetAcked rank c) = omega (arith, none)
-    by_call (call.Ack rank c count) = omega (arith, none)
-    by_call (call.FailureAck rank c) = omega (arith, none)
-    by_call (call.Agree rank c value) = omega (arith, none)
-    by_call (call.Shrink rank c) = omega (arith, none)
-    by_call (call.Barrier rank c) = omega (arith, none)
     by_call (call.Poll rank c) = by_request (length (group_of (held_at own c))) (request_of (held_at own c))
-    by_call (call.Revoke rank c) = omega (arith, none)
-    by_call (call.IsRevoked rank c) = omega (arith, none)
-    by_call (call.Free rank c) = omega (arith, none)
+    by_call _ = omega (arith, none)
 
     by_refusal : (b : Bool) → again + 1 + (if b then 0 else also_behind_look limits own asked) + f
         ≤ (if b then f + 1 else also_call_bound f (length (group_of (held_at own (comm_of asked)))) limits.comms

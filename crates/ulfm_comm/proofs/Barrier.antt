@@ -35,7 +35,7 @@ module _ {P : Type 0} (meld : P → P → P) (limits : Limits) (alone : Bool) (c
   waiting_round legal = awaited_round meld limits now c k own legal (waiting_awaits legal)
 
   -- after others' events
-  waiting_on : (quiet : Bool) → (IsTrue alone → IsTrue quiet) → (after : History P) → Did quiet [] now after
+  pub waiting_on : (quiet : Bool) → (IsTrue alone → IsTrue quiet) → (after : History P) → Did quiet [] now after
       → IsWaiting (frame meld limits alone) c k x (moment old before) (moment own after)
   waiting_on quiet only after did =
       record {

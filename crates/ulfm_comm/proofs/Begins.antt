@@ -39,18 +39,8 @@ module _ {P : Type 0} (own : Record) (asked : Call P) where
   call_few : (asked : Call P) → max 1 (own.limits.ranks - length own.seen) + behind_look own.limits own asked
       ≤ call_bound own.limits.ranks (length own.seen) (length (group_of (held_at own (comm_of asked)))) own.limits.comms
       (request_of (held_at own (comm_of asked))) asked + again
-  call_few (call.Fail rank) = omega (arith, enough)
-  call_few (call.GetFailed rank c) = omega (arith, enough)
-  call_few (call.FailureGetAcked rank c) = omega (arith, enough)
-  call_few (call.Ack rank c count) = omega (arith, enough)
-  call_few (call.FailureAck rank c) = omega (arith, enough)
-  call_few (call.Agree rank c value) = omega (arith, enough)
-  call_few (call.Shrink rank c) = omega (arith, enough)
-  call_few (call.Barrier rank c) = omega (arith, enough)
   call_few (call.Poll rank c) = poll_few (length (group_of (held_at own c))) (request_of (held_at own c))
-  call_few (call.Revoke rank c) = omega (arith, enough)
-  call_few (call.IsRevoked rank c) = omega (arith, enough)
-  call_few (call.Free rank c) = omega (arith, enough)
+  call_few _ = omega (arith, enough)
 
   few : (b : Bool) → max 1 (own.limits.ranks - length own.seen) + (if b then 0 else behind_look own.limits own asked)
       ≤ (if b then own.limits.ranks - length own.seen else call_bound own.limits.ranks (length own.seen) n own.limits.comms request asked) + again
@@ -76,18 +66,8 @@ module _ {P : Type 0} (own : Record) (asked : Call P) where
 
     also_call_few : (asked : Call P) → again + 1 + also_behind_look own.limits own asked
         ≤ also_call_bound 0 (length (group_of (held_at own (comm_of asked)))) own.limits.comms (request_of (held_at own (comm_of asked))) asked + again
-    also_call_few (call.Fail rank) = omega arith
-    also_call_few (call.GetFailed rank c) = omega arith
-    also_call_few (call.FailureGetAcked rank c) = omega arith
-    also_call_few (call.Ack rank c count) = omega arith
-    also_call_few (call.FailureAck rank c) = omega arith
-    also_call_few (call.Agree rank c value) = omega arith
-    also_call_few (call.Shrink rank c) = omega arith
-    also_call_few (call.Barrier rank c) = omega arith
     also_call_few (call.Poll rank c) = also_poll_few (length (group_of (held_at own c))) (request_of (held_at own c))
-    also_call_few (call.Revoke rank c) = omega arith
-    also_call_few (call.IsRevoked rank c) = omega arith
-    also_call_few (call.Free rank c) = omega arith
+    also_call_few _ = omega arith
 
     also_few : (b : Bool) → again + 1 + (if b then 0 else also_behind_look own.limits own asked)
         ≤ (if b then 1 else also_call_bound 0 n own.limits.comms request asked) + again

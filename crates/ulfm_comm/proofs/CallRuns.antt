@@ -22,7 +22,7 @@ use Rattle.ulfm_words.specs.Steps.{IsView, Over, Sight, view_at}
 use Rattle.ulfm_words.proofs.Trails.{did_none, did_prefix, did_quiet, did_wait}
 use Rattle.ulfm_comm.specs.{Calls.{Calls, FindsTwice, HadCome, RanOut, Linearizes}, Ends.{IsEarlyRun, IsEndRun, IsRefusedAgain}, Look.{Looked}}
 use Rattle.ulfm_comm.proofs.ReplyKinds.{counted_seen}
-use Rattle.ulfm_comm.proofs.WholeCall.{refused_missing, sees_later, self_failed}
+use Rattle.ulfm_comm.proofs.WholeCall.{refused_missing, sees_later, self_failed, span_ends}
 use Rattle.ulfm_comm.specs.Local.{local}
 
 -- a call of a rank where nobody else steps: one that was refused for good before is refused again, without a step
@@ -130,32 +130,32 @@ module _ {P : Type 0} (meld : P → P → P) (alone : Bool) (name : Over P) (ask
           not_early (inr failed) = cc (failed, is)
 
 module _ {P : Type 0} (meld : P → P → P) (alone : Bool) (name : Over P) (before after : Sight P) (onward : before.steps ≤ after.steps) where
+  linear : (asked : Call P) (old : Record) (reply : Reply P) (new : Record) → IsView meld (view_at name after) → Fits meld name.limits before.seen old
+      → (reply ≡ Refused Twice → FindsTwice asked old (view_at name after)) → IsRun meld name.limits alone (moment old before.seen) asked reply (moment new after.seen)
+      → IsEndRun meld name.limits alone (moment old before.seen) asked reply (moment new after.seen)
+      ⊎ IsEarlyRun meld name.limits alone (moment old before.seen) asked reply (moment new after.seen)
+      → Linearizes meld alone asked (local old (view_at name before)) reply (local new (view_at name after))
+  linear asked old reply new of fits twice run ends =
+      record {
+        of = of;
+        onward = onward;
+        fits = call_fits meld name.limits alone before.seen after.seen old asked reply new fits (inr run);
+        twice = twice;
+        ends = inr ends;
+      }
+
   -- a call with its point at its end
   pub calls_is : (asked : Call P) (old : Record) (reply : Reply P) (new : Record) → IsView meld (view_at name after) → Fits meld name.limits before.seen old
       → (reply ≡ Refused Twice → FindsTwice asked old (view_at name after))
       → IsEndRun meld name.limits alone (moment old before.seen) asked reply (moment new after.seen) → Linearizes meld alone asked (local old (view_at name before)) reply (local new (view_at name after))
-  calls_is asked old reply new of fits twice ended =
-      record {
-        of = of;
-        onward = onward;
-        fits = call_fits meld name.limits alone before.seen after.seen old asked reply new fits (inr ended.run);
-        twice = twice;
-        ends = inr (inl ended);
-      }
+  calls_is asked old reply new of fits twice ended = linear asked old reply new of fits twice ended.run (inl ended)
 
   -- the poll of a barrier, with its point where somebody was found missing
   pub calls_early : (asked : Call P) (old : Record) (reply : Reply P) (new : Record) → IsView meld (view_at name after) → Fits meld name.limits before.seen old
       → (reply ≡ Refused Twice → FindsTwice asked old (view_at name after))
       → IsEarlyRun meld name.limits alone (moment old before.seen) asked reply (moment new after.seen) → Linearizes meld alone asked (local old (view_at name before)) reply (local new (view_at name after))
   calls_early asked old reply new of fits twice early =
-      record {
-        of = of;
-        onward = onward;
-        fits = call_fits meld name.limits alone before.seen after.seen old asked reply new fits
-            (inr (run_early meld name.limits alone before.seen after.seen old asked reply new of.legal early));
-        twice = twice;
-        ends = inr (inr early);
-      }
+      linear asked old reply new of fits twice (run_early meld name.limits alone before.seen after.seen old asked reply new of.legal early) (inr early)
 
   -- a rank that its look finds declared
   pub calls_declared : (asked : Call P) (old new : Record) → IsView meld (view_at name after) → Fits meld name.limits before.seen old → old.refused ≡ false
@@ -200,17 +200,7 @@ module _ {P : Type 0} (meld : P → P → P) (alone : Bool) (name : Over P) (bef
         fits = subst (Fits meld name.limits after.seen) (sym is) (fits_seen meld name.limits after.seen old new.seen still begins);
         run_out = record {
           in_use = looked.in_use;
-          span = record {
-            look = look;
-            point = after.seen;
-            own = own;
-            looked = looked.did;
-            did = did;
-            point_begins = whole;
-            point_ends = ([], append-nil after.seen);
-            legal = of.legal;
-            spread = false;
-          };
+          span = span_ends (Rank old.number) own false looked.did did of.legal;
           not_declared = looked.not_declared;
           not_refused = passed;
           own = may;

@@ -1,20 +1,38 @@
 -- The steps of a call, counted.
 use Rattle.std.proofs.Common.{◌≡◌, ℕ, ◌+◌, ◌-◌, ◌*◌, ◌%◌, ◌^◌, ◌<◌, ◌≤◌, Bool, true, false, refl, Option, Some, None, is_some, length, min, ap, arith}
-use Rattle.std.proofs.Common.{if◌then◌else◌}
+use Rattle.std.proofs.Common.{◌⊎◌, [], IsFalse, append-nil, if◌then◌else◌}
 use Rattle.ulfm_model.specs.declared.call.Call.TheVariants as call
 use Rattle.ulfm_model.specs.declared.{call.Call.{Call}, call.Request.{Request}, call.Request.TheVariants.{Agree, Shrink, Barrier}, limits.Limits.{Limits}}
 use Rattle.ulfm_model.specs.declared.reply.Reply.{Reply}
 use Rattle.ulfm_model.specs.declared.step_name.StepName.{StepName}
 use Rattle.ulfm_model.specs.declared.step_name.StepName.TheVariants as step
-use Rattle.ulfm_model.specs.{Answers.{refusal_of}, History.{History}, Records.{Fits, Held, Record, held_at}, Words.{MayOpen}}
+use Rattle.ulfm_model.specs.{Answers.{refusal_of}, History.{History, failures}, Records.{Fits, Held, Record, held_at}, Words.{MayOpen}}
 use Rattle.ulfm_model.specs.Terms.{comm_of, request_of}
 use Rattle.ulfm_model.proofs.Groups.{members_few}
 use Rattle.ulfm_words.specs.Steps.{IsView, Over, Sight, view_at}
-use Rattle.ulfm_comm.specs.{Bound.{call_bound, poll_bound, step_bound}, Calls.{EndsAs, EndsReply, wants_memory}, Counts.{Counted, CountsStep, named_steps}}
+use Rattle.ulfm_comm.specs.{Bound.{call_bound, poll_bound, step_bound}, Calls.{EndsAs, EndsReply, wants_memory}, Counts.{Counted, CountsStep, MakesSteps, named_steps}, Step.{HasReadOn}}
 use Rattle.ulfm_comm.specs.{Phase.{next_step}, StepsLeft.{MakesStep, Spends, group_of, steps_left}}
 use Rattle.ulfm_comm.specs.declared.{phases.phase.Next.{Next}}
 use Rattle.ulfm_comm.proofs.Holding.{group_is}
 use Rattle.ulfm_comm.specs.Local.{local}
+
+-- a call that makes no step, by what its rank has seen
+pub makes_none : {P : Type 0} {limits : Limits} {asked : Call P} {old new : Record} {now : Sight P}
+    → (IsFalse old.refused → (new.seen ≡ failures now.seen) ⊎ HasReadOn old asked (failures now.seen) new.seen now.cached)
+    → MakesSteps limits asked old now new now
+makes_none {now = now} sees = record {
+  looked = now;
+  look = record {
+    begins = (([], append-nil now.seen), ([], append-nil now.cached), omega arith);
+    goes_on = (([], append-nil now.seen), ([], append-nil now.cached), omega arith);
+    few = omega arith;
+    found = omega arith;
+    ends = λ declared. refl;
+    sees = sees;
+  };
+  steps = omega arith;
+  also = λ stand. omega arith;
+}
 
 -- a step that is named is one
 named_is : {P : Type 0} (name : Option StepName) (r c : ℕ) (old new : Sight P) → MakesStep name r c old new

@@ -9,12 +9,13 @@ use Rattle.ulfm_model.specs.declared.{refusal.Refusal.TheVariants.{NoSuchRank}, 
 use Rattle.ulfm_model.specs.{Answers.{AnswersFail}, History.{entries_by, failures}, Runs.{Did}}
 use Rattle.ulfm_model.proofs.Lists.{has_at, in_list}
 use Rattle.ulfm_words.specs.{Steps.{IsView, Over, Sight}}
-use Rattle.ulfm_words.proofs.{Ranks.{full_has}, Trails.{did_added, did_none, did_prefix}}
+use Rattle.ulfm_words.proofs.{Ranks.{full_has}, Trails.{did_added, did_none}}
 use Rattle.ulfm_words.specs.Steps.{view_at}
 use Rattle.ulfm_steps.specs.{Appends.{Appends}, declared.append.Appended.TheVariants.{Won, Found, Full}, declared.item.Item.{Item}}
 use Rattle.ulfm_steps.specs.declared.item.Item.TheVariants.{Failure}
 use Rattle.ulfm_steps.specs.Appends.{wanted}
 use Rattle.ulfm_comm.specs.Fails.{Fails}
+use Rattle.ulfm_comm.proofs.WholeCall.{span_ends}
 
 -- the failure at a place of the list
 failure_at : (fs : List ℕ) (i r : ℕ) → slice_get (map (λ x. Failure x) fs) i ≡ Some (Failure r) → slice_get fs i ≡ Some r
@@ -38,17 +39,7 @@ module _ {P : Type 0} (meld : P → P → P) (alone : Bool) (name : Over P) (ran
     words = refl;
     of = of;
     run = record {
-      span = record {
-        look = before.seen;
-        point = after.seen;
-        own = own;
-        looked = did_none alone before.seen;
-        did = did;
-        point_begins = did_prefix alone (entries_by Outside own) before.seen after.seen did;
-        point_ends = ([], append-nil after.seen);
-        legal = of.legal;
-        spread = false;
-      };
+      span = span_ends Outside own false (did_none alone before.seen) did of.legal;
       no_look = refl;
       answer = answer;
     };

@@ -20,8 +20,8 @@ use Rattle.ulfm_comm.specs.{Known.{KnowsIn, KnowsNext}, Phase.{GoesOn, IsMaking,
 use Rattle.ulfm_comm.specs.{Requests.{BlocksStand, LeavesSet, agreement, is_agreement, is_of_round, is_round_refusal}, Wings.{MayTry, WingsSettled}, Revokes.{revoked}}
 use Rattle.ulfm_comm.specs.Step.{HasReadOn, StepSees}
 use Rattle.ulfm_comm.specs.declared.{phases.phase.Next.{Next}, phases.phase.Next.TheVariants.{Goes, Ends}, phases.phase.Phase.{Phase}}
-use Rattle.ulfm_comm.specs.declared.phases.phase.Phase.TheVariants.{Over, Begun, Looking, Spreading, Settling, Arriving, Revoking, Asking, Peeking, Marking, Reading}
-use Rattle.ulfm_comm.specs.declared.phases.phase.Phase.TheVariants.{ReadingOn, Spawning, Waiting, Checking}
+use Rattle.ulfm_comm.specs.declared.phases.phase.Phase.TheVariants.{Begun, Looking, Peeking, Marking, Reading}
+use Rattle.ulfm_comm.specs.declared.phases.phase.Phase.TheVariants.{ReadingOn, Spawning, Waiting}
 use Rattle.ulfm_comm.proofs.Look.{idle_poll}
 use Rattle.ulfm_comm.specs.Local.{local}
 
@@ -83,40 +83,22 @@ agreement_caches own asked rank polls x held shrinks k open_is =
 pub known_next : {P : Type 0} (own : Record) (asked : Call P) (cached : List Beside) (next : Next P) → NextBelow 5 next → BlocksStand own asked cached
     → KnowsNext own asked cached next
 known_next own asked cached (Ends reply) below stand = λ of. stand
-known_next own asked cached (Goes Over) below stand = tt
-known_next own asked cached (Goes Begun) below stand = tt
-known_next own asked cached (Goes Looking) below stand = tt
-known_next own asked cached (Goes (Spreading request offer)) below stand = tt
-known_next own asked cached (Goes (Settling request offer)) below stand = tt
-known_next own asked cached (Goes (Arriving round)) below stand = tt
-known_next own asked cached (Goes Revoking) below stand = tt
-known_next own asked cached (Goes Asking) below stand = tt
 known_next own asked cached (Goes (Peeking peek shrinks)) below stand = absurd (omega (arith, below))
 known_next own asked cached (Goes (Marking marks blocks shrinks)) below stand = absurd (omega (arith, below))
 known_next own asked cached (Goes (Reading reading shrinks)) below stand = absurd (omega (arith, below))
 known_next own asked cached (Goes (ReadingOn on made)) below stand = stand
 known_next own asked cached (Goes (Spawning append context reach)) below stand = stand
-known_next own asked cached (Goes (Waiting arrivals)) below stand = tt
-known_next own asked cached (Goes (Checking missing)) below stand = tt
+known_next own asked cached (Goes _) below stand = tt
 
 pub known_making : {P : Type 0} (own : Record) (asked : Call P) (cached : List Beside) (next : Next P) → IsMaking next → BlocksStand own asked cached
     → KnowsNext own asked cached next
 known_making own asked cached (Ends reply) making stand = λ of. stand
-known_making own asked cached (Goes Over) making stand = tt
-known_making own asked cached (Goes Begun) making stand = tt
-known_making own asked cached (Goes Looking) making stand = tt
-known_making own asked cached (Goes (Spreading request offer)) making stand = tt
-known_making own asked cached (Goes (Settling request offer)) making stand = tt
-known_making own asked cached (Goes (Arriving round)) making stand = tt
-known_making own asked cached (Goes Revoking) making stand = tt
-known_making own asked cached (Goes Asking) making stand = tt
 known_making own asked cached (Goes (Peeking peek shrinks)) making stand = absurd (cc making)
 known_making own asked cached (Goes (Marking marks blocks shrinks)) making stand = absurd (cc making)
 known_making own asked cached (Goes (Reading reading shrinks)) making stand = absurd (cc making)
 known_making own asked cached (Goes (ReadingOn on made)) making stand = stand
 known_making own asked cached (Goes (Spawning append context reach)) making stand = stand
-known_making own asked cached (Goes (Waiting arrivals)) making stand = tt
-known_making own asked cached (Goes (Checking missing)) making stand = tt
+known_making own asked cached (Goes _) making stand = tt
 
 -- the same of a record that holds the same
 module _ {P : Type 0} (own new : Record) (asked : Call P) (cached : List Beside) (same : (c : ℕ) → held_at new c ≡ held_at own c) where

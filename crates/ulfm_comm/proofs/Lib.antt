@@ -16,6 +16,7 @@ pub mod BarrierStart
 pub mod Exchange
 pub mod Excludes
 pub mod Look
+pub mod LookEnds
 pub mod Failing
 pub mod Frees
 pub mod Helds

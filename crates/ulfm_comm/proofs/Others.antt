@@ -1,12 +1,19 @@
 -- What a rank has seen that are others.
-use Rattle.std.proofs.Common.{◌≡◌, ◌<◌, ◌-◌, ◌==◌, ◌||◌, ℕ, false, List, drop, length, take, arith, ap, refl, sym, ◌∙◌}
+use Rattle.std.proofs.Common.{◌≡◌, ◌<◌, ◌≤◌, ◌-◌, ◌==◌, ◌||◌, ℕ, false, List, drop, length, take, arith, ap, refl, sym, ◌∙◌}
 use Rattle.std.proofs.lemmas.List.{length-drop, take_all, take-append-drop}
 use Rattle.std.proofs.lemmas.List.Folds.{list_any-append}
 use mathlib.Core.List.{IsPrefix}
-use Rattle.ulfm_model.specs.{History.{has}, Records.{Record}}
+use Rattle.ulfm_model.specs.declared.limits.Limits.{Limits}
+use Rattle.ulfm_model.specs.{History.{has}, Records.{Held, Record}}
 use Rattle.ulfm_model.proofs.Lists.{length_prefix}
 use Rattle.ulfm_steps.proofs.ReadingOn.{take_begins}
-use Rattle.ulfm_comm.specs.Ranks.{AreOthers}
+use Rattle.ulfm_comm.specs.Ranks.{AreOthers, HasRoom}
+
+-- the room that a rank has, where what it has seen has another
+pub room_in : {limits : Limits} {capacity places : ℕ} {held : List Held} (other : ℕ) → limits.ranks ≤ other → HasRoom limits capacity places held
+    → HasRoom limits other places held
+room_in other enough was =
+    record { may_open = was.may_open; room = enough; few = was.few; more = was.more; ids = was.ids; contexts = was.contexts }
 
 -- none of them
 pub others_none : (number : ℕ) (seen : List ℕ) → AreOthers number seen 0

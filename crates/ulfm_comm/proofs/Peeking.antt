@@ -11,7 +11,7 @@ use Rattle.std.specs.List.{AllByRecursion, list_all}
 use Rattle.std.specs.List.Sorted.{IsStrictlyIncreasing}
 use Rattle.ulfm_laws.specs.declared.summary.Summary.{Summary}
 use Rattle.ulfm_model.specs.declared.{call.Call.{Call}, limits.Limits.{Limits}}
-use Rattle.ulfm_model.specs.{Answers.{traits_of}, Blocks.{IsSide, IsSummed}, History.{History, IsLegal, failures, has, slot}}
+use Rattle.ulfm_model.specs.{Blocks.{IsSide, IsSummed}, History.{History, IsLegal, failures, has, slot}}
 use Rattle.ulfm_model.specs.{Records.{Fits, Held, Record, held_at}, Runs.{Did}, Terms.{comm_of}}
 use Rattle.ulfm_model.proofs.{Lists.{each_from, filter_none}, OnlyReply.{all_member}, Stable.{fits_stays}}
 use Rattle.ulfm_model.specs.Records.{moment}
@@ -25,7 +25,7 @@ use Rattle.ulfm_steps.specs.Turns.{running}
 use Rattle.ulfm_comm.specs.{Polls.{PollHasMarked}, Requests.{agreement}, Phase.{Stands, next_step}, StepsLeft.{MakesStep}}
 use Rattle.ulfm_comm.specs.Agreement.{HasPeeked, HasReadAll, IsMarking, IsPeeking}
 use Rattle.ulfm_comm.specs.declared.phases.phase.Phase.TheVariants.{Marking, Peeking, Reading}
-use Rattle.ulfm_comm.proofs.{Agreement.{all_in, reading_begins, some_member}, AmongOthers.{did_loosely}, Holding.{exists_is, group_is, holds, same_held}}
+use Rattle.ulfm_comm.proofs.{Agreement.{all_in, polls_stand, reading_begins, some_member}, AmongOthers.{did_loosely}, Holding.{exists_is, group_is, holds, same_held}}
 use Rattle.ulfm_comm.proofs.Polls.{open_round}
 use Rattle.ulfm_comm.specs.Local.{frame, local}
 use Rattle.ulfm_comm.specs.Requests.{polled_round}
@@ -273,12 +273,7 @@ module _ {P : Type 0} (meld : P → P → P) (alone : Bool) (name : Over P) (ask
               (subst (λ k. BothTell meld now.seen peek.comm k p.x.group peek.blocks) (sym round) p.are);
           unknown = h.unknown;
         } in
-        record {
-          fits = h.fits;
-          mine = ap (λ (a : Call P). (traits_of a).by) h.polls;
-          onward = h.onward;
-          at = (h.polls, marking, subst (λ s. marks.next < length s) seen_are more);
-        }
+        polls_stand h.fits h.polls h.onward (h.polls, marking, subst (λ s. marks.next < length s) seen_are more)
 
     -- or, where there is none, the blocks are read
     pub unread_reading : (reading : ReadBlocks P) (size : ℕ) → reading ≡ starts_at w peek.round peek.blocks size → size ≡ length members
@@ -302,14 +297,9 @@ module _ {P : Type 0} (meld : P → P → P) (alone : Bool) (name : Over P) (ask
         } in
         let are : BothTell meld now.seen w peek.round p.x.group peek.blocks = subst (λ c. BothTell meld now.seen c peek.round p.x.group peek.blocks)
         (p.there ∙ sym w_is) p.are in
-        record {
-          fits = h.fits;
-          mine = ap (λ (a : Call P). (traits_of a).by) h.polls;
-          onward = h.onward;
-          at = (
-            h.polls,
-            reading_begins meld name.limits alone (comm_of asked) shrinks peek.round p.x old before.seen own now.seen marked peek.blocks w peek.round size are
-                h.unknown reading is w_is refl (size_is ∙ ap length unread_same),
-            starts_half (view_at name now) _ reading w peek.round peek.blocks size is,
-          );
-        }
+        polls_stand h.fits h.polls h.onward (
+          h.polls,
+          reading_begins meld name.limits alone (comm_of asked) shrinks peek.round p.x old before.seen own now.seen marked peek.blocks w peek.round size are
+              h.unknown reading is w_is refl (size_is ∙ ap length unread_same),
+          starts_half (view_at name now) _ reading w peek.round peek.blocks size is,
+        )

@@ -18,7 +18,7 @@ use Rattle.ulfm_model.proofs.{Groups.{members_few}, Histories.{failures_begin}, 
 use Rattle.ulfm_model.proofs.Stable.{fits_stays}
 use Rattle.ulfm_model.specs.Records.{moment}
 use Rattle.ulfm_words.specs.Steps.{IsView, Over, Sight, view_at}
-use Rattle.ulfm_words.proofs.{Ranks.{spawns_below}, Trails.{did_none, did_prefix, did_wait}}
+use Rattle.ulfm_words.proofs.{Ranks.{spawns_below}, Trails.{did_none, did_prefix}}
 use Rattle.ulfm_steps.proofs.{Appending.{append_stays}, Spawning.{may_spawn}}
 use Rattle.ulfm_steps.specs.Appends.{MayAppend, Passed, room}
 use Rattle.ulfm_steps.specs.declared.{append.Append.{Append}, item.Item.{Item}, item.Item.TheVariants.{Comm as OfComm}}
@@ -31,7 +31,7 @@ use Rattle.ulfm_comm.specs.{Spawning.{Holds, IsFullBy, IsMadeBy, MayHold, MayGoS
 use Rattle.ulfm_comm.specs.{Phase.{Answered, Stands}, Agreement.{HasReadAll}}
 use Rattle.ulfm_steps.proofs.ReadingOn.{passing_grow}
 use Rattle.ulfm_steps.specs.Rounds.{round_on}
-use Rattle.ulfm_comm.proofs.StepAdds.{adds_none}
+use Rattle.ulfm_comm.proofs.{StepAdds.{adds_none}, Stands.{decided_on}}
 use Rattle.ulfm_comm.proofs.{CallRuns.{calls_is, runs_out_after}, Children.{passed_parent}, Holding.{comm_is, exists_is, failed_is, group_is, group_rises}, AmongOthers.{did_loosely}}
 use Rattle.ulfm_comm.proofs.{Polls.{body_read, enough_read, later, not_refused, open_round, read_decided, read_fresh, polls_it}}
 use Rattle.ulfm_comm.proofs.Shrinks.{all_did, marks_make_none, may_own, sees_on, shrink_decided, shrink_mismatch, shrink_no_context, shrink_no_room}
@@ -121,26 +121,6 @@ module _ {P : Type 0} (meld : P → P → P) (limits : Limits) (alone : Bool) (c
   fits_now legal =
       subst (Fits meld limits now) (sym d.own_is) (fits_seen meld limits now d.mid own.seen
       (fits_stays meld limits d.decided now d.mid goes_here legal fits_decided) d.begins)
-
-  -- others' events came, and a longer beginning of the list of failures is seen
-  pub decided_on : (new : Record) (after : History P) → Did alone [] now after → new ≡ record own { seen = new.seen } → IsPrefix own.seen new.seen
-      → IsPrefix new.seen (failures after)
-      → HasReadMask (frame meld limits alone) c (decided_as k mask count) x (moment old before) (moment new after)
-  decided_on new after did is goes begins =
-      record {
-        mid = d.mid;
-        decided = d.decided;
-        marked = d.marked;
-        all = d.all;
-        read = d.read;
-        body = d.body;
-        some = d.some;
-        count_is = d.count_is;
-        waited = did_wait alone [] d.decided now after d.waited did;
-        own_is = is ∙ ap (λ (w : Record). record w { seen = new.seen }) d.own_is;
-        goes_on = prefix_trans d.mid.seen own.seen new.seen d.goes_on goes;
-        begins = begins;
-      }
 
   -- the list of failures has as many of the group as the decision knows
   pub may_read_on : MayReadOn x.group count own.seen (failures now)
@@ -353,7 +333,6 @@ module _ {P : Type 0} (meld : P → P → P) (alone : Bool) (name : Over P) (ask
   -- or that it is
   pub has_reached : (next : ReadOn) → AtFailure s.at.1.group made.count next new.seen → made.count ≤ next.found
       → HasReached meld alone asked made next.reach (local old (view_at name before)) (local new (view_at name after))
-  unfolding decided_on
   has_reached next at enough =
       let before_that = s.onward in
       record {
@@ -455,7 +434,6 @@ module _ {P : Type 0} (meld : P → P → P) (alone quiet : Bool) (only : IsTrue
     -- it isn't found yet
     pub spawn_goes_on : (others : Prepared) → others ≡ prepared → SpawnIs meld quiet (target comm s.at.1.round context prepared.members) (seeking append (local own (view_at name now))) spawned.Unknown (seeking next (local new (view_at name after)))
         → Stands meld alone (local old (view_at name before)) (record { asked = asked; phase = Spawning next context reach; prepared = others }) (local new (view_at name after))
-    unfolding decided_on
     spawn_goes_on others kept is =
         let i = s.at.1 in
         let sought = is.0 in

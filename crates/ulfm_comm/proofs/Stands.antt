@@ -1,5 +1,5 @@
 -- A call under way stands as it stood, after others' events.
-use Rattle.std.proofs.Common.{◌≡◌, ℕ, Bool, true, List, [], Option, Some, None, IfSome, IsTrue, ap, sym, ◌∙◌, arith}
+use Rattle.std.proofs.Common.{◌≡◌, ℕ, Bool, true, List, [], Option, Some, None, IfSome, IsTrue, ap, refl, sym, append-nil, ◌∙◌, arith}
 use mathlib.Core.List.{IsPrefix}
 use Rattle.ulfm_laws.specs.declared.ctx_mask.CtxMask.{CtxMask}
 use Rattle.ulfm_model.specs.declared.call.Call.TheVariants as call
@@ -19,7 +19,7 @@ use Rattle.ulfm_steps.specs.declared.blocks.RoundBlocks.{RoundBlocks}
 use Rattle.ulfm_steps.proofs.{InBlocks.{are_later, at_block_later}, Appending.{passed_stays}, Arriving.{at_arrival_stays}}
 use Rattle.ulfm_comm.specs.Polls.{PollHasMarked}
 use Rattle.ulfm_comm.specs.{Look.{HasLooked, Looked}, Spawning.{HasReadMask, IsSpawning}, Agreement.{IsMarking, IsPeeking, IsReading}, Barrier.{IsWaiting}}
-use Rattle.ulfm_comm.proofs.{Known.{reads_on}, Polls.{polls_it}}
+use Rattle.ulfm_comm.proofs.{Barrier.{waiting_on}, Known.{reads_on}, Polls.{polls_it}}
 use Rattle.ulfm_comm.specs.Phase.{Stands, StandsAt, UnderWay, Waits}
 use Rattle.ulfm_comm.specs.declared.phases.phase.Phase.{Phase}
 use Rattle.ulfm_comm.specs.declared.phases.phase.Phase.TheVariants.{Over, Begun, Looking, Spreading, Settling, Arriving, Revoking, Asking, Peeking, Marking, Reading}
@@ -28,6 +28,29 @@ use Rattle.ulfm_comm.specs.Local.{frame, local}
 use Rattle.ulfm_comm.specs.Requests.{polled_round}
 use Rattle.ulfm_comm.specs.Spawning.{decided_as, sought}
 use Rattle.ulfm_comm.specs.Prepared.{Prepared}
+
+-- A shrink's round is decided: so it stays when others' events come, and a longer beginning of the list of failures is seen.
+module _ {P : Type 0} (meld : P → P → P) (limits : Limits) (alone : Bool) (c k : ℕ) (mask : CtxMask) (x : Held) (count : ℕ) (old : Record) (before : History P)
+    (own : Record) (now : History P)
+    (d : HasReadMask (frame meld limits alone) c (decided_as k mask count) x (moment old before) (moment own now)) where
+  abbrev pub decided_on : (new : Record) (after : History P) → Did alone [] now after → new ≡ record own { seen = new.seen } → IsPrefix own.seen new.seen
+      → IsPrefix new.seen (failures after)
+      → HasReadMask (frame meld limits alone) c (decided_as k mask count) x (moment old before) (moment new after)
+  decided_on new after did is goes begins =
+      record {
+        mid = d.mid;
+        decided = d.decided;
+        marked = d.marked;
+        all = d.all;
+        read = d.read;
+        body = d.body;
+        some = d.some;
+        count_is = d.count_is;
+        waited = did_wait alone [] d.decided now after d.waited did;
+        own_is = is ∙ ap (λ (w : Record). record w { seen = new.seen }) d.own_is;
+        goes_on = prefix_trans d.mid.seen own.seen new.seen d.goes_on goes;
+        begins = begins;
+      }
 
 module _ {P : Type 0} (meld : P → P → P) (limits : Limits) (alone : Bool) (old : Record) (before : History P) (own : Record) (now later : History P)
     (did : Did alone [] now later) (legal : IsLegal meld limits later) where
@@ -112,20 +135,8 @@ module _ {P : Type 0} (meld : P → P → P) (limits : Limits) (alone : Bool) (o
 
   abbrev pub decided_lasts : (c k : ℕ) (mask : CtxMask) (x : Held) (count : ℕ) → HasReadMask (frame meld limits alone) c (decided_as k mask count) x (moment old before) (moment own now)
       → HasReadMask (frame meld limits alone) c (decided_as k mask count) x (moment old before) (moment own later)
-  decided_lasts c k mask x count p = record {
-    mid = p.mid;
-    decided = p.decided;
-    marked = p.marked;
-    all = p.all;
-    read = p.read;
-    body = p.body;
-    some = p.some;
-    count_is = p.count_is;
-    waited = did_wait alone [] p.decided now later p.waited did;
-    own_is = p.own_is;
-    goes_on = p.goes_on;
-    begins = prefix_trans own.seen (failures now) (failures later) p.begins more_failures;
-  }
+  decided_lasts c k mask x count p = decided_on meld limits alone c k mask x count old before own now p own later did refl ([], append-nil own.seen)
+      (prefix_trans own.seen (failures now) (failures later) p.begins more_failures)
 
   pub spawning_lasts : (c : ℕ) (append : Append) (context reach : ℕ) (group : List ℕ)
       → IsSpawning (frame meld limits alone) c append (sought context reach group) (moment old before) (moment own now)
@@ -153,15 +164,7 @@ module _ {P : Type 0} (meld : P → P → P) (limits : Limits) (alone : Bool) (o
       }
 
   pub waiting_lasts : (c k : ℕ) (x : Held) → IsWaiting (frame meld limits alone) c k x (moment old before) (moment own now) → IsWaiting (frame meld limits alone) c k x (moment old before) (moment own later)
-  waiting_lasts c k x p = record {
-    look = p.look;
-    looked = p.looked;
-    legal = p.legal;
-    fits = p.fits;
-    held = p.held;
-    open_is = p.open_is;
-    waited = did_wait alone [] p.look now later p.waited did;
-  }
+  waiting_lasts c k x p = waiting_on meld limits alone c k x old before own now p alone (λ same. same) later did
 
 -- what is held of one of two words stays so
 module _ {P : Type 0} (name : Named P) (now later : Sight P) (begins : IsPrefix now.seen later.seen) (keeps : IsPrefix now.cached later.cached) where

@@ -170,18 +170,18 @@ module _ {P : Type 0} (limits : Limits) (own : Record) (asked : Call P) (x : Hel
       let some = peek_some (length (group_of (held_at own (comm_of asked)))) peek in
       fewer_more limits new asked (after_round limits own shrinks + 1) (steps_left limits own asked (Peeking peek shrinks)) (omega (arith, some)) next fewer
 
+  -- no more steps are spent than are left, where what comes behind the round is left too
+  rest_spends : (most used : ℕ) (new : Record) (next : Next P) (now after : Sight P) → used + after_round limits own shrinks ≤ most
+      → after.steps ≤ now.steps + used → FewerLeft (after_round limits own shrinks + 1) limits new asked next → Spends most limits new asked next now after
+  rest_spends most used new (Goes phase) now after within few fewer = omega (arith, within, few, fewer)
+  rest_spends most used new (Ends reply) now after within few fewer = omega (arith, within, few)
+
   pub peeks_spend : (peek : Peek P) (new : Record) (next : Next P) (now after : Sight P) → after.steps ≤ now.steps + peeks_left (length members) peek
       → FewerLeft (after_round limits own shrinks + 1) limits new asked next
       → Spends (steps_left limits own asked (Peeking peek shrinks)) limits new asked next now after
-  peeks_spend peek new next now after few fewer = spends next fewer
-    where
-      few_now : after.steps ≤ now.steps + peeks_left (length (group_of (held_at own (comm_of asked)))) peek
-      few_now = subst (λ n. after.steps ≤ now.steps + peeks_left n peek) same_length few
-
-      spends : (next : Next P) → FewerLeft (after_round limits own shrinks + 1) limits new asked next
-          → Spends (steps_left limits own asked (Peeking peek shrinks)) limits new asked next now after
-      spends (Goes phase) fewer = omega (arith, few_now, fewer)
-      spends (Ends reply) fewer = omega (arith, few_now)
+  peeks_spend peek new next now after few fewer =
+      rest_spends (steps_left limits own asked (Peeking peek shrinks)) (peeks_left (length (group_of (held_at own (comm_of asked)))) peek) new next now after
+      (omega arith) (subst (λ n. after.steps ≤ now.steps + peeks_left n peek) same_length few) fewer
 
   -- a reading that goes on
   pub reads_on : (reading next : ReadBlocks P) (now after : ℕ) → after + blocks_left (length members) next ≤ now + blocks_left (length members) reading
@@ -201,15 +201,9 @@ module _ {P : Type 0} (limits : Limits) (own : Record) (asked : Call P) (x : Hel
   pub reads_spend : (reading : ReadBlocks P) (new : Record) (next : Next P) (now after : Sight P)
       → after.steps ≤ now.steps + blocks_left (length members) reading → FewerLeft (after_round limits own shrinks + 1) limits new asked next
       → Spends (steps_left limits own asked (Reading reading shrinks)) limits new asked next now after
-  reads_spend reading new next now after few fewer = spends next fewer
-    where
-      few_now : after.steps ≤ now.steps + blocks_left (length (group_of (held_at own (comm_of asked)))) reading
-      few_now = subst (λ n. after.steps ≤ now.steps + blocks_left n reading) same_length few
-
-      spends : (next : Next P) → FewerLeft (after_round limits own shrinks + 1) limits new asked next
-          → Spends (steps_left limits own asked (Reading reading shrinks)) limits new asked next now after
-      spends (Goes phase) fewer = omega (arith, few_now, fewer)
-      spends (Ends reply) fewer = omega (arith, few_now)
+  reads_spend reading new next now after few fewer =
+      rest_spends (steps_left limits own asked (Reading reading shrinks)) (blocks_left (length (group_of (held_at own (comm_of asked)))) reading) new next now after
+      (omega arith) (subst (λ n. after.steps ≤ now.steps + blocks_left n reading) same_length few) fewer
 
 -- before a reading one load may be made, else none
 pub reads_few : {P : Type 0} (phase : Phase P) → reads_first phase ≤ 1
@@ -275,18 +269,8 @@ begun_bound {P} limits own asked in_use more =
 
     by_call : (asked : Call P) → max 1 (limits.ranks - length own.seen) + behind_look limits own asked ≤ call_bound limits.ranks (length own.seen)
         (length (group_of (held_at own (comm_of asked)))) limits.comms (request_of (held_at own (comm_of asked))) asked
-    by_call (call.Fail rank) = omega (arith, more)
-    by_call (call.GetFailed rank c) = omega (arith, more)
-    by_call (call.FailureGetAcked rank c) = omega (arith, more)
-    by_call (call.Ack rank c count) = omega (arith, more)
-    by_call (call.FailureAck rank c) = omega (arith, more)
-    by_call (call.Agree rank c value) = omega (arith, more)
-    by_call (call.Shrink rank c) = omega (arith, more)
-    by_call (call.Barrier rank c) = omega (arith, more)
     by_call (call.Poll rank c) = by_request (length (group_of (held_at own c))) (request_of (held_at own c))
-    by_call (call.Revoke rank c) = omega (arith, more)
-    by_call (call.IsRevoked rank c) = omega (arith, more)
-    by_call (call.Free rank c) = omega (arith, more)
+    by_call _ = omega (arith, more)
 
     by_refusal : (b : Bool) → max 1 (limits.ranks - length own.seen) + (if b then 0 else behind_look limits own asked)
         ≤ (if b then limits.ranks - length own.seen else call_bound limits.ranks (length own.seen) (length (group_of (held_at own (comm_of asked))))

@@ -10,32 +10,35 @@ use Rattle.ulfm_model.specs.{Records.{moment}, Terms.{comm_of, rests_on}}
 use Rattle.ulfm_model.proofs.Histories.{members_stay}
 use Rattle.ulfm_words.specs.Steps.{Over, Sight, view_at}
 use Rattle.ulfm_comm.specs.Calls.{Calls, EndsAs, EndsBy, EndsReply, HadCome, RunsOut, is_out_of_memory, reply_of, wants_memory}
-use Rattle.ulfm_comm.specs.{Polls.{Polls, polled}, Queries.{query}, Requests.{BlocksStand}}
+use Rattle.ulfm_comm.specs.{Counts.{TakesSteps}, Polls.{Polls, polled}, Queries.{query}, Requests.{BlocksStand}}
 use Rattle.ulfm_comm.specs.declared.{calls.polled.Polled.{Polled}, calls.polled.Polled.TheVariants.{Agreed, Done, Pending, Shrunk}}
 use Rattle.ulfm_model.specs.declared.{refusal.Refusal.{Refusal}, refusal.Refusal.TheVariants.{OutOfMemory}}
 use Rattle.ulfm_comm.proofs.{CallRuns.{called_counts, called_run}, Holding.{exists_is, failed_is, group_rises}, ReplyKinds.{answered_on}}
 use Rattle.ulfm_comm.specs.Local.{Local, local}
 
-module _ {P : Type 0} (meld : P → P → P) (alone : Bool) (name : Over P) (asked : Call P) (old : Record) (before : Sight P) (new : Record) (after : Sight P) where
-  calls_as : (reply : Reply P) (b : Bool) → EndsAs meld alone asked (local old (view_at name before)) reply b (local new (view_at name after)) → is_shrink (polled_by old asked) ≡ false
-      → Calls meld alone asked (local old (view_at name before)) reply (local new (view_at name after))
+module _ {P : Type 0} {meld : P → P → P} {alone : Bool} {asked : Call P} {old new : Local P} where
+  calls_as : (reply : Reply P) (b : Bool) → EndsAs meld alone asked old reply b new → is_shrink (polled_by old.own asked) ≡ false
+      → Calls meld alone asked old reply new
   calls_as reply true ended other = absurd (cc (ended.1, other))
   calls_as reply false ended other = ended
 
   -- only the poll of a shrink runs out of memory
-  pub ends_calls : (reply : Reply P) → EndsReply meld alone asked (local old (view_at name before)) reply (local new (view_at name after)) → is_shrink (polled_by old asked) ≡ false
-      → Calls meld alone asked (local old (view_at name before)) reply (local new (view_at name after))
+  pub ends_calls : (reply : Reply P) → EndsReply meld alone asked old reply new → is_shrink (polled_by old.own asked) ≡ false
+      → Calls meld alone asked old reply new
   ends_calls reply ends other = calls_as reply (wants_memory reply) ends other
 
--- the typed call is of the same rank by another name, and its own reply stands for that of the whole call
-pub typed_calls : {P : Type 0} (meld : P → P → P) (alone : Bool) (name : Over P) (asked same : Call P) (old : Record) (before : Sight P) (new : Record)
-    (after : Sight P) (reply told : Reply P) → asked ≡ same → told ≡ reply
-    → EndsReply meld alone asked (local old (view_at name before)) reply (local new (view_at name after)) → is_shrink (polled_by old asked) ≡ false
-    → Calls meld alone same (local old (view_at name before)) told (local new (view_at name after))
-typed_calls meld alone name asked same old before new after reply told by_same by_told ends other =
-    subst (λ q. Calls meld alone q (local old (view_at name before)) told (local new (view_at name after))) by_same
-    (ends_calls meld alone name asked old before new after told
-    (subst (λ r. EndsReply meld alone asked (local old (view_at name before)) r (local new (view_at name after))) (sym by_told) ends) other)
+-- The typed call, which is asked of the rank by its number: the whole call has it by another name, and its own reply stands for that of the whole
+-- call.
+module _ {P : Type 0} {old new : Local P} (asked : ℕ → Call P) {number same : ℕ} (mine : number ≡ same) where
+  pub typed_calls : {meld : P → P → P} {alone : Bool} {reply told : Reply P} → told ≡ reply → EndsReply meld alone (asked number) old reply new
+      → is_shrink (polled_by old.own (asked number)) ≡ false → Calls meld alone (asked same) old told new
+  typed_calls {meld} {alone} {reply} {told} by_told ends other =
+      subst (λ n. Calls meld alone (asked n) old told new) mine
+      (ends_calls told (subst (λ r. EndsReply meld alone (asked number) old r new) (sym by_told) ends) other)
+
+  -- and it takes the steps of the whole call
+  pub typed_steps : {last : ℕ} → TakesSteps {P = P} (asked number) old last new → TakesSteps {P = P} (asked same) old last new
+  typed_steps {last} takes = subst (λ n. TakesSteps {P = P} (asked n) old last new) mine takes
 
 -- what holds where a result is a value, and where it is an error
 pub ok_of : {E : Type 0} {Q : Type 0} (result : Result (Unit {0}) E) → IfOk result (λ _. Q) → is_err result ≡ false → Q
@@ -159,15 +162,13 @@ module _ {P : Type 0} (meld : P → P → P) (alone : Bool) (name : Over P) (som
     (after : Sight P) (mine : number ≡ old.number) (reply : Reply P) (told : FailedGroup count ≡ reply)
     (ends : EndsReply meld alone (query some number c) (local old (view_at name before)) reply (local new (view_at name after))) where
   pub counted_call : Calls meld alone (query some old.number c) (local old (view_at name before)) (FailedGroup count) (local new (view_at name after))
-  counted_call =
-      typed_calls meld alone name (query some number c) (query some old.number c) old before new after reply (FailedGroup count)
-      (ap (λ r. query some r c) mine) told ends (ap is_shrink (polls_none P old number c some))
+  counted_call = typed_calls (λ r. query some r c) mine told ends (ap is_shrink (polls_none P old number c some))
 
   pub counted_by : Fits meld name.limits before.seen old → HasCounted meld alone name some old.number c count old before new after
   counted_by fits = has_counted meld alone name some old.number c count old before new after fits counted_call
 
 -- the same of a poll, by its result
-module _ {P : Type 0} (meld : P → P → P) (alone : Bool) (asked : Call P) (old new : Local P) where
+module _ {P : Type 0} {meld : P → P → P} {alone : Bool} {asked : Call P} {old new : Local P} where
   polls_on : (answer : Polled P) → Calls meld alone asked old (polled answer) new → Polls meld alone asked old (Ok answer) new
   polls_on answer calls =
       record { of = calls.linearizes.of; fits = calls.linearizes.fits; run = calls; memory = λ is. absurd (cc is); blocks = calls.blocks }
@@ -199,8 +200,9 @@ module _ {P : Type 0} (meld : P → P → P) (alone : Bool) (asked : Call P) (ol
   by_result (Ok answer) ends = by_answer answer ends
   by_result (Err refusal) ends = by_refusal refusal (is_out_of_memory refusal) refl ends
 
-  pub typed_polls : (same : Call P) (reply : Reply P) (result : Result (Polled P) Refusal) → asked ≡ same → reply_of polled result ≡ reply
-      → EndsReply meld alone asked old reply new → Polls meld alone same old result new
-  typed_polls same reply result by_same by_told ends =
-      subst (λ q. Polls meld alone q old result new) by_same
-      (by_result result (subst (λ r. EndsReply meld alone asked old r new) (sym by_told) ends))
+pub typed_polls : {P : Type 0} {meld : P → P → P} {alone : Bool} {old new : Local P} (asked : ℕ → Call P) {number same : ℕ} {reply : Reply P}
+    (result : Result (Polled P) Refusal) → number ≡ same → reply_of polled result ≡ reply → EndsReply meld alone (asked number) old reply new
+    → Polls meld alone (asked same) old result new
+typed_polls {meld = meld} {alone = alone} {old = old} {new = new} asked {number = number} result mine by_told ends =
+    subst (λ n. Polls meld alone (asked n) old result new) mine
+    (by_result result (subst (λ r. EndsReply meld alone (asked number) old r new) (sym by_told) ends))

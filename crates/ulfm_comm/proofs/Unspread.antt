@@ -65,17 +65,7 @@ module _ {P : Type 0} (meld : P → P → P) (limits : Limits) (alone : Bool) (b
       let run : IsRun meld limits alone (moment old before) asked reply (moment new after) =
       record {
         in_use = ended.run.in_use;
-        span = record {
-          look = span.look;
-          point = span.point;
-          own = span.own;
-          looked = span.looked;
-          did = span.did;
-          point_begins = span.point_begins;
-          point_ends = span.point_ends;
-          legal = span.legal;
-          spread = false;
-        };
+        span = record span { spread = false };
         answer = record { own = answer.own; replies = replies; leaves = record { seen = answer.leaves.seen; record_is = answer.leaves.record_is } };
       } in
       (run, refl, refl, refl)

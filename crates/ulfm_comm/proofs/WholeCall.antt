@@ -4,11 +4,11 @@ use Rattle.ulfm_comm.specs.Requests.{contributes}
 use Rattle.std.proofs.Common.{IsTrue, IsFalse}
 use Rattle.std.specs.List.{AllByRecursion}
 use mathlib.Core.List.{IsPrefix}
-use Rattle.ulfm_model.specs.declared.{call.Call.{Call}, event.Caller.TheVariants.{Rank}, event.Event.{Event}, limits.Limits.{Limits}, refusal.Refusal.{Refusal}}
+use Rattle.ulfm_model.specs.declared.{call.Call.{Call}, event.Caller.{Caller}, event.Caller.TheVariants.{Rank}, event.Event.{Event}, limits.Limits.{Limits}, refusal.Refusal.{Refusal}}
 use Rattle.ulfm_model.specs.declared.{refusal.Refusal.TheVariants.{NoSuchComm, SelfFailed, Twice}, reply.Reply.{Reply}, reply.Reply.TheVariants.{Refused}}
 use Rattle.ulfm_model.specs.Answers.{CallAdds, IsReply, IsSelfFailed, MayOwn, Replies, RepliesBy, Sees, AtPoint, left_by, polled_by, refusal_of, refusal_on}
 use Rattle.ulfm_model.specs.Answers.{traits_of}
-use Rattle.ulfm_model.specs.{History.{History, IsLegal, entries_by, failures, has}, Records.{Held, Record, held_at, is_shrink}, Runs.{Did, unsettled_of}}
+use Rattle.ulfm_model.specs.{History.{History, IsLegal, entries_by, failures, has}, Records.{Held, Record, held_at, is_shrink}, Runs.{Did, IsSpan, unsettled_of}}
 use Rattle.ulfm_model.specs.Terms.{comm_of, request_of, settled_by}
 use Rattle.ulfm_model.proofs.{Histories.{failures_begin}, LeftRuns.{left_keeps}, Lists.{each_from, prefix_trans}}
 use Rattle.ulfm_model.specs.Records.{moment}
@@ -25,6 +25,22 @@ pub sees_later : {P : Type 0} (shrinks : Bool) (look : List ℕ) (after longer :
     → Sees shrinks look longer seen
 sees_later false look after longer seen more is = is
 sees_later true look after longer seen more sees = (sees.0, prefix_trans seen (failures after) (failures longer) sees.1 (failures_begin after longer more))
+
+-- a span whose point is its end
+abbrev pub span_ends : {P : Type 0} {meld : P → P → P} {limits : Limits} {alone : Bool} {before look after : History P} (caller : Caller) (own : List (Event P))
+    (spread : Bool) → Did alone [] before look → Did alone (entries_by caller own) look after → IsLegal meld limits after
+    → IsSpan meld limits alone before after caller
+span_ends {alone = alone} {before = before} {look = look} {after = after} caller own spread looked did legal = record {
+  look = look;
+  point = after;
+  own = own;
+  spread = spread;
+  looked = looked;
+  did = did;
+  point_begins = prefix_trans before look after (did_prefix alone [] before look looked) (did_prefix alone (entries_by caller own) look after did);
+  point_ends = ([], append-nil after);
+  legal = legal;
+}
 
 module _ {P : Type 0} (meld : P → P → P) (limits : Limits) (alone : Bool) (before look : History P) (old : Record) where
   -- what a reply at the end of a call rests on
@@ -45,22 +61,11 @@ module _ {P : Type 0} (meld : P → P → P) (limits : Limits) (alone : Bool) (b
       → new ≡ left_by limits.ranks after (record old { seen = seen }) asked reply → Marks asked own → (IsTrue spread → (contributes asked ≡ true) × (reply ≡ Refused Twice))
       → IsEndRun meld limits alone (moment old before) asked reply (moment new after)
   run_ends spread after own asked reply new seen in_use looked did legal may replies sees is marks rests =
-      let begins = did_prefix alone (entries_by (Rank old.number) own) look after did in
       let same : new.seen ≡ seen = ap (λ (w : Record). w.seen) is ∙ (left_keeps limits.ranks after (record old { seen = seen }) asked reply).1 in
       record {
         run = record {
           in_use = in_use;
-          span = record {
-            look = look;
-            point = after;
-            own = own;
-            looked = looked;
-            did = did;
-            point_begins = prefix_trans before look after (did_prefix alone [] before look looked) begins;
-            point_ends = ([], append-nil after);
-            legal = legal;
-            spread = spread;
-          };
+          span = span_ends (Rank old.number) own spread looked did legal;
           answer = record {
             own = may;
             replies = replies;

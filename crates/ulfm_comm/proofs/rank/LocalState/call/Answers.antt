@@ -6,7 +6,7 @@ use Rattle.ulfm_model.specs.Records.{Record}
 use Rattle.ulfm_words.specs.Steps.{over, view_at}
 use Rattle.ulfm_words.proofs.Trails.{did_none}
 use Rattle.ulfm_comm.specs.{Calls.{EndsReply}, Counts.{MakesSteps}, Local.{local}, Polls.{PendsIn}}
-use Rattle.ulfm_comm.proofs.{Known.{whole_ends}, Look.{full_seen, has_place_left, has_seen_all}, Runs.{whole_call}}
+use Rattle.ulfm_comm.proofs.{Known.{whole_ends}, Look.{full_seen, has_place_left, has_seen_all}, Counts.{makes_none}, Runs.{whole_call}}
 use Rattle.ulfm_comm.proofs.rank.LocalState.call.Goals as goal
 use Rattle.ulfm_comm.proofs.rank.LocalState.call.Goals.{After-run_begun, After-is_refused}
 
@@ -74,20 +74,7 @@ returns-then-is_refused-clause-ends g c =
 
 pub returns-then-is_refused-clause-steps : goal.returns-then-is_refused-clause-steps
 returns-then-is_refused-clause-steps g c =
-    let now = g.W.Words.sight c.args.pass.now in
-    record {
-      looked = now;
-      look = record {
-        begins = (([], append-nil now.seen), ([], append-nil now.cached), omega arith);
-        goes_on = (([], append-nil now.seen), ([], append-nil now.cached), omega arith);
-        few = omega arith;
-        found = omega arith;
-        ends = λ declared. refl;
-        sees = λ used. absurd (false≢true (sym used ∙ (sym c.is_refused.ensures ∙ c.if-is_refused.true)));
-      };
-      steps = omega arith;
-      also = λ stand. omega arith;
-    }
+    makes_none (λ used. absurd (false≢true (sym used ∙ (sym c.is_refused.ensures ∙ c.if-is_refused.true))))
 
 -- nor does one that has seen all
 pub returns-then-has_seen_all-clause-ends : goal.returns-then-has_seen_all-clause-ends
@@ -107,16 +94,4 @@ returns-then-has_seen_all-clause-steps g c =
     let now = g.W.Words.sight c.args.pass.now in
     let all = full_seen g.P.Meld.meld name c.args.self.now now c.requires.of c.requires.fits
     (eqb-true _ _ (sym c.has_seen_all.ensures.all ∙ c.if-has_seen_all.true)) in
-    record {
-      looked = now;
-      look = record {
-        begins = (([], append-nil now.seen), ([], append-nil now.cached), omega arith);
-        goes_on = (([], append-nil now.seen), ([], append-nil now.cached), omega arith);
-        few = omega arith;
-        found = omega arith;
-        ends = λ declared. refl;
-        sees = λ used. inl (ap (λ (w : Record). w.seen) c.refuse.ensures ∙ all);
-      };
-      steps = omega arith;
-      also = λ stand. omega arith;
-    }
+    makes_none (λ used. inl (ap (λ (w : Record). w.seen) c.refuse.ensures ∙ all))

@@ -5,7 +5,8 @@ use Rattle.ulfm_model.specs.{declared.reply.Reply.{Reply}, Records.{Record}}
 use Rattle.std.proofs.lemmas.Bool.{false≢true}
 use Rattle.ulfm_comm.specs.{Phase.{Turns}, Requests.{is_of_round}, Step.{TakesTurn}}
 use Rattle.ulfm_comm.specs.declared.{phases.phase.Next.TheVariants.{Ends}, phases.phase.Phase.TheVariants.{Checking}}
-use Rattle.ulfm_steps.specs.declared.arrivals.Missing.TheVariants.{Nobody, Others, Declared}
+use Rattle.ulfm_steps.specs.declared.arrivals.{Missing.{Missing}, Missing.TheVariants.{Nobody, Others, Declared}}
+use Rattle.ulfm_comm.specs.Barrier.{missing_leaves, missing_reply}
 use Rattle.ulfm_comm.proofs.AlsoLeft.{also_ends}
 use Rattle.ulfm_comm.proofs.Barrier.{checking_early, checking_missing, checking_revoked, checking_within}
 use Rattle.ulfm_comm.proofs.rank.LocalState.go_checking.Goals as goal
@@ -75,29 +76,25 @@ returns-then-load_revocation-clause-turn g c = ends g (goal.at.returns-then-load
     (omega (arith, c.load_revocation.ensures.loads.steps)) c.comm_of-comm.result c.comm_of-comm.ensures c.close.new.self
     (sym c.load_revocation.ensures.revoked ∙ c.if-load_revocation.true) c.close.ensures)
 
-pub returns-in-Nobody-clause-turn : goal.returns-in-Nobody-clause-turn
-returns-in-Nobody-clause-turn g c = ends g (goal.at.returns-in-Nobody-clause-turn g c).After-load_revocation _ c.close-in-Nobody.new.self
-    (ap (λ (w : Record). w.seen) c.close-in-Nobody.ensures) refl (λ prepared alone only old before stands.
+-- .. with who was missing, where it finds no revocation
+ends_missing : (g : _) (c : After-load_revocation g) (which : Missing) (new : Record) → c.load_revocation.result ≡ false → c.args.missing ≡ which
+    → new ≡ missing_leaves c.args.self.now c.comm_of-comm.result which → new.seen ≡ c.args.self.now.seen → is_of_round {P = g.row.P.Denot} (missing_reply which) ≡ false
+    → (prepared : Prepared) (whole : Bool) → TakesTurn g.P.Meld.meld g.W.Words.alone whole (under_way c.args.asked.now (Checking c.args.missing) prepared) (local c.args.self.now (view_of g.P.Packed.pack (g.W.Words.name c.args.words.now) (g.W.Words.sight c.args.pass.now))) (coming (Ends (missing_reply which)) prepared) (local new (view_of g.P.Packed.pack (g.W.Words.name c.args.words.now) (g.W.Words.sight c.load_revocation.new.pass)))
+ends_missing g c which new standing is left sees none = ends g c (missing_reply which) new sees none (λ prepared alone only old before stands.
     checking_missing g.P.Meld.meld alone (over g.P.Packed.pack (g.W.Words.name c.args.words.now)) c.args.asked.now c.args.missing prepared c.args.self.now
     (g.W.Words.sight c.args.pass.now) c.requires.of old before stands
     g.W.Words.alone only (g.W.Words.sight c.load_revocation.new.pass) c.load_revocation.ensures.loads.of c.load_revocation.ensures.loads.did
-    (omega (arith, c.load_revocation.ensures.loads.steps)) c.comm_of-comm.result c.comm_of-comm.ensures c.close-in-Nobody.new.self
-    (sym c.load_revocation.ensures.revoked ∙ c.if-load_revocation.false) Nobody c.in-Nobody.is c.close-in-Nobody.ensures)
+    (omega (arith, c.load_revocation.ensures.loads.steps)) c.comm_of-comm.result c.comm_of-comm.ensures new
+    (sym c.load_revocation.ensures.revoked ∙ standing) which is left)
+
+pub returns-in-Nobody-clause-turn : goal.returns-in-Nobody-clause-turn
+returns-in-Nobody-clause-turn g c = ends_missing g (goal.at.returns-in-Nobody-clause-turn g c).After-load_revocation Nobody c.close-in-Nobody.new.self
+    c.if-load_revocation.false c.in-Nobody.is c.close-in-Nobody.ensures (ap (λ (w : Record). w.seen) c.close-in-Nobody.ensures) refl
 
 pub returns-in-Others-clause-turn : goal.returns-in-Others-clause-turn
-returns-in-Others-clause-turn g c = ends g (goal.at.returns-in-Others-clause-turn g c).After-load_revocation _ c.args.self.now refl refl
-    (λ prepared alone only old before stands.
-    checking_missing g.P.Meld.meld alone (over g.P.Packed.pack (g.W.Words.name c.args.words.now)) c.args.asked.now c.args.missing prepared c.args.self.now
-    (g.W.Words.sight c.args.pass.now) c.requires.of old before stands
-    g.W.Words.alone only (g.W.Words.sight c.load_revocation.new.pass) c.load_revocation.ensures.loads.of c.load_revocation.ensures.loads.did
-    (omega (arith, c.load_revocation.ensures.loads.steps)) c.comm_of-comm.result c.comm_of-comm.ensures c.args.self.now
-    (sym c.load_revocation.ensures.revoked ∙ c.if-load_revocation.false) Others c.in-Others.is refl)
+returns-in-Others-clause-turn g c = ends_missing g (goal.at.returns-in-Others-clause-turn g c).After-load_revocation Others c.args.self.now
+    c.if-load_revocation.false c.in-Others.is refl refl refl
 
 pub returns-in-Declared-clause-turn : goal.returns-in-Declared-clause-turn
-returns-in-Declared-clause-turn g c = ends g (goal.at.returns-in-Declared-clause-turn g c).After-load_revocation _ c.close-in-Declared.new.self
-    (ap (λ (w : Record). w.seen) c.close-in-Declared.ensures) refl (λ prepared alone only old before stands.
-    checking_missing g.P.Meld.meld alone (over g.P.Packed.pack (g.W.Words.name c.args.words.now)) c.args.asked.now c.args.missing prepared c.args.self.now
-    (g.W.Words.sight c.args.pass.now) c.requires.of old before stands
-    g.W.Words.alone only (g.W.Words.sight c.load_revocation.new.pass) c.load_revocation.ensures.loads.of c.load_revocation.ensures.loads.did
-    (omega (arith, c.load_revocation.ensures.loads.steps)) c.comm_of-comm.result c.comm_of-comm.ensures c.close-in-Declared.new.self
-    (sym c.load_revocation.ensures.revoked ∙ c.if-load_revocation.false) Declared c.in-Declared.is c.close-in-Declared.ensures)
+returns-in-Declared-clause-turn g c = ends_missing g (goal.at.returns-in-Declared-clause-turn g c).After-load_revocation Declared c.close-in-Declared.new.self
+    c.if-load_revocation.false c.in-Declared.is c.close-in-Declared.ensures (ap (λ (w : Record). w.seen) c.close-in-Declared.ensures) refl

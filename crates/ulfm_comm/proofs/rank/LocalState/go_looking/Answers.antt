@@ -1,4 +1,4 @@
-use Rattle.std.proofs.Common.{rules, Bool, ℕ, ◌≡◌, ◌+◌, ◌-◌, ◌≤◌, arith, refl, subst, length, [], true, false, IsTrue, ap, ap₂, sym, ◌∙◌}
+use Rattle.std.proofs.Common.{rules, ◌≡◌, ◌+◌, ◌-◌, ◌≤◌, arith, refl, subst, length, [], true, false, ap, ap₂, sym, ◌∙◌}
 use Rattle.ulfm_comm.proofs.Wings.{turn_same}
 use Rattle.ulfm_words.specs.Steps.{over}
 use Rattle.std.proofs.lemmas.Bool.{false≢true}
@@ -6,72 +6,33 @@ use Rattle.ulfm_model.specs.{History.{failures, has}, Records.{Record, held_at}}
 use mathlib.Core.List.{IsPrefix}
 use Rattle.ulfm_model.proofs.{Histories.{failures_begin}, Lists.{length_prefix, prefix_trans}, Marking.{failures_few}}
 use Rattle.ulfm_words.proofs.Trails.{did_prefix, did_wait}
-use Rattle.ulfm_words.specs.Steps.{Goes, View}
 use Rattle.ulfm_steps.specs.Looks.{looks_left}
-use Rattle.ulfm_comm.specs.{AlsoLeft.{AlsoFollows, AlsoLooks, also_left}, Step.{LooksOn, Walks}, StepsLeft.{FewerLeft, Spends, steps_left, with_look}}
-use Rattle.ulfm_comm.specs.declared.{phases.phase.Next.{Next}, phases.phase.Next.TheVariants.{Ends}, phases.phase.Phase.TheVariants.{Looking}}
+use Rattle.ulfm_comm.specs.declared.{phases.phase.Next.TheVariants.{Ends}}
 use Rattle.ulfm_model.specs.declared.{refusal.Refusal.TheVariants.{SelfFailed}, reply.Reply.TheVariants.{Refused}}
-use Rattle.ulfm_comm.proofs.StepsLeft.{fewer_more, looks_on, looks_over, looks_up}
-use Rattle.ulfm_comm.proofs.AlsoLeft.{also_looks_on, also_looks_over, follows_ends}
+use Rattle.ulfm_comm.proofs.StepsLeft.{fewer_more, looks_on, looks_up}
+use Rattle.ulfm_comm.proofs.AlsoLeft.{also_looks_on, follows_ends}
+use Rattle.ulfm_comm.proofs.LookEnds.{LoadsEnd, ends_also, ends_loads, ends_look, has_looked, walked}
 use Rattle.ulfm_comm.proofs.{Known.{below_past, next_same}, Look.{just_declared}, AmongOthers.{did_loosely}}
 use Rattle.ulfm_comm.proofs.rank.LocalState.go_looking.Goals as goal
 use Rattle.ulfm_comm.proofs.rank.LocalState.go_looking.Goals.{After-look_on}
-use Rattle.ulfm_comm.specs.Local.{stance}
 
--- the look has ended: the loads that it has saved are left for what comes next
-ends_look : (g : _) (c : After-look_on g) → c.look_on.result ≡ true → (new : Record) (next : Next g.row.P.Denot)
-    → FewerLeft (with_look (g.W.Words.name c.args.words.now).limits c.look_on.new.self c.args.asked.now) (g.W.Words.name c.args.words.now).limits
-    new c.args.asked.now next
-    → Spends (steps_left (g.W.Words.name c.args.words.now).limits c.args.self.now c.args.asked.now Looking)
-    (g.W.Words.name c.args.words.now).limits new c.args.asked.now next (g.W.Words.sight c.args.pass.now) (g.W.Words.sight c.look_on.new.pass)
-ends_look g c done new next fewer =
-    let limits = (g.W.Words.name c.args.words.now).limits in
-    let now = g.W.Words.sight c.args.pass.now in
-    let after = g.W.Words.sight c.look_on.new.pass in
-    looks_over limits c.args.self.now c.look_on.new.self c.args.asked.now c.look_on.ensures.kept now after
-    (subst (λ b. after.steps + looks_left limits b c.look_on.new.self.seen ≤ now.steps + looks_left limits false c.args.self.now.seen) done
-    c.look_on.ensures.takes.turns) new next fewer
-
--- also beside the failures that it has found
-ends_look_also : (g : _) (c : After-look_on g) → c.look_on.result ≡ true → c.look_on.new.self.seen ≡ failures (g.W.Words.sight c.look_on.new.pass).seen
-    → (left : Record) (next : Next g.row.P.Denot)
-    → AlsoFollows (g.W.Words.name c.args.words.now).limits c.args.asked.now c.look_on.new.self next left
-    → AlsoLooks (also_left (g.W.Words.name c.args.words.now).limits c.args.self.now c.args.asked.now Looking) (g.W.Words.name c.args.words.now).limits c.args.asked.now (stance c.args.self.now (g.W.Words.sight c.args.pass.now)) next (stance left (g.W.Words.sight c.look_on.new.pass))
-ends_look_also g c done found left next follows =
-    let limits = (g.W.Words.name c.args.words.now).limits in
-    let now = g.W.Words.sight c.args.pass.now in
-    let after = g.W.Words.sight c.look_on.new.pass in
-    let goes = c.look_on.ensures.goes in
-    let within = failures_few g.P.Meld.meld limits after.seen goes.of.legal in
-    also_looks_over limits c.args.self.now c.look_on.new.self c.look_on.new.self.seen c.args.asked.now c.look_on.ensures.kept now after
-    c.requires.stands.1.2.at.3.1 (omega (arith, within, ap length found))
-    (subst (λ b. after.steps + looks_left limits b c.look_on.new.self.seen ≤ now.steps + looks_left limits false c.args.self.now.seen) done
-    c.look_on.ensures.takes.turns) left next follows
-
--- it has found all failures
-ends_loads : (g : _) (c : After-look_on g) → c.look_on.result ≡ true → c.look_on.new.self.seen ≡ failures (g.W.Words.sight c.look_on.new.pass).seen
-    → (left : Record) → left.seen ≡ c.look_on.new.self.seen → (next : Next g.row.P.Denot)
-    → (IsTrue (has left.seen c.args.self.now.number) → next ≡ Ends (Refused SelfFailed))
-    → LooksOn (g.W.Words.name c.args.words.now).limits c.args.self.now (g.W.Words.sight c.args.pass.now) next left
+-- its loads have ended
+ended : (g : _) (c : After-look_on g) → c.look_on.result ≡ true → c.look_on.new.self.seen ≡ failures (g.W.Words.sight c.look_on.new.pass).seen
+    → LoadsEnd (g.W.Words.name c.args.words.now).limits c.args.self.now c.look_on.new.self (g.W.Words.sight c.args.pass.now)
     (g.W.Words.sight c.look_on.new.pass)
-ends_loads g c done found left same next declared =
+ended g c done all =
     let limits = (g.W.Words.name c.args.words.now).limits in
     let now = g.W.Words.sight c.args.pass.now in
     let after = g.W.Words.sight c.look_on.new.pass in
-    let within = failures_few g.P.Meld.meld limits after.seen c.look_on.ensures.goes.of.legal in
-    let turns : after.steps + (limits.ranks - length c.look_on.new.self.seen - 1) ≤ now.steps + (limits.ranks - length c.args.self.now.seen) =
-    subst (λ b. after.steps + looks_left limits b c.look_on.new.self.seen ≤ now.steps + looks_left limits false c.args.self.now.seen) done
-    c.look_on.ensures.takes.turns in
+    let few = failures_few g.P.Meld.meld limits after.seen c.look_on.ensures.goes.of.legal in
     record {
-      few = omega (arith, turns);
-      found = λ more. omega (arith, turns, within, ap length found, ap length same, more);
-      sees = λ past. same ∙ found;
-      ends = λ past. declared;
+      kept = c.look_on.ensures.kept;
+      more = c.requires.stands.1.2.at.3.1;
+      all = all;
+      within = omega (arith, few, ap length all);
+      turns = subst (λ b. after.steps + looks_left limits b c.look_on.new.self.seen ≤ now.steps + looks_left limits false c.args.self.now.seen) done
+          c.look_on.ensures.takes.turns;
     }
-
--- loads of a list are steps of the rank without an event
-walked : {P : Type 0} {meld : P → P → P} {quiet : Bool} {most rank : ℕ} {old new : View P} → Goes meld quiet false most old new → Walks meld quiet rank old new
-walked goes = record { of = goes.of; own = []; did = goes.did; onward = goes.onward; cached = goes.cached }
 
 pub returns-then-not-look_on-clause-turn : goal.returns-then-not-look_on-clause-turn
 returns-then-not-look_on-clause-turn g c =
@@ -88,11 +49,7 @@ returns-then-not-look_on-clause-turn g c =
       beside = turn_same _ _ _ _ _ (λ w. w) (did_prefix g.W.Words.alone _ _ _ c.look_on.ensures.goes.did) c.look_on.ensures.goes.caches;
       named = search rules;
       nearer = search rules;
-      spends = looks_on (g.W.Words.name c.args.words.now).limits c.args.self.now c.look_on.new.self c.args.asked.now c.look_on.ensures.kept
-          (g.W.Words.sight c.args.pass.now).steps (g.W.Words.sight c.look_on.new.pass).steps
-          (subst (λ done. (g.W.Words.sight c.look_on.new.pass).steps + looks_left (g.W.Words.name c.args.words.now).limits done c.look_on.new.self.seen ≤
-          (g.W.Words.sight c.args.pass.now).steps + looks_left (g.W.Words.name c.args.words.now).limits false c.args.self.now.seen)
-          c.if-not-look_on.true c.look_on.ensures.takes.turns);
+      spends = looks_on limits c.args.self.now c.look_on.new.self c.args.asked.now c.look_on.ensures.kept now.steps after.steps turns;
       also = also_looks_on limits c.args.self.now c.look_on.new.self c.look_on.new.self.seen c.args.asked.now c.look_on.ensures.kept now after
           c.requires.stands.1.2.at.3.1 c.if-not-look_on.ensures.look.1 turns;
       further = search rules;
@@ -122,22 +79,20 @@ returns-then-not-look_on-clause-turn g c =
 pub returns-then-has_rank-clause-turn : goal.returns-then-has_rank-clause-turn
 returns-then-has_rank-clause-turn g c =
     λ prepared.
+    let end = ended g (goal.at.returns-then-has_rank-clause-turn g c).After-look_on c.if-not-look_on.false c.if-not-look_on.ensures.look in
     record {
       walks = walked c.look_on.ensures.goes;
       beside = turn_same _ _ _ _ _ (λ w. w) (did_prefix g.W.Words.alone _ _ _ c.look_on.ensures.goes.did) c.look_on.ensures.goes.caches;
       named = search rules;
       nearer = search rules;
-      spends = ends_look g (goal.at.returns-then-has_rank-clause-turn g c).After-look_on c.if-not-look_on.false c.refuse.new.self
-          (Ends (Refused SelfFailed)) tt;
-      also = ends_look_also g (goal.at.returns-then-has_rank-clause-turn g c).After-look_on c.if-not-look_on.false c.if-not-look_on.ensures.look
-          c.refuse.new.self (Ends (Refused SelfFailed))
+      spends = ends_look end c.args.asked.now c.refuse.new.self (Ends (Refused SelfFailed)) tt;
+      also = ends_also end c.args.asked.now c.refuse.new.self (Ends (Refused SelfFailed))
           (follows_ends (g.W.Words.name c.args.words.now).limits c.look_on.new.self c.args.asked.now (Refused SelfFailed) c.refuse.new.self
           (ap (λ (w : Record). w.seen) c.refuse.ensures));
       further = search rules;
       adds = search rules;
       sees = search rules;
-      looks = λ at. ends_loads g (goal.at.returns-then-has_rank-clause-turn g c).After-look_on c.if-not-look_on.false c.if-not-look_on.ensures.look
-          c.refuse.new.self (ap (λ (w : Record). w.seen) c.refuse.ensures) (Ends (Refused SelfFailed)) (λ declared. refl);
+      looks = λ at. ends_loads end c.refuse.new.self (ap (λ (w : Record). w.seen) c.refuse.ensures) (Ends (Refused SelfFailed)) (λ declared. refl);
       knows = λ known of. absurd (cc of);
       leads = search rules;
       turns = let name = over g.P.Packed.pack (g.W.Words.name c.args.words.now) in
@@ -157,6 +112,7 @@ returns-then-has_rank-clause-turn g c =
 pub returns-clause-turn : goal.returns-clause-turn
 returns-clause-turn g c =
     λ prepared.
+    let end = ended g (goal.at.returns-clause-turn g c).After-look_on c.if-not-look_on.false c.if-not-look_on.ensures.look in
     record {
       walks = walked c.look_on.ensures.goes;
       beside = turn_same _ _ _ _ _ (λ w. w) (did_prefix g.W.Words.alone _ _ _ c.look_on.ensures.goes.did) c.look_on.ensures.goes.caches;
@@ -174,14 +130,12 @@ returns-clause-turn g c =
           fewer_more name.limits c.looked.new.self c.args.asked.now _ _
           (looks_up name.limits own new c.args.asked.now c.look_on.ensures.kept at.3.1 (length_prefix own.seen new.seen begins)) c.looked.result
           c.looked.ensures.nearer;
-      spends = ends_look g (goal.at.returns-clause-turn g c).After-look_on c.if-not-look_on.false c.looked.new.self c.looked.result c.looked.ensures.nearer;
-      also = ends_look_also g (goal.at.returns-clause-turn g c).After-look_on c.if-not-look_on.false c.if-not-look_on.ensures.look c.looked.new.self
-          c.looked.result c.looked.ensures.also;
+      spends = ends_look end c.args.asked.now c.looked.new.self c.looked.result c.looked.ensures.nearer;
+      also = ends_also end c.args.asked.now c.looked.new.self c.looked.result c.looked.ensures.also;
       further = search rules;
       adds = search rules;
       sees = search rules;
-      looks = λ at. ends_loads g (goal.at.returns-clause-turn g c).After-look_on c.if-not-look_on.false c.if-not-look_on.ensures.look c.looked.new.self
-          c.looked.ensures.also.sees c.looked.result
+      looks = λ at. ends_loads end c.looked.new.self c.looked.ensures.also.sees c.looked.result
           (λ declared. absurd (false≢true (sym c.if-has_rank.false ∙ (c.has_rank.ensures ∙
           (ap₂ has (c.failures.ensures ∙ sym c.looked.ensures.also.sees) (c.number.ensures ∙ ap (λ (w : Record). w.number) c.look_on.ensures.kept)
           ∙ declared)))));
@@ -191,24 +145,9 @@ returns-clause-turn g c =
           c.looked.result (c.looked.ensures.knows cached);
       leads = search rules;
       turns = λ alone only old before u.
-          let now = g.W.Words.sight c.args.pass.now in
-          let after = g.W.Words.sight c.look_on.new.pass in
-          let goes = did_loosely alone g.W.Words.alone only [] now.seen after.seen c.look_on.ensures.goes.did in
-          let own = c.look_on.ensures.kept ∙ ap (λ (w : Record). record w { seen = c.look_on.new.self.seen }) u.at.1 in
-          let found : c.look_on.new.self.seen ≡ failures after.seen = c.if-not-look_on.ensures.look in
-          let number = c.number.ensures ∙ (ap (λ (w : Record). w.number) c.look_on.ensures.kept ∙ ap (λ (w : Record). w.number) u.at.1) in
           c.looked.ensures.turns prepared alone old before
-          (record {
-            fits = u.fits;
-            mine = u.mine;
-            onward = omega (arith, u.onward, c.look_on.ensures.goes.onward);
-            looked = record {
-              in_use = u.at.0;
-              did = did_wait alone [] before.seen now.seen after.seen u.at.2 goes;
-              not_declared = ap₂ has (sym (c.failures.ensures ∙ found)) (sym number) ∙ (sym c.has_rank.ensures ∙ c.if-has_rank.false);
-              record_is = own ∙ ap (λ s. record old { seen = s }) found;
-            };
-          });
+          (has_looked end only c.look_on.ensures.goes.did c.look_on.ensures.goes.onward
+          (ap₂ has (sym c.failures.ensures) (sym c.number.ensures) ∙ (sym c.has_rank.ensures ∙ c.if-has_rank.false)) u);
     }
 
 pub returns-then-not-look_on-clause-past : goal.returns-then-not-look_on-clause-past

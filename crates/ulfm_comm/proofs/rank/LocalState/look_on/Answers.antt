@@ -5,7 +5,7 @@ use Rattle.ulfm_model.proofs.{Histories.{failures_begin}, Lists.{prefix_trans}}
 use Rattle.ulfm_words.proofs.Trails.{did_prefix}
 use Rattle.ulfm_words.specs.Steps.{view_of}
 use Rattle.ulfm_steps.specs.Looks.{LookIsIn}
-use Rattle.ulfm_comm.proofs.Others.{others_stay}
+use Rattle.ulfm_comm.proofs.Others.{others_stay, room_in}
 use Rattle.ulfm_comm.proofs.rank.LocalState.look_on.Goals as goal
 
 pub invariant_of-self-else-not-look : goal.invariant_of-self-else-not-look
@@ -19,14 +19,7 @@ invariant_of-self-else-not-look g c =
     let begins = prefix_trans c.args.self.now.seen (failures now.seen) (failures after.seen) c.requires.look.0 grown in
     record {
       below = c.self.invariant.below;
-      room = record {
-        may_open = was.may_open;
-        room = omega (arith, was.room, c.advance.ensures.room);
-        few = was.few;
-        more = was.more;
-        ids = was.ids;
-        contexts = was.contexts;
-      };
+      room = room_in _ (omega (arith, was.room, c.advance.ensures.room)) was;
       others_are = others_stay c.self.inside.number c.self.inside.seen.items c.advance.new.found.items c.self.inside.others
           (subst (λ xs. IsPrefix xs c.advance.new.found.items) (sym (ap (λ (own : Record). own.seen) c.self.view_is))
           (subst (IsPrefix c.args.self.now.seen) (sym all) begins)) c.self.invariant.others_are;

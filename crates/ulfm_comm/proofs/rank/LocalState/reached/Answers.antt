@@ -3,10 +3,9 @@ use Rattle.std.proofs.Math.Nat.{min-le_left, min-le_right}
 use Rattle.ulfm_words.specs.Steps.{over}
 use Rattle.std.specs.Prelude.{IfOk, Result, Ok, Err}
 use Rattle.std.specs.Result.{is_err}
-use Rattle.ulfm_model.specs.Answers.{closed, traits_of}
+use Rattle.ulfm_model.specs.Answers.{closed}
 use Rattle.ulfm_model.specs.History.{has, without}
 use Rattle.ulfm_model.specs.Records.{Held, held_at}
-use Rattle.ulfm_model.specs.declared.call.Call.{Call}
 use Rattle.ulfm_model.specs.declared.event.Caller.TheVariants.{Rank as ByRank}
 use Rattle.ulfm_steps.specs.Appends.{Passed, room}
 use Rattle.ulfm_steps.specs.declared.append.Append.{Append}
@@ -14,6 +13,7 @@ use Rattle.ulfm_steps.specs.declared.item.Item.{Item}
 use Rattle.ulfm_steps.specs.declared.item.Item.TheVariants.{Comm as OfComm}
 use Rattle.ulfm_model.specs.declared.limits.Limits.{Limits}
 use Rattle.ulfm_model.specs.Terms.{comm_of}
+use Rattle.ulfm_comm.proofs.Agreement.{polls_stand}
 use Rattle.ulfm_comm.proofs.Spawning.{ends_full, ends_out, ends_self_failed, full_alone, held_is, number_is, passes_parent}
 use Rattle.ulfm_comm.specs.Prepared.{HasPlaces}
 use Rattle.ulfm_comm.proofs.rank.LocalState.reached.Goals as goal
@@ -93,28 +93,23 @@ returns-clause-turns g c = λ alone old before r.
     let limits = ap (λ (l : Limits). l.comms) c.limits.ensures.limits in
     let several = c.if-limits-eq1.false in
     let prepared = prepares g (goal.at.returns-clause-turns g c).After-is_err c.if-is_err.false in
-    record {
-      fits = r.fits;
-      mine = ap (λ (a : Call _). (traits_of a).by) r.polls;
-      onward = r.onward;
-      at = (
-        r.polls,
-        record {
-          x = r.x;
-          round = c.args.made.round;
-          mask = c.args.made.mask;
-          count = c.args.made.count;
-          decided = r.decided;
-          lowest = c.lowest_id.ensures;
-          reads = r.reads;
-          stays = sym there ∙ c.if-has_rank.false;
-          left = prepared.0 r.x held;
-          item = item;
-          mine = ap (λ (a : Append). a.by) c.new-append.ensures ∙ ap ByRank (c.number-number.ensures ∙ number);
-          passed = subst (λ (i : Item). Passed now.seen i index) (sym item) (passes_parent g.P.Meld.meld name.limits alone (comm_of c.args.asked.now)
-              c.args.made.round c.args.made.mask r.x c.args.made.count old before.seen c.args.self.now now.seen r.decided c.requires.of.legal index first.0);
-          more = subst (λ (i : Item). index < room i name.limits) (sym item) (first.1 (omega (arith, some, limits, several)));
-        },
-        prepared.1,
-      );
-    }
+    polls_stand r.fits r.polls r.onward (
+      r.polls,
+      record {
+        x = r.x;
+        round = c.args.made.round;
+        mask = c.args.made.mask;
+        count = c.args.made.count;
+        decided = r.decided;
+        lowest = c.lowest_id.ensures;
+        reads = r.reads;
+        stays = sym there ∙ c.if-has_rank.false;
+        left = prepared.0 r.x held;
+        item = item;
+        mine = ap (λ (a : Append). a.by) c.new-append.ensures ∙ ap ByRank (c.number-number.ensures ∙ number);
+        passed = subst (λ (i : Item). Passed now.seen i index) (sym item) (passes_parent g.P.Meld.meld name.limits alone (comm_of c.args.asked.now)
+            c.args.made.round c.args.made.mask r.x c.args.made.count old before.seen c.args.self.now now.seen r.decided c.requires.of.legal index first.0);
+        more = subst (λ (i : Item). index < room i name.limits) (sym item) (first.1 (omega (arith, some, limits, several)));
+      },
+      prepared.1,
+    )

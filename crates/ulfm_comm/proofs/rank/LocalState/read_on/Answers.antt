@@ -5,7 +5,7 @@ use Rattle.ulfm_model.specs.History.{failures}
 use Rattle.ulfm_model.specs.Records.{Held, Record, held_at}
 use Rattle.ulfm_steps.specs.ReadsOn.{AtFailure, MayReadOn, ReadOnTakes}
 use Rattle.ulfm_record.proofs.Places.{find_is, find_missing, is_of, position_below}
-use Rattle.ulfm_comm.proofs.Others.{others_stay}
+use Rattle.ulfm_comm.proofs.Others.{others_stay, room_in}
 use Rattle.ulfm_comm.proofs.rank.LocalState.read_on.Goals as goal
 use Rattle.ulfm_comm.proofs.rank.LocalState.read_on.Goals.{After-deref-2}
 
@@ -57,14 +57,7 @@ invariant_of-self g c =
       below = c.self.invariant.below;
       others_are = others_stay c.self.inside.number c.self.inside.seen.items c.advance.new.seen.items c.self.inside.others c.advance.ensures.goes_on
           c.self.invariant.others_are;
-      room = record {
-        may_open = was.may_open;
-        room = omega (arith, was.room, c.advance.ensures.room);
-        few = was.few;
-        more = was.more;
-        ids = was.ids;
-        contexts = was.contexts;
-      };
+      room = room_in _ (omega (arith, was.room, c.advance.ensures.room)) was;
     }
 
 pub returns-clause-goes : goal.returns-clause-goes

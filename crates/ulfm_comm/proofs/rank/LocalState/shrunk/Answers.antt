@@ -1,12 +1,12 @@
 use Rattle.std.proofs.Common.{◌≡◌, Some, ap, sym, ◌∙◌, subst, false, arith}
 use Rattle.ulfm_words.specs.Steps.{over}
 use Rattle.std.specs.List.Sorted.{IsStrictlyIncreasing}
-use Rattle.ulfm_model.specs.Answers.{closed, traits_of}
+use Rattle.ulfm_model.specs.Answers.{closed}
 use Rattle.ulfm_model.specs.Records.{Held, Record, held_at}
-use Rattle.ulfm_model.specs.declared.call.Call.{Call}
 use Rattle.ulfm_model.specs.Terms.{comm_of}
 use Rattle.ulfm_steps.specs.ReadsOn.{AtFailure}
 use Rattle.ulfm_comm.proofs.AlsoLeft.{also_reached}
+use Rattle.ulfm_comm.proofs.Agreement.{polls_stand}
 use Rattle.ulfm_comm.proofs.Spawning.{decided_first, ends_mismatch, ends_no_context, group_goes_up, reached_first}
 use Rattle.ulfm_comm.proofs.rank.LocalState.shrunk.Goals as goal
 use Rattle.ulfm_comm.proofs.rank.LocalState.shrunk.Goals.{After-deref, After-new-on}
@@ -57,20 +57,15 @@ at_failure g c x group =
 pub returns-then-on-count-clause-turns : goal.returns-then-on-count-clause-turns
 returns-then-on-count-clause-turns g c = λ alone old before r.
     let some = c.if-mask-eq0.false in
-    record {
-      fits = r.fits;
-      mine = ap (λ (a : Call _). (traits_of a).by) r.polls;
-      onward = r.onward;
-      at = (
-        r.polls,
-        r.x,
-        decided_first g.P.Meld.meld alone (over g.P.Packed.pack (g.W.Words.name c.args.words.now)) c.args.asked.now c.args.round c.args.all old before c.args.self.now
-            (g.W.Words.sight c.args.pass.now) c.requires.of r c.in-Ctx.mask c.in-Ctx.is (omega (arith, some)),
-        at_failure g (goal.at.returns-then-on-count-clause-turns g c).After-new-on r.x
-            (group_is g (goal.at.returns-then-on-count-clause-turns g c).After-deref r.x r.marked.held),
-        c.if-on-count.true,
-      );
-    }
+    polls_stand r.fits r.polls r.onward (
+      r.polls,
+      r.x,
+      decided_first g.P.Meld.meld alone (over g.P.Packed.pack (g.W.Words.name c.args.words.now)) c.args.asked.now c.args.round c.args.all old before c.args.self.now
+          (g.W.Words.sight c.args.pass.now) c.requires.of r c.in-Ctx.mask c.in-Ctx.is (omega (arith, some)),
+      at_failure g (goal.at.returns-then-on-count-clause-turns g c).After-new-on r.x
+          (group_is g (goal.at.returns-then-on-count-clause-turns g c).After-deref r.x r.marked.held),
+      c.if-on-count.true,
+    )
 
 pub reached-requires-clause-reached : goal.reached-requires-clause-reached
 reached-requires-clause-reached g c =

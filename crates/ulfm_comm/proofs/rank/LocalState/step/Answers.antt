@@ -3,6 +3,7 @@ use Rattle.ulfm_model.specs.declared.call.Call.{Call}
 use Rattle.ulfm_model.specs.Records.{Record}
 use Rattle.ulfm_words.specs.Steps.{view_of, Sight, view_at, over}
 use Rattle.ulfm_comm.specs.{Phase.{Answered, NextIs, Stands, UnderWay, Waits}, Step.{Stepped}, StepsLeft.{Spends, steps_left}}
+use Rattle.ulfm_comm.specs.declared.phases.phase.Next.{Next}
 use Rattle.ulfm_comm.proofs.Stands.{stands_lasts}
 use Rattle.ulfm_comm.proofs.rank.LocalState.step.Goals as goal
 use Rattle.ulfm_comm.proofs.rank.LocalState.step.Goals.{After-go, After-go-arg-4-1}
@@ -94,31 +95,24 @@ returns-in-Ends-clause-stepped g c =
     subst (λ next. Stepped g.P.Meld.meld g.W.Words.alone c.args.doing.now (local c.args.self.now (view_of g.P.Packed.pack (g.W.Words.name c.args.words.now) (g.W.Words.sight c.args.pass.now))) next (local c.go.new.self (view_of g.P.Packed.pack (g.W.Words.name c.args.words.now) (g.W.Words.sight c.go.new.pass)))) c.in-Ends.is
     (stepped g (goal.at.returns-in-Ends-clause-stepped g c).After-go)
 
--- what it spent
-spent : (g : _) (c : After-go g)
+-- what it spent, by what comes next
+spent : (g : _) (c : After-go g) {next : Next g.row.P.Denot} → c.go.result ≡ next
     → Spends (steps_left (g.W.Words.name c.args.words.now).limits c.args.self.now c.args.doing.now.asked c.args.doing.now.phase)
-    (g.W.Words.name c.args.words.now).limits c.go.new.self c.args.doing.now.asked c.go.result (g.W.Words.sight c.args.pass.now)
-    (g.W.Words.sight c.go.new.pass)
-spent g c =
+    (g.W.Words.name c.args.words.now).limits c.go.new.self c.args.doing.now.asked next (g.W.Words.sight c.args.pass.now) (g.W.Words.sight c.go.new.pass)
+spent g c is =
     let limits = (g.W.Words.name c.args.words.now).limits in
-    let at = (goal.at.After-go g c).After-go-arg-4-1 in
-    subst (λ (was : UnderWay g.row.P.Denot). Spends (steps_left limits c.args.self.now was.asked was.phase) limits c.go.new.self was.asked c.go.result
-    (g.W.Words.sight c.args.pass.now) (g.W.Words.sight c.go.new.pass))
-    (sym (same g at)) c.go.ensures.turn.spends
+    let now = g.W.Words.sight c.args.pass.now in
+    let after = g.W.Words.sight c.go.new.pass in
+    let doing = c.args.doing.now in
+    subst (λ next. Spends (steps_left limits c.args.self.now doing.asked doing.phase) limits c.go.new.self doing.asked next now after) is
+    (subst (λ (was : UnderWay g.row.P.Denot). Spends (steps_left limits c.args.self.now was.asked was.phase) limits c.go.new.self was.asked c.go.result now after)
+    (sym (same g (goal.at.After-go g c).After-go-arg-4-1)) c.go.ensures.turn.spends)
 
 pub returns-in-Goes-clause-spends : goal.returns-in-Goes-clause-spends
-returns-in-Goes-clause-spends g c =
-    let limits = (g.W.Words.name c.args.words.now).limits in
-    subst (λ next. Spends (steps_left limits c.args.self.now c.args.doing.now.asked c.args.doing.now.phase) limits c.go.new.self c.args.doing.now.asked next
-    (g.W.Words.sight c.args.pass.now) (g.W.Words.sight c.go.new.pass)) c.in-Goes.is
-    (spent g (goal.at.returns-in-Goes-clause-spends g c).After-go)
+returns-in-Goes-clause-spends g c = spent g (goal.at.returns-in-Goes-clause-spends g c).After-go c.in-Goes.is
 
 pub returns-in-Ends-clause-spends : goal.returns-in-Ends-clause-spends
-returns-in-Ends-clause-spends g c =
-    let limits = (g.W.Words.name c.args.words.now).limits in
-    subst (λ next. Spends (steps_left limits c.args.self.now c.args.doing.now.asked c.args.doing.now.phase) limits c.go.new.self c.args.doing.now.asked next
-    (g.W.Words.sight c.args.pass.now) (g.W.Words.sight c.go.new.pass)) c.in-Ends.is
-    (spent g (goal.at.returns-in-Ends-clause-spends g c).After-go)
+returns-in-Ends-clause-spends g c = spent g (goal.at.returns-in-Ends-clause-spends g c).After-go c.in-Ends.is
 
 -- what it leaves of wings
 wings : (g : _) (c : After-go g) → IsTrue g.W.Words.alone

@@ -1,4 +1,5 @@
 use Rattle.std.proofs.Common.{◌≡◌, ◌<◌, refl, ap, sym, subst, arith}
+use Rattle.ulfm_model.specs.declared.reply.Reply.{Reply}
 use Rattle.ulfm_words.specs.Steps.{Name, over}
 use Rattle.ulfm_words.specs.Steps.{view_at, over}
 use Rattle.ulfm_steps.specs.{Appends.{MayAppend}}
@@ -29,26 +30,29 @@ below g c =
     let ranks : c.limits.result.ranks ≡ (g.W.Words.name c.self.inside.words).limits.ranks = ap (λ l. l.ranks) c.limits.ensures.limits in
     omega (arith, ranks, c.if-rank-limits.false)
 
+-- the declaration, by the name of the world
+named : (g : _) (c : After-finish g) {reply : Reply g.row.P.Denot}
+    → Fails g.P.Meld.meld g.W.Words.alone c.args.rank (view_at (over g.P.Packed.pack (g.W.Words.name c.self.inside.words)) (g.W.Words.sight c.args.pass.now)) reply
+    (view_at (over g.P.Packed.pack (g.W.Words.name c.self.inside.words)) (g.W.Words.sight c.finish.new.pass))
+    → Fails g.P.Meld.meld g.W.Words.alone c.args.rank (view_at (over g.P.Packed.pack c.args.self.now) (g.W.Words.sight c.args.pass.now)) reply
+    (view_at (over g.P.Packed.pack c.args.self.now) (g.W.Words.sight c.finish.new.pass))
+named g c {reply} = subst (λ (n : Name). Fails g.P.Meld.meld g.W.Words.alone c.args.rank (view_at (over g.P.Packed.pack n) (g.W.Words.sight c.args.pass.now)) reply
+    (view_at (over g.P.Packed.pack n) (g.W.Words.sight c.finish.new.pass))) c.self.view_is
+
 pub returns-in-Won : goal.returns-in-Won
 returns-in-Won g c =
-    let before = g.W.Words.sight c.args.pass.now in
-    let after = g.W.Words.sight c.finish.new.pass in
-    subst (λ (n : Name). Fails g.P.Meld.meld g.W.Words.alone c.args.rank (view_at (over g.P.Packed.pack n) before) _ (view_at (over g.P.Packed.pack n) after)) c.self.view_is
-    (fail_won g.P.Meld.meld g.W.Words.alone (over g.P.Packed.pack (g.W.Words.name c.self.inside.words)) c.args.rank before after c.in-Won.field-0
-    (below g (goal.at.returns-in-Won g c).After-finish) (rw c.new-append.ensures at c.in-Won.ensures))
+    let here = (goal.at.returns-in-Won g c).After-finish in
+    named g here (fail_won g.P.Meld.meld g.W.Words.alone (over g.P.Packed.pack (g.W.Words.name c.self.inside.words)) c.args.rank (g.W.Words.sight c.args.pass.now)
+    (g.W.Words.sight c.finish.new.pass) c.in-Won.field-0 (below g here) (rw c.new-append.ensures at c.in-Won.ensures))
 
 pub returns-in-Found : goal.returns-in-Found
 returns-in-Found g c =
-    let before = g.W.Words.sight c.args.pass.now in
-    let after = g.W.Words.sight c.finish.new.pass in
-    subst (λ (n : Name). Fails g.P.Meld.meld g.W.Words.alone c.args.rank (view_at (over g.P.Packed.pack n) before) _ (view_at (over g.P.Packed.pack n) after)) c.self.view_is
-    (fail_found g.P.Meld.meld g.W.Words.alone (over g.P.Packed.pack (g.W.Words.name c.self.inside.words)) c.args.rank before after c.in-Found.field-0
-    (below g (goal.at.returns-in-Found g c).After-finish) (rw c.new-append.ensures at c.in-Found.ensures))
+    let here = (goal.at.returns-in-Found g c).After-finish in
+    named g here (fail_found g.P.Meld.meld g.W.Words.alone (over g.P.Packed.pack (g.W.Words.name c.self.inside.words)) c.args.rank (g.W.Words.sight c.args.pass.now)
+    (g.W.Words.sight c.finish.new.pass) c.in-Found.field-0 (below g here) (rw c.new-append.ensures at c.in-Found.ensures))
 
 pub returns-in-Full : goal.returns-in-Full
 returns-in-Full g c =
-    let before = g.W.Words.sight c.args.pass.now in
-    let after = g.W.Words.sight c.finish.new.pass in
-    subst (λ (n : Name). Fails g.P.Meld.meld g.W.Words.alone c.args.rank (view_at (over g.P.Packed.pack n) before) _ (view_at (over g.P.Packed.pack n) after)) c.self.view_is
-    (fail_full g.P.Meld.meld g.W.Words.alone (over g.P.Packed.pack (g.W.Words.name c.self.inside.words)) c.args.rank before after
-    (below g (goal.at.returns-in-Full g c).After-finish) (rw c.new-append.ensures at c.in-Full.ensures))
+    let here = (goal.at.returns-in-Full g c).After-finish in
+    named g here (fail_full g.P.Meld.meld g.W.Words.alone (over g.P.Packed.pack (g.W.Words.name c.self.inside.words)) c.args.rank (g.W.Words.sight c.args.pass.now)
+    (g.W.Words.sight c.finish.new.pass) (below g here) (rw c.new-append.ensures at c.in-Full.ensures))
