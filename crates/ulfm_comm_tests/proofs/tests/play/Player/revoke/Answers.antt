@@ -15,4 +15,4 @@ returns-in-None-clause-waits g c =
     call_waits g.P.Meld.meld (over g.P.Packed.pack c.args.world.now) g.W.Words.alone _ c.self.inside.own.own (g.W.Words.sight c.args.pass.now) _ c.revoke.new.self.own (g.W.Words.sight c.revoke.new.pass) c.requires.of.legal c.revoke.ensures.calls
 
 pub returns-in-None-clause-sits : goal.returns-in-None-clause-sits
-returns-in-None-clause-sits g c = rw c.in-None.is c.revoke.ensures.calls.fits
+returns-in-None-clause-sits g c = rw c.in-None.is c.revoke.ensures.calls.linearizes.fits
