@@ -91,8 +91,7 @@ fn list_in_reply(reply: &mut Reply<FlagAnd>, count: u16)
     }
 }
 
-/// A line, but for the ranks that it lists, which follow where there are any. It runs for each line of a trace, and so stands in line, with
-/// what it calls: a line and the text behind it are large to hand on.
+/// A line, but for the ranks that it lists, which follow where there are any. It runs for each line of a trace, and so stands in line.
 #[inline(always)]
 fn read_head(line: &[u8]) -> Result<(Line<FlagAnd>, Option<&[u8]>), LineKind>
     ensures { Gives at_field result (line_head line.now) }
@@ -110,7 +109,6 @@ fn read_head(line: &[u8]) -> Result<(Line<FlagAnd>, Option<&[u8]>), LineKind>
     }
 }
 
-#[inline(always)]
 #[tactic(auto, unfolding(crate::specs::LineReading::called_line))]
 fn read_called(text: &[u8]) -> Result<(Line<FlagAnd>, Option<&[u8]>), LineKind>
     ensures { Gives at_field result (called_line (Some text.now)) }
@@ -120,7 +118,6 @@ fn read_called(text: &[u8]) -> Result<(Line<FlagAnd>, Option<&[u8]>), LineKind>
     Ok((Line::Called { call, padded }, None))
 }
 
-#[inline(always)]
 #[tactic(auto, unfolding(crate::specs::LineReading::looked_line))]
 fn read_looked(text: Option<&[u8]>) -> Result<(Line<FlagAnd>, Option<&[u8]>), LineKind>
     ensures { Gives at_field result (looked_line (rest_at text.entry)) }
@@ -131,7 +128,6 @@ fn read_looked(text: Option<&[u8]>) -> Result<(Line<FlagAnd>, Option<&[u8]>), Li
     Ok((Line::Looked { rank, failures }, None))
 }
 
-#[inline(always)]
 #[tactic(auto, unfolding(crate::specs::LineReading::happened_line))]
 fn read_happened(text: Option<&[u8]>) -> Result<(Line<FlagAnd>, Option<&[u8]>), LineKind>
     ensures { Gives at_field result (happened_line (rest_at text.entry)) }
@@ -141,7 +137,6 @@ fn read_happened(text: Option<&[u8]>) -> Result<(Line<FlagAnd>, Option<&[u8]>), 
     Ok((Line::Happened { by, event }, None))
 }
 
-#[inline(always)]
 #[tactic(auto, unfolding(crate::specs::LineReading::replied_line))]
 fn read_replied(text: Option<&[u8]>) -> Result<(Line<FlagAnd>, Option<&[u8]>), LineKind>
     ensures { Gives at_field result (replied_line (rest_at text.entry)) }
