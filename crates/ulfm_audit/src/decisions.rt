@@ -1,7 +1,7 @@
 //! What a round decided, as a line.
 ghost use Rattle.std.specs.Prelude.{◌≡◌, ◌++◌, OnOk};
 ghost use Rattle.std.specs.Fmt.{decimal};
-ghost use Rattle.ulfm_record.specs.Walked.{decision_of};
+ghost use Rattle.ulfm_model.specs.Walked.{decision_of};
 ghost use Rattle.ulfm_numbers.specs.Telling.{seen_at};
 ghost use Rattle.ulfm_script.specs.Digits.{flag_text};
 ghost use Rattle.ulfm_audit.specs.Texts.{body_text, decided_text, failed_text, round_lines, settled_lines};
@@ -12,8 +12,8 @@ use ulfm_laws::{Body, FlagAnd};
 use ulfm_model::event::Event;
 use ulfm_numbers::allowed::{decision, is_decided};
 use ulfm_numbers::numbers::Numbers;
-use ulfm_record::decide::Decided;
-use ulfm_script::digits::flag_digits;
+use ulfm_model::decide::Decided;
+use ulfm_script::printing::flag_digits;
 use ulfm_script::print_number;
 
 /// Appends what the round decided that an event settles somebody in, where that round is decided by the events so far; else nothing. After an

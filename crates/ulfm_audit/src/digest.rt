@@ -4,7 +4,7 @@ ghost use Rattle.ulfm_audit.specs.Digests.{digest_of, digest_step, digest_text};
 
 use std::alloc::{AllocError, Allocator};
 use ulfm_laws::FlagAnd;
-use ulfm_script::digits::spelled_digits;
+use ulfm_script::printing::spelled_digits;
 
 /// The digest of no bytes.
 const NOTHING: u64 = 0xcbf2_9ce4_8422_2325;

@@ -18,7 +18,7 @@ use Rattle.ulfm_model.specs.declared.place.Place.TheVariants.{Slot as SlotAt}
 use Rattle.ulfm_model.specs.declared.step_name.StepName.TheVariants as step
 use Rattle.ulfm_words.proofs.Trails.{did_none, did_prefix, did_wait}
 use Rattle.ulfm_words.specs.Steps.{view_at}
-use Rattle.ulfm_steps.specs.declared.{mark_all.MarkAll.{MarkAll}, blocks.ReadBlocks.{ReadBlocks}, blocks.RoundBlocks.{RoundBlocks}}
+use Rattle.ulfm_steps.specs.declared.{blocks.MarkAll.{MarkAll}, blocks.ReadBlocks.{ReadBlocks}, blocks.RoundBlocks.{RoundBlocks}}
 use Rattle.ulfm_steps.specs.Blocks.{BothTell, AtBlock, MayReadBlocks, block_at, is_whole, next_in_block, site_of, starts_at}
 use Rattle.ulfm_steps.specs.{Marks.{HasMarked as MarkedOn, IsAt, Marks, MayMarkAll, members_in}, Rounds.{IsMissing, IsRoundOf}, Turns.{IsStepAt}}
 use Rattle.ulfm_model.specs.Blocks.{IsSummed}

@@ -19,9 +19,9 @@ use Rattle.ulfm_model.specs.Records.{moment}
 use Rattle.ulfm_words.specs.{Places.{IsCell}, Steps.{IsAdded, IsView, Over, Sight}, Tries.{MayArrive, MayEnd}}
 use Rattle.ulfm_words.proofs.Trails.{added_after, did_added, did_after, did_prefix}
 use Rattle.ulfm_words.specs.Steps.{view_at}
-use Rattle.ulfm_words.specs.declared.sets.Settled.{Settled}
+use Rattle.ulfm_words.specs.declared.accesses.Settled.{Settled}
 use Rattle.ulfm_steps.specs.Settles.{IsSpreadIn, WingStands}
-use Rattle.ulfm_record.specs.Kept.{HasNext}
+use Rattle.ulfm_model.specs.Kept.{HasNext}
 use Rattle.ulfm_comm.proofs.Stands.{looked_lasts}
 use Rattle.ulfm_comm.specs.{Calls.{Linearizes, reply_of}, Phase.{Answered, Stands}, Look.{HasLooked}}
 use Rattle.ulfm_comm.specs.Requests.{contributes}

@@ -12,7 +12,7 @@ use Rattle.ulfm_model.specs.{Answers.{opened}, Records.{Held, change_at}, Words.
 use Rattle.ulfm_model.specs.Terms.{contexts_of}
 use Rattle.ulfm_model.proofs.{LeftHeld.{contexts_kept, contexts_push, distinct_kept}, Lists.{any_none, distinct_push, each_push}}
 use Rattle.ulfm_comm.specs.{Prepared.{few_comms}, Ranks.{HasRoom}}
-use Rattle.ulfm_record.proofs.Places.{is_of}
+use Rattle.ulfm_model.proofs.Places.{is_of}
 
 -- a change that keeps each context id keeps all of them
 contexts_changed : (c : ℕ) (f : Held → Held) → ((y : Held) → (f y).context ≡ y.context) → (xs : List Held) → contexts_of (change_at c f xs) ≡ contexts_of xs

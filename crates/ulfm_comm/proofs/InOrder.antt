@@ -4,7 +4,7 @@ use Rattle.std.proofs.Common.{ap₂, sym, ◌∙◌, arith, if◌then◌else◌}
 use Rattle.std.specs.List.{AllByRecursion, find}
 use Rattle.std.proofs.lemmas.Bool.{eq-eqb, ne_eqb}
 use Rattle.std.proofs.lemmas.List.{get_or-map, length-map}
-use Rattle.ulfm_record.proofs.Places.{found_at}
+use Rattle.ulfm_model.proofs.Places.{found_at}
 use Rattle.ulfm_model.specs.{History.{first_ranks}, Records.{Record}}
 use Rattle.ulfm_model.proofs.Groups.{first_at, first_length}
 

@@ -1,7 +1,7 @@
 -- What a call knows of its round's blocks, as it goes on.
 use Rattle.std.proofs.Common.{◌≡◌, ◌⊎◌, inl, inr, ℕ, Bool, true, false, List, [], Some, None, IsTrue, is_some, refl, ap, sym, ◌∙◌}
 use Rattle.ulfm_words.specs.Steps.{TriesFurther}
-use Rattle.ulfm_words.specs.declared.sets.Settled.{Settled}
+use Rattle.ulfm_words.specs.declared.accesses.Settled.{Settled}
 use Rattle.std.proofs.Common.{subst, append-nil, arith}
 use Rattle.std.specs.Prelude.{Result, Ok, Err}
 use Rattle.std.proofs.lemmas.Bool.{false≢true}

@@ -4,7 +4,7 @@ use Rattle.std.specs.List.Sorted.{IsStrictlyIncreasing}
 use Rattle.ulfm_model.specs.declared.{call.Call.{Call}, contribution.Contribution.{Contribution}, contribution.MarkCount.{MarkCount}, contribution.Offer.{Offer}}
 use Rattle.ulfm_model.specs.declared.{event.Event.{Event}, event.Event.TheVariants.{Mark, Settle}, limits.Limits.{Limits}}
 use Rattle.ulfm_model.specs.{History.{History, IsLegal, failures, has}, Records.{Held, Record, held_at, moment}, Terms.{comm_of}, Words.{MayOpen}}
-use Rattle.ulfm_steps.specs.declared.{mark_all.MarkAll.{MarkAll}, blocks.RoundBlocks.{RoundBlocks}}
+use Rattle.ulfm_steps.specs.declared.{blocks.MarkAll.{MarkAll}, blocks.RoundBlocks.{RoundBlocks}}
 use Rattle.ulfm_steps.proofs.Marking.{count_fits}
 use Rattle.ulfm_comm.specs.{Agreement.{IsMarking}, Local.{frame}, Look.{HasLooked}, Proposals.{OffersOwn}}
 use Rattle.ulfm_comm.proofs.{Exchange.{fits_now, seen_is}, Holding.{group_rises}, Starts.{acked_known, known_few}}

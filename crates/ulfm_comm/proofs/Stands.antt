@@ -14,7 +14,7 @@ use Rattle.ulfm_model.specs.Terms.{comm_of}
 use Rattle.ulfm_model.specs.Records.{moment}
 use Rattle.ulfm_words.specs.Steps.{IsView, Over as Named, Sight, view_at}
 use Rattle.ulfm_words.proofs.Trails.{did_prefix, did_wait}
-use Rattle.ulfm_steps.specs.declared.{append.Append.{Append}, mark_all.MarkAll.{MarkAll}, blocks.Peek.{Peek}, blocks.ReadBlocks.{ReadBlocks}}
+use Rattle.ulfm_steps.specs.declared.{append.Append.{Append}, blocks.MarkAll.{MarkAll}, blocks.Peek.{Peek}, blocks.ReadBlocks.{ReadBlocks}}
 use Rattle.ulfm_steps.specs.declared.blocks.RoundBlocks.{RoundBlocks}
 use Rattle.ulfm_steps.proofs.{InBlocks.{are_later, at_block_later}, Appending.{passed_stays}, Arriving.{at_arrival_stays}}
 use Rattle.ulfm_comm.specs.Polls.{PollHasMarked}

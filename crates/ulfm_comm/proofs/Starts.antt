@@ -13,7 +13,7 @@ use Rattle.ulfm_model.proofs.{Decisions.{slot_stands}, Marking.{failed_few}, Lis
 use Rattle.ulfm_model.specs.Records.{moment}
 use Rattle.ulfm_words.specs.Steps.{IsAdded, IsView, Over, Sight, view_at}
 use Rattle.ulfm_words.proofs.Trails.{did_added, did_after}
-use Rattle.ulfm_words.specs.{Tries.{IsSettledBy}, declared.sets.Settled.{Settled}}
+use Rattle.ulfm_words.specs.{Tries.{IsSettledBy}, declared.accesses.Settled.{Settled}}
 use Rattle.ulfm_steps.specs.Settles.{MayGive, WingStands}
 use Rattle.ulfm_comm.specs.{Calls.{FindsTwice, Linearizes, reply_of}, Ends.{IsEndRun}, Look.{Looked}, Exchange.{IsOffered, Settles, start_leaves, start_result}}
 use Rattle.ulfm_comm.proofs.{CallRuns.{calls_is}, Helds.{change_alike}, Holding.{comm_is, exists_is, failed_is, group_is, holds}, LeftOut.{filter_begins}}

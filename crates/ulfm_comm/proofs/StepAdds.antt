@@ -2,7 +2,7 @@
 use Rattle.std.specs.List.{slice_index}
 use Rattle.std.proofs.Common.{◌≡◌, ℕ, ◌<◌, length, Bool, true, false, List, [], ◌∷◌, Option, Some, Result, Ok, Err, refl, ap, sym, ◌∙◌, subst, inl, inr, IsTrue}
 use Rattle.std.proofs.Common.{MatchBool}
-use Rattle.ulfm_words.specs.declared.sets.Settled.{Settled}
+use Rattle.ulfm_words.specs.declared.accesses.Settled.{Settled}
 use Rattle.ulfm_model.specs.declared.call.Call.TheVariants as call
 use Rattle.ulfm_model.specs.declared.{call.Call.{Call}, call.Request.{Request}, contribution.Contribution.{Contribution}, contribution.MarkCount.{MarkCount}}
 use Rattle.ulfm_model.specs.declared.{contribution.Offer.{Offer}}
@@ -17,7 +17,7 @@ use Rattle.ulfm_model.specs.Records.{moment}
 use Rattle.ulfm_words.proofs.Trails.{did_added, did_prefix, did_wait}
 use Rattle.ulfm_steps.proofs.Reading.{has_at}
 use Rattle.ulfm_steps.specs.Marks.{MarksOnce}
-use Rattle.ulfm_steps.specs.declared.{mark_all.MarkAll.{MarkAll}, blocks.RoundBlocks.{RoundBlocks}}
+use Rattle.ulfm_steps.specs.declared.{blocks.MarkAll.{MarkAll}, blocks.RoundBlocks.{RoundBlocks}}
 use Rattle.ulfm_comm.specs.{Calls.{reply_of}, Requests.{agreement}, Step.{Adds, Makes, StepAdds}, Look.{HasLooked}, Revokes.{revoked}, Agreement.{IsMarking}}
 use Rattle.ulfm_comm.specs.Phase.{Stands}
 use Rattle.ulfm_comm.specs.Exchange.{Settles, start_leaves, start_result}

@@ -11,7 +11,7 @@ use Rattle.ulfm_model.specs.Records.{Held, Record, held_at}
 use Rattle.ulfm_model.specs.Terms.{comm_of, request_of}
 use Rattle.ulfm_steps.specs.{Arriving.{arrivals_left, in_order}, Blocks.{blocks_cost, blocks_left, is_whole, peeks_left, starts_at, unread_cost}}
 use Rattle.ulfm_steps.specs.Marks.{marks_left}
-use Rattle.ulfm_steps.specs.declared.{arrivals.{Arrivals.{Arrivals}}, mark_all.MarkAll.{MarkAll}, blocks.Peek.{Peek}, blocks.ReadBlocks.{ReadBlocks}}
+use Rattle.ulfm_steps.specs.declared.{arrivals.{Arrivals.{Arrivals}}, blocks.MarkAll.{MarkAll}, blocks.Peek.{Peek}, blocks.ReadBlocks.{ReadBlocks}}
 use Rattle.ulfm_steps.specs.declared.blocks.RoundBlocks.{RoundBlocks}
 use Rattle.ulfm_steps.proofs.{Arriving.{in_order_few}, InBlocks.{peek_most, peek_some, starts_left, unread_most}}
 use Rattle.ulfm_comm.proofs.Look.{tests_same}

@@ -6,7 +6,7 @@ use mathlib.Core.List.{IsPrefix}
 use Rattle.ulfm_model.specs.declared.{block.Wing.{Wing}, call.Call.{Call}, contribution.Offer.{Offer}, contribution.Slot.TheVariants.{Given, Mark as Marking}}
 use Rattle.ulfm_model.specs.{Answers.{polled_by}, History.{History}, Records.{Held, Record, held_at}, Terms.{comm_of}}
 use Rattle.ulfm_model.proofs.Histories.{slot_stays}
-use Rattle.ulfm_words.specs.declared.{sets.Settled.{Settled}, sets.Settled.TheVariants.{Contributed, Marked}, step.Site.{Site}}
+use Rattle.ulfm_words.specs.declared.{accesses.Settled.{Settled}, accesses.Settled.TheVariants.{Contributed, Marked}, step.Site.{Site}}
 use Rattle.ulfm_words.specs.Steps.{IsOfBlock, TriesFurther, View}
 use Rattle.ulfm_words.proofs.Trails.{did_prefix}
 use Rattle.ulfm_words.proofs.Tried.{tried_or, tries_as, tries_none, tries_one, tries_then}

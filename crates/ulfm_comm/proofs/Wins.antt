@@ -10,7 +10,7 @@ use Rattle.ulfm_model.specs.declared.{contribution.Contribution.{Contribution}, 
 use Rattle.ulfm_model.specs.declared.{event.Caller.{Caller}, event.Caller.TheVariants.{Rank}, event.Entry.{Entry}, event.Event.{Event}, event.Event.TheVariants.{Mark, Settle, Spawn}}
 use Rattle.ulfm_model.specs.{History.{History, IsLegal, MayFollow, MaySpawn, entries_by, failed, failures, has, is_made, members, slot, spawns}, Records.{Held, Record, held_at}, Runs.{Did}, Words.{MayOpen}}
 use Rattle.ulfm_model.proofs.{Histories.{legal_parts}, Lists.{at_member, distinct_filter, get_prefix, has_kept, in_list, is_some_of}, OnlyMarks.{same_index, same_mark}, Spawned.{failures_distinct}}
-use Rattle.ulfm_words.specs.declared.{sets.Settled.{Settled}, sets.Settled.TheVariants.{Contributed, Marked as IsMarked}}
+use Rattle.ulfm_words.specs.declared.{accesses.Settled.{Settled}, accesses.Settled.TheVariants.{Contributed, Marked as IsMarked}}
 use Rattle.ulfm_words.specs.{Steps.{IsAdded, Over, Sight, view_at}, Tries.{IsSettledBy, entry}}
 use Rattle.ulfm_words.proofs.{Growing.{prefix_self}, SlotWords.{same_given}, Trails.{did_quiet}}
 use Rattle.ulfm_steps.specs.declared.{append.Append.{Append}, item.Item.{Item}, item.Item.TheVariants.{Comm as OfComm}}

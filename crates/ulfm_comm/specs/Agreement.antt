@@ -6,7 +6,7 @@ use Rattle.ulfm_model.specs.declared.call.Call.TheVariants as call
 use Rattle.ulfm_model.specs.declared.{call.Call.{Call}, refusal.Refusal.TheVariants.{Mismatch}, reply.Reply.{Reply}}
 use Rattle.ulfm_model.specs.declared.reply.Reply.TheVariants.{Agreed, Refused}
 use Rattle.ulfm_model.specs.{History.{History, IsLegal, failures}, Records.{Fits, Held, Moment, held_at}, Runs.{Did}, Terms.{comm_of}}
-use Rattle.ulfm_steps.specs.declared.{mark_all.MarkAll.{MarkAll}, blocks.Peek.{Peek}, blocks.ReadBlocks.{ReadBlocks}}
+use Rattle.ulfm_steps.specs.declared.{blocks.MarkAll.{MarkAll}, blocks.Peek.{Peek}, blocks.ReadBlocks.{ReadBlocks}}
 use Rattle.ulfm_steps.specs.declared.blocks.RoundBlocks.{RoundBlocks}
 use Rattle.ulfm_model.specs.Blocks.{IsSummed}
 use Rattle.ulfm_steps.specs.{Blocks.{BothTell, AtBlock, is_whole}, Marks.{IsAt, Marks, members_in}}

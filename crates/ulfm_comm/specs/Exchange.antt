@@ -1,6 +1,6 @@
 -- The last step of a start after its look: what is contributed, and what the exchange gave.
 use Rattle.std.specs.Prelude.{◌≡◌, ℕ, Bool, true, [], ◌∷◌, Some, length, filter, Result, Ok, Err}
-use Rattle.ulfm_words.specs.{Tries.{IsSettledBy}, declared.{sets.Settled.{Settled}, sets.Settled.TheVariants.{Contributed, Marked}}}
+use Rattle.ulfm_words.specs.{Tries.{IsSettledBy}, declared.{accesses.Settled.{Settled}, accesses.Settled.TheVariants.{Contributed, Marked}}}
 use Rattle.ulfm_model.specs.declared.call.Call.TheVariants as call
 use Rattle.ulfm_model.specs.declared.{call.Call.{Call}, call.Request.{Request}, call.Request.TheVariants.{Agree, Shrink}, contribution.Offer.{Offer}}
 use Rattle.ulfm_model.specs.declared.{contribution.Offer.TheVariants.{Flag, Ctx}, event.Caller.TheVariants.{Rank}}

@@ -8,4 +8,3 @@ pub mod phase;
 mod proposal;
 pub(crate) mod spawning;
 mod step;
-mod whole;

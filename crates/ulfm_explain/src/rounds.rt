@@ -8,8 +8,8 @@ use ulfm_laws::FlagAnd;
 use ulfm_model::Line;
 use ulfm_model::call::Request;
 use ulfm_model::event::Entry;
-use ulfm_record::groups::{failed, members};
-use ulfm_record::reads::{has_arrived, is_revoked, slot};
+use ulfm_model::groups::{failed, members};
+use ulfm_model::reads::{has_arrived, is_revoked, slot};
 use ulfm_story::decision_words;
 
 /// Notes the events that matter, each with its number.

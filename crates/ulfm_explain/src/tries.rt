@@ -9,9 +9,9 @@ use ulfm_model::call::{Call, Request, comm_of};
 use ulfm_model::event::Entry;
 use ulfm_model::refusal::Refusal;
 use ulfm_model::{Line, Reply};
-use ulfm_record::decide::{decision, is_decided};
-use ulfm_record::groups::{failed, members};
-use ulfm_record::reads::place_made;
+use ulfm_model::decide::{decision, is_decided};
+use ulfm_model::groups::{failed, members};
+use ulfm_model::reads::place_made;
 
 /// The most lines that are offered.
 const MOST_OFFERS: usize = 4;

@@ -8,8 +8,8 @@ use ulfm_laws::FlagAnd;
 use ulfm_lines::trace_line::LONGEST;
 use ulfm_model::event::{Caller, Event};
 use ulfm_model::{Line, Reply};
-use ulfm_record::groups::{failed, members};
-use ulfm_record::reads::{
+use ulfm_model::groups::{failed, members};
+use ulfm_model::reads::{
     count_made, failures, has_arrived, has_rank, is_declared, is_revoked, slot,
 };
 

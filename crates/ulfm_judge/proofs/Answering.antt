@@ -8,8 +8,8 @@ use Rattle.ulfm_model.specs.declared.{call.Call.{Call}, call.Request.{Request}, 
 use Rattle.ulfm_model.specs.Answers.{IsPending, IsReply, IsSelfFailed, PollReplies, Replies, RepliesBy, AtPoint, comm_of, most_failures, rank_of, refusal_of, refusal_on, traits_of}
 use Rattle.ulfm_model.specs.History.{History, decision, failed, failures, has, has_arrived, is_decided, is_revoked, members}
 use Rattle.ulfm_model.specs.Records.{Held, Record, free_ids, held_at}
-use Rattle.ulfm_record.specs.Kept.{FitsNext}
-use Rattle.ulfm_record.proofs.Allowed.{allowed_fits}
+use Rattle.ulfm_model.specs.Kept.{FitsNext}
+use Rattle.ulfm_model.proofs.Allowed.{allowed_fits}
 use Rattle.ulfm_model.specs.Traces.{AnswersCall, AnswersRank, MayReply, Traced, Under, call_by, listed, record_in, view_at}
 use Rattle.ulfm_model.specs.declared.line.Line.{Line}
 use Rattle.ulfm_numbers.specs.{Groups.{same_ranks}, Seen.{seen_of}}

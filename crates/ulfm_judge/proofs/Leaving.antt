@@ -8,7 +8,7 @@ use Rattle.std.proofs.lemmas.Map.Keys.{IsDistinct-head, IsDistinct-tail}
 use Rattle.ulfm_model.specs.declared.{call.Call.{Call}, event.Caller.{Caller}, limits.Limits.{Limits}, reply.Reply.{Reply}}
 use Rattle.ulfm_model.specs.{Answers.{Effect, comm_of, left_by, left_with, printed, traits_of}, History.{History}, Records.{Held, Record, held_at}}
 use Rattle.ulfm_model.proofs.Lists.{each_from}
-use Rattle.ulfm_record.specs.{declared.record.RankRecord.{RankRecord}, Kept.{FitsNext, record_of}}
+use Rattle.ulfm_model.specs.{declared.record.RankRecord.{RankRecord}, Kept.{FitsNext, record_of}}
 use Rattle.ulfm_model.specs.declared.line.{Line.{Line}, Why.{Why}}
 use Rattle.ulfm_model.specs.Traces.{MayReply, Takes, Traced, Under, after_reply, call_by, caller_of, record_in, records_after, same_caller}
 use Rattle.ulfm_judge.specs.ReplyTests.{reply_test}

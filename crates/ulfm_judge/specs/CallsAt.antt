@@ -2,7 +2,7 @@
 use Rattle.std.specs.Prelude.{ℕ, List}
 use Rattle.ulfm_model.specs.declared.{event.Event.{Event}, limits.Limits.{Limits}}
 use Rattle.ulfm_model.specs.{Answers.{AtPoint}, Records.{Record}}
-use Rattle.ulfm_record.specs.Kept.{record_of}
+use Rattle.ulfm_model.specs.Kept.{record_of}
 use Rattle.ulfm_judge.specs.declared.polls.View.{View as Tabled}
 use Rattle.ulfm_numbers.specs.{Seen.{Seen, seen_of}, Telling.{seen_at}}
 

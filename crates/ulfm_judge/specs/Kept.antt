@@ -3,7 +3,7 @@ use Rattle.std.specs.Prelude.{◌≡◌, ℕ, ◌+◌, List, Option, Some, None,
 use Rattle.std.specs.Option.{option_and_then}
 use Rattle.ulfm_model.specs.declared.{event.Caller.{Caller}, limits.Limits.{Limits}, reply.Reply.{Reply}}
 use Rattle.ulfm_model.specs.{Answers.{comm_of, traits_of}, History.{History}, Records.{Held, Record, held_at}}
-use Rattle.ulfm_record.specs.{declared.record.RankRecord.{RankRecord}, Kept.{FitsNext, record_of}}
+use Rattle.ulfm_model.specs.{declared.record.RankRecord.{RankRecord}, Kept.{FitsNext, record_of}}
 use Rattle.ulfm_model.specs.declared.line.Line.{Line}
 use Rattle.ulfm_model.specs.Traces.{Traced, Under, caller_of, record_in, same_caller}
 use Rattle.ulfm_judge.specs.declared.calls.OpenCall.{OpenCall}

@@ -4,7 +4,7 @@ use Rattle.ulfm_model.specs.History.{History}
 use Rattle.ulfm_model.specs.declared.{event.Caller.{Caller}, limits.Limits.{Limits}, reply.Reply.{Reply}}
 use Rattle.ulfm_model.specs.Words.{MayOpen}
 use Rattle.ulfm_numbers.specs.{declared.numbers.Numbers.{Numbers}, Telling.{TablesTell}}
-use Rattle.ulfm_record.specs.declared.record.RankRecord.{RankRecord}
+use Rattle.ulfm_model.specs.declared.record.RankRecord.{RankRecord}
 use Rattle.ulfm_model.specs.Traces.{Traced, Under}
 use Rattle.ulfm_judge.specs.declared.calls.OpenCall.{OpenCall}
 use Rattle.ulfm_judge.specs.Kept.{AreCalls, MayLeave, traced_of}

@@ -19,13 +19,13 @@ use std::alloc::{AllocError, Allocator};
 use ulfm_laws::meld::{Meld, Packed};
 use ulfm_model::call::{Call, MOST_FAILURES, comm_of};
 use ulfm_model::contribution::Offer;
+use ulfm_model::held::{HeldComm, place_of, refusal_of};
+use ulfm_model::ids::free_ids;
+use ulfm_model::reads::has_rank;
 use ulfm_model::refusal::Refusal;
 use ulfm_model::reply::Reply;
 use ulfm_numbers::groups::same_ranks;
 use ulfm_numbers::numbers::Numbers;
-use ulfm_record::held::{HeldComm, place_of, refusal_of};
-use ulfm_record::ids::free_ids;
-use ulfm_record::reads::has_rank;
 
 /// Whether a call starts a request.
 fn starts<P: Copy>(asked: &Call<P>) -> bool

@@ -4,8 +4,8 @@ ghost use Rattle.ulfm_judge.specs.Kept.{AreCalls, GoesWith, needed_by, place_by,
 ghost use Rattle.ulfm_judge.specs.Tests.{due_test};
 ghost use Rattle.ulfm_model.specs.Answers.{traits_of};
 ghost use Rattle.ulfm_model.specs.History.{History, failures, first_ranks};
-ghost use Rattle.ulfm_record.specs.Kept.{record_of};
-ghost use Rattle.ulfm_record.specs.declared.record.RankRecord.{RankRecord};
+ghost use Rattle.ulfm_model.specs.Kept.{record_of};
+ghost use Rattle.ulfm_model.specs.declared.record.RankRecord.{RankRecord};
 ghost use Rattle.ulfm_model.specs.Traces.{Takes, Under};
 ghost use Rattle.ulfm_model.specs.declared.line.Line.{Line};
 
@@ -15,7 +15,7 @@ use ulfm_model::call::{Call, rank_of};
 use ulfm_model::event::{Caller, Event};
 use ulfm_model::limits::Limits;
 use ulfm_model::line::Why;
-use ulfm_record::record::RankRecord;
+use ulfm_model::record::RankRecord;
 
 /// A caller's place for a call.
 #[derive(Drop)]

@@ -10,7 +10,7 @@ ghost use Rattle.ulfm_model.specs.Records.{Held, Record, held_at, new_held};
 ghost use Rattle.ulfm_model.specs.Words.{MayOpen};
 ghost use Rattle.ulfm_model.specs.declared.event.Caller.{Caller};
 ghost use Rattle.ulfm_model.specs.declared.reply.Reply.{Reply};
-ghost use Rattle.ulfm_record.specs.{Kept.{FitsNext, record_of}, Members.{members_of}};
+ghost use Rattle.ulfm_model.specs.{Kept.{FitsNext, record_of}, Members.{members_of}};
 ghost use Rattle.ulfm_model.specs.Traces.{Takes, Under, caller_of, record_in, records_after, same_caller};
 ghost use Rattle.ulfm_model.specs.declared.line.Line.{Line};
 
@@ -23,15 +23,15 @@ use std::mem;
 use ulfm_laws::meld::{Meld, Packed};
 use ulfm_model::call::{Call, comm_of, rank_of};
 use ulfm_model::event::Caller;
+use ulfm_model::held::{HeldComm, take_in};
+use ulfm_model::leaves::settle;
 use ulfm_model::limits::Limits;
 use ulfm_model::line::Why;
+use ulfm_model::members::Members;
+use ulfm_model::record::RankRecord;
 use ulfm_model::refusal::Refusal;
 use ulfm_model::reply::Reply;
 use ulfm_numbers::numbers::Numbers;
-use ulfm_record::held::{HeldComm, take_in};
-use ulfm_record::leaves::settle;
-use ulfm_record::members::Members;
-use ulfm_record::record::RankRecord;
 
 /// Whether a rank's call is answered so, at a point.
 fn answers_rank<P: Packed, A: Allocator + Copy + Drop>(

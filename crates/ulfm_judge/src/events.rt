@@ -17,9 +17,9 @@ use ulfm_model::call::Call;
 use ulfm_model::event::{Caller, Entry, Event};
 use ulfm_model::limits::Limits;
 use ulfm_model::line::Why;
+use ulfm_model::record::RankRecord;
 use ulfm_numbers::allowed::may_follow;
 use ulfm_numbers::numbers::Numbers;
-use ulfm_record::record::RankRecord;
 
 /// Whether an event declares a rank.
 fn declares<P: Copy>(rank: u16, event: &Event<P>) -> bool

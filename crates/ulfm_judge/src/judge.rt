@@ -14,12 +14,12 @@ use crate::events::happen;
 use std::alloc::{AllocError, Allocator};
 use ulfm_laws::meld::{Meld, Packed};
 use ulfm_model::event::{Caller, Event};
+use ulfm_model::fresh::new_records;
 use ulfm_model::limits::Limits;
 use ulfm_model::line::{Line, Why};
+use ulfm_model::record::RankRecord;
 use ulfm_model::reply::Reply;
 use ulfm_numbers::numbers::Numbers;
-use ulfm_record::fresh::new_records;
-use ulfm_record::record::RankRecord;
 
 /// Judges the lines of a trace one after another. Of what happened it keeps when, by what was said, and no history: what a line takes
 /// grows with the members of its communicator, with the communicators and with the failures, and not with the lines before it. For calls

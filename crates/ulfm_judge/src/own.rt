@@ -1,15 +1,15 @@
 //! Whether an event is one that a rank's call may add.
 ghost use Rattle.std.specs.Prelude.{◌≡◌};
-ghost use Rattle.ulfm_record.specs.Kept.{record_of};
+ghost use Rattle.ulfm_model.specs.Kept.{record_of};
 ghost use Rattle.ulfm_judge.specs.Tests.{adds_test, arrives_test, makes_test, marks_test, own_test, poll_test, revokes_test, settles_test};
 
 use std::alloc::Allocator;
 use ulfm_model::call::{Call, Request, comm_of};
 use ulfm_model::event::Event;
+use ulfm_model::held::{HeldComm, place_of, refusal_of};
 use ulfm_model::limits::Limits;
-use ulfm_record::held::{HeldComm, place_of, refusal_of};
-use ulfm_record::reads::has_rank;
-use ulfm_record::record::RankRecord;
+use ulfm_model::reads::has_rank;
+use ulfm_model::record::RankRecord;
 
 /// Whether an event marks, in this round, a member that the look found declared.
 fn marks_declared<P: Copy, A: Allocator>(

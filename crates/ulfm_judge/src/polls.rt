@@ -1,7 +1,7 @@
 //! Whether a reply is an answer to a poll.
 ghost use Rattle.std.specs.Prelude.{◌≡◌, ◌<◌, ◌+◌, ◌-◌, ◌==◌, ◌&&◌, ℕ, IfOk, false, filter, length, nat_lt, slice_get};
 ghost use Rattle.std.specs.{List.{list_all}, Option.{option_map_or}};
-ghost use Rattle.ulfm_record.specs.Walked.{decision_of};
+ghost use Rattle.ulfm_model.specs.Walked.{decision_of};
 ghost use Rattle.ulfm_model.specs.History.{has};
 ghost use Rattle.ulfm_judge.specs.CallsAt.{call_at};
 ghost use Rattle.ulfm_judge.specs.ReplyTests.{agree_test, barrier_test, clash_test, flag_test, full_test, late_test, least_test, made_test, no_ids_test};
@@ -14,18 +14,18 @@ use std::alloc::{AllocError, Allocator};
 use ulfm_laws::meld::{Meld, Packed};
 use ulfm_laws::summary::Body;
 use ulfm_model::call::Request;
+use ulfm_model::decide::Decided;
 use ulfm_model::event::Event;
+use ulfm_model::held::HeldComm;
+use ulfm_model::ids::lowest_id;
 use ulfm_model::limits::Limits;
+use ulfm_model::reads::has_rank;
+use ulfm_model::record::RankRecord;
 use ulfm_model::refusal::Refusal;
 use ulfm_model::reply::Reply;
 use ulfm_numbers::allowed::{decision, has_ids, is_decided, is_made};
 use ulfm_numbers::groups::has_member;
 use ulfm_numbers::numbers::{Numbers, among};
-use ulfm_record::decide::Decided;
-use ulfm_record::held::HeldComm;
-use ulfm_record::ids::lowest_id;
-use ulfm_record::reads::has_rank;
-use ulfm_record::record::RankRecord;
 
 /// What a reply to a rank's call is judged by: the limits of the world, the record of the rank, whom the call's look found
 /// declared, the tables at a point, and the call's own events.

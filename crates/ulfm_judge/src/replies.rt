@@ -11,11 +11,11 @@ use std::alloc::Allocator;
 use ulfm_laws::meld::Packed;
 use ulfm_model::contribution::{Contribution, Offer, Slot};
 use ulfm_model::event::Event;
+use ulfm_model::held::HeldComm;
 use ulfm_model::limits::Limits;
 use ulfm_model::refusal::{Refusal, refusal_number};
 use ulfm_model::reply::Reply;
 use ulfm_numbers::groups::has_member;
-use ulfm_record::held::HeldComm;
 
 /// What a contribution is to be: the offer, and how many failures of the communicator were known and acknowledged.
 #[derive(Clone, Copy)]

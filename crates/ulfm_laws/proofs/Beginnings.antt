@@ -5,8 +5,8 @@ use Rattle.std.proofs.lemmas.Bool.Decides.{nat_tests}
 use Rattle.ulfm_laws.specs.Counts.{known_unit, known_meld, acked_unit, acked_meld}
 use Rattle.ulfm_laws.specs.Ranges.{is_acked_count}
 use Rattle.ulfm_laws.specs.StandsFor.{known_stands_for, acked_stands_for, MeldsToUnion, MeldsToIntersection}
-use Rattle.ulfm_laws.specs.declared.counts.Acked.{Acked}
-use Rattle.ulfm_laws.specs.declared.counts.Known.{Known}
+use Rattle.ulfm_laws.specs.declared.summary.Acked.{Acked}
+use Rattle.ulfm_laws.specs.declared.summary.Known.{Known}
 use Rattle.ulfm_laws.proofs.Members.{Contains-from_take, Contains-take}
 use Rattle.ulfm_laws.proofs.Several.{to_union, to_intersection}
 

@@ -8,8 +8,8 @@ use Rattle.std.proofs.Math.Nat.{le-min, min-le_left, min-le_right, min_comm, min
 use Rattle.std.proofs.lemmas.Bool.{cases_lt, or_cases}
 use Rattle.ulfm_laws.specs.Lawful.{IsLawful}
 use Rattle.ulfm_laws.specs.Ranges.{is_acked_count, same_by_number}
-use Rattle.ulfm_laws.specs.declared.counts.Acked.{Acked}
-use Rattle.ulfm_laws.specs.declared.counts.Known.{Known}
+use Rattle.ulfm_laws.specs.declared.summary.Acked.{Acked}
+use Rattle.ulfm_laws.specs.declared.summary.Known.{Known}
 
 -- ---- known failures
 

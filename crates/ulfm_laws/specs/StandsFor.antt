@@ -4,10 +4,10 @@ use Rattle.std.specs.Int.{bit_at}
 use Rattle.std.specs.List.{range_with_len}
 use Rattle.ulfm_laws.specs.Combined.{combined}
 use Rattle.ulfm_laws.specs.Ranges.{payload_bits}
-use Rattle.ulfm_laws.specs.declared.counts.Acked.{Acked}
+use Rattle.ulfm_laws.specs.declared.summary.Acked.{Acked}
 use Rattle.ulfm_laws.specs.declared.ctx_mask.CtxMask.{CtxMask}
 use Rattle.ulfm_laws.specs.declared.flag_and.FlagAnd.{FlagAnd}
-use Rattle.ulfm_laws.specs.declared.counts.Known.{Known}
+use Rattle.ulfm_laws.specs.declared.summary.Known.{Known}
 
 -- the places of the bits of a payload, from 0 on, and the context ids
 unfoldable pub places : List ℕ

@@ -9,7 +9,6 @@
 //! What each kind stands for as a set, and what follows from the laws, are the contracts of [`meanings`].
 #![tactic(auto)]
 
-pub mod counts;
 pub mod ctx_mask;
 pub mod flag_and;
 pub mod meanings;
@@ -17,8 +16,7 @@ pub mod meld;
 pub mod meld_all;
 pub mod summary;
 
-pub use counts::{Acked, Known};
 pub use ctx_mask::CtxMask;
 pub use flag_and::FlagAnd;
 pub use meld::{Meld, Packed};
-pub use summary::{Body, Summary};
+pub use summary::{Acked, Body, Known, Summary};

@@ -10,10 +10,10 @@ ghost use Rattle.ulfm_laws.specs.Ranges.{payload_bits};
 ghost use Rattle.ulfm_laws.specs.StandsFor.{MeldsToUnion, MeldsToIntersection, places};
 ghost use Rattle.ulfm_laws.specs.StandsFor.{flag_stands_for, mask_stands_for};
 ghost use Rattle.ulfm_laws.specs.StandsFor.{known_stands_for, acked_stands_for};
-ghost use Rattle.ulfm_laws.specs.declared.counts.Acked.{Acked};
+ghost use Rattle.ulfm_laws.specs.declared.summary.Acked.{Acked};
 ghost use Rattle.ulfm_laws.specs.declared.ctx_mask.CtxMask.{CtxMask};
 ghost use Rattle.ulfm_laws.specs.declared.flag_and.FlagAnd.{FlagAnd};
-ghost use Rattle.ulfm_laws.specs.declared.counts.Known.{Known};
+ghost use Rattle.ulfm_laws.specs.declared.summary.Known.{Known};
 
 use crate::meld::{Meld, Packed};
 use crate::{Acked, Body, CtxMask, FlagAnd, Known, Summary};

@@ -9,7 +9,7 @@ use ulfm_laws::FlagAnd;
 use ulfm_model::contribution::{Contribution, Offer};
 use ulfm_model::event::{Caller, Event};
 use ulfm_model::{Line, Reply};
-use ulfm_script::digits::flag_digits;
+use ulfm_script::printing::flag_digits;
 use ulfm_script::{LastGroup, print_number, print_point, print_reply, print_spelled_call};
 
 /// Appends a line of a trace, without a newline.

@@ -52,3 +52,8 @@ pub mod RoundAnswers
 pub mod Telling
 pub mod Staying
 pub mod Refusing
+pub mod Allowed
+pub mod FreeOf
+pub mod Places
+pub mod Testing
+pub mod Walks

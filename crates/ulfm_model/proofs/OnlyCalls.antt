@@ -4,8 +4,8 @@ use Rattle.std.specs.Coded.{le_prop}
 use Rattle.std.specs.List.{AllByRecursion, cons_option}
 use Rattle.std.proofs.lemmas.Bool.{false_from_ne_true}
 use Rattle.std.proofs.lemmas.List.Elements.{filter_map-append}
-use Rattle.ulfm_laws.specs.declared.counts.Acked.{Acked}
-use Rattle.ulfm_laws.specs.declared.counts.Known.{Known}
+use Rattle.ulfm_laws.specs.declared.summary.Acked.{Acked}
+use Rattle.ulfm_laws.specs.declared.summary.Known.{Known}
 use Rattle.ulfm_laws.specs.Counts.{same_acked, same_known}
 use Rattle.ulfm_model.specs.declared.call.Call.{Call}
 use Rattle.ulfm_model.specs.declared.call.Call.TheVariants as call

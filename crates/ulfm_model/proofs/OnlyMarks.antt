@@ -5,7 +5,7 @@ use Rattle.std.specs.Coded.{le_prop}
 use Rattle.std.specs.List.{AllByRecursion, IsDistinct, cons_option, enumerate_from}
 use Rattle.std.proofs.lemmas.Bool.{eq-eqb}
 use Rattle.std.proofs.lemmas.Map.Keys.{IsDistinct-head, IsDistinct-tail}
-use Rattle.ulfm_laws.specs.declared.counts.Known.{Known}
+use Rattle.ulfm_laws.specs.declared.summary.Known.{Known}
 use Rattle.ulfm_laws.specs.Counts.{same_known}
 use Rattle.ulfm_model.specs.declared.contribution.MarkCount.{MarkCount}
 use Rattle.ulfm_model.specs.declared.event.Event.{Event}

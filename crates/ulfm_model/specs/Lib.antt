@@ -12,3 +12,6 @@ pub mod TraceLaws
 pub mod Traces
 pub mod Rounds
 pub mod Told
+pub mod Kept
+pub mod Members
+pub mod Walked

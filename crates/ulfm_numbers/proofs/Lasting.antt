@@ -11,7 +11,7 @@ use Rattle.ulfm_model.specs.declared.contribution.{Contribution.{Contribution}, 
 use Rattle.ulfm_model.specs.{History.{Decision, body_of, contribution_of, decided_by, has, known_of, same_place, union_of}, Terms.{lacks_one}}
 use Rattle.ulfm_model.proofs.Lists.{all_some, any_none, any_same, each_always, each_from, filter_map_each, filter_map_same, filter_none, not_in_take}
 use Rattle.ulfm_laws.specs.{Bodies.{body_meld, body_unit}, Combined.{combined}}
-use Rattle.ulfm_record.specs.{declared.decide.Decided.{Decided}, Walked.{decision_of}}
+use Rattle.ulfm_model.specs.{declared.decide.Decided.{Decided}, Walked.{decision_of}}
 use Rattle.ulfm_numbers.specs.{declared.cells.Cell.{Cell}, declared.grids.Grid.{Grid}, declared.rounds.Done.{Done}}
 use Rattle.ulfm_numbers.specs.{Cells.{told_at}, Groups.{group_at}, Numbers.{by_then, count_by, numbers_from}, Failed.{in_group}, Rounds.{AreDone, IsByRound, IsDone, KeepsSlots, failed_of, settled_then}}
 use Rattle.ulfm_numbers.proofs.{Counting.{failed_first}, Tabling.{place_is}}

@@ -8,7 +8,7 @@ use Rattle.std.specs.Prelude.{Vec, map, unwrap_or}
 use Rattle.ulfm_model.specs.declared.event.Entry.{Entry}
 use Rattle.ulfm_model.specs.{History.{History, failures, first_ranks, members, same_place, says, spawns}, Terms.{put_at}}
 use Rattle.ulfm_model.proofs.Histories.{members_made, members_same, members_stay, slot_first, spawns_push}
-use Rattle.ulfm_record.proofs.Walks.{members_missing}
+use Rattle.ulfm_model.proofs.Walks.{members_missing}
 use Rattle.ulfm_numbers.specs.declared.numbers.Numbers.{Numbers}
 use Rattle.ulfm_numbers.specs.{Failed.{members_of}, Groups.{group_at, items_of}, Seen.{Seen, made_in, seen_of}, Telling.{TablesTell, TellsGroups, seen_at}}
 use Rattle.ulfm_numbers.specs.Numbers.{before_then, by_then, count_by}

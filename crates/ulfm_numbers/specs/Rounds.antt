@@ -3,7 +3,7 @@ use Rattle.std.specs.Prelude.{◌≡◌, ℕ, nat_le, nat_lt, true, List, filter
 use Rattle.std.specs.{HashMap.{HashMap, get}, List.{list_all}}
 use Rattle.ulfm_model.specs.declared.contribution.Slot.{Slot}
 use Rattle.ulfm_model.specs.History.{decided_by, has, known_of, same_place}
-use Rattle.ulfm_record.specs.Walked.{decision_of}
+use Rattle.ulfm_model.specs.Walked.{decision_of}
 use Rattle.ulfm_numbers.specs.{declared.cells.Cell.{Cell}, declared.grids.Grid.{Grid}, declared.rounds.Done.{Done}}
 use Rattle.ulfm_numbers.specs.{Cells.{told_at}, Groups.{group_at}, Numbers.{by_then}}
 

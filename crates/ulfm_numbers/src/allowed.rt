@@ -1,6 +1,6 @@
 //! Whether an event may come next, by what the tables say of a point.
 ghost use Rattle.std.specs.Prelude.{◌≡◌, ◌<◌, ◌-◌, ◌+◌, ◌==◌, ◌&&◌, IfOk, is_some, length, nat_le, not, slice_get};
-ghost use Rattle.ulfm_record.specs.Walked.{decision_of};
+ghost use Rattle.ulfm_model.specs.Walked.{decision_of};
 ghost use Rattle.ulfm_numbers.specs.Seen.{decision_in, failed_in, is_decided_in, is_made_in};
 ghost use Rattle.ulfm_numbers.specs.Telling.{seen_at};
 ghost use Rattle.ulfm_numbers.specs.Tests.{at_test, follow_test, ids_test, place_test, spawn_test};
@@ -10,9 +10,9 @@ use crate::numbers::{Numbers, RoundKey};
 use std::alloc::{AllocError, Allocator};
 use ulfm_laws::meld::Meld;
 use ulfm_laws::summary::Body;
+use ulfm_model::decide::{Decided, decided_by};
 use ulfm_model::event::Event;
 use ulfm_model::limits::Limits;
-use ulfm_record::decide::{Decided, decided_by};
 
 /// Whether a communicator exists.
 fn exists<P: Meld, A: Allocator + Copy + Drop>(

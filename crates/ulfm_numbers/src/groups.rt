@@ -6,7 +6,7 @@ ghost use Rattle.ulfm_model.specs.History.{has};
 
 use std::alloc::{AllocError, Allocator};
 use std::sync::ArcSlice;
-use ulfm_record::reads::has_rank;
+use ulfm_model::reads::has_rank;
 
 /// The group of a communicator.
 #[derive(Drop)]

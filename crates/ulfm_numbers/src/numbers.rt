@@ -4,7 +4,7 @@
 ghost use Rattle.std.specs.Prelude.{◌≡◌, ◌+◌, ◌++◌, ◌<◌, ◌%◌, ◌∷◌, [], ℕ, IfOk, IfSome, OnOk, Some, filter, filter_map, if◌then◌else◌, is_some, length, map, min, take, true};
 ghost use Rattle.std.specs.HashMap.{get};
 ghost use Rattle.std.specs.List.{cons_option, list_all};
-ghost use Rattle.ulfm_record.specs.{Members.{members_of as held_members}, Walked.{decision_of}};
+ghost use Rattle.ulfm_model.specs.{Members.{members_of as held_members}, Walked.{decision_of}};
 ghost use Rattle.std.specs.Option.{option_map};
 ghost use Rattle.ulfm_numbers.specs.Failed.{AreFailed, members_of};
 ghost use Rattle.ulfm_numbers.specs.Numbers.{TellsArrivals, TellsDeclared, TellsFailures, TellsRevocations, TellsSlots, TellsSpawns};
@@ -26,10 +26,10 @@ use std::collections::HashMap;
 use std::hash::{BuildHasherDefault, FoldHasher, Hash};
 use ulfm_laws::meld::Meld;
 use ulfm_model::contribution::Slot;
+use ulfm_model::decide::{Decided, decided_by};
 use ulfm_model::event::{Entry, Event};
-use ulfm_record::decide::{Decided, decided_by};
-use ulfm_record::groups::{first_ranks, union_of, without};
-use ulfm_record::members::Members;
+use ulfm_model::groups::{first_ranks, union_of, without};
+use ulfm_model::members::Members;
 
 /// A place in a round: a communicator, a round and a rank.
 pub type RoundKey = (u16, u16, u16);

@@ -6,8 +6,8 @@ ghost use Rattle.ulfm_model.specs.History.{has, known_of};
 use std::alloc::Allocator;
 use ulfm_laws::meld::Meld;
 use ulfm_model::contribution::Slot;
-use ulfm_record::decide::Decided;
-use ulfm_record::reads::has_rank;
+use ulfm_model::decide::Decided;
+use ulfm_model::reads::has_rank;
 
 /// What a round decided.
 #[derive(Drop)]

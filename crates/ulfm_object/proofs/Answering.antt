@@ -7,17 +7,17 @@ use Rattle.std.proofs.lemmas.Simd.{map-map}
 use Rattle.std.proofs.Math.Seq.{map-set_same}
 use Rattle.std.specs.declared.alloc.AllocError.{AllocError}
 use Rattle.ulfm_model.specs.declared.{call.Call.{Call}, limits.Limits.{Limits}, event.Caller.TheVariants.{Rank}, refusal.Refusal.TheVariants.{NoSuchRank, SelfFailed}, reply.Reply.{Reply}, reply.Reply.TheVariants.{Refused}}
-use Rattle.ulfm_record.specs.declared.record.RankRecord.{RankRecord}
+use Rattle.ulfm_model.specs.declared.record.RankRecord.{RankRecord}
 use Rattle.ulfm_model.specs.declared.call.Call.TheVariants as call
 use Rattle.ulfm_model.specs.{Answers.{left_by, rank_of, traits_of}, History.{History, entries_by, failures, first_ranks}, Records.{Record}, Runs.{IsSound, IsStep, State}, Words.{MayOpen}}
 use Rattle.ulfm_model.specs.Computed.{Next, next, next_by, next_of_rank, outcome_of}
 use Rattle.ulfm_model.specs.Terms.{record_at}
 use Rattle.ulfm_object.specs.Objects.{IsFew, TakesStep, state_of}
-use Rattle.ulfm_record.specs.Kept.{record_of}
+use Rattle.ulfm_model.specs.Kept.{record_of}
 use Rattle.ulfm_model.proofs.LeftSound.{step_sound}
 use Rattle.ulfm_object.proofs.ObjectSteps.{few_of, next_of_call, replaced}
 use Rattle.ulfm_model.proofs.Ranks.{ranks_distinct}
-use Rattle.ulfm_record.proofs.Places.{find_no_place, find_place}
+use Rattle.ulfm_model.proofs.Places.{find_no_place, find_place}
 use Rattle.ulfm_model.proofs.OnlyStep.{step_is_next}
 use Rattle.ulfm_model.proofs.StepsNext.{next_is_step}
 

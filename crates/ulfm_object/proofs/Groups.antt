@@ -3,7 +3,7 @@ use Rattle.std.proofs.Common.{◌≡◌, ℕ, Bool, List, [], ◌∷◌, filter,
 use Rattle.std.specs.Prelude.{IfOk}
 use Rattle.std.proofs.lemmas.Bool.{cases_lt, ne_eqb}
 use Rattle.ulfm_model.specs.History.{Exists, History, failed, failed_among, failures, first_ranks, has, members, spawns}
-use Rattle.ulfm_record.proofs.Walks.{members_missing}
+use Rattle.ulfm_model.proofs.Walks.{members_missing}
 
 none_of : (xs : List ℕ) → filter (has []) xs ≡ []
 none_of [] = refl

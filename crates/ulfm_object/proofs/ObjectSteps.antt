@@ -11,11 +11,11 @@ use Rattle.ulfm_model.specs.{Answers.{first_refusal, rank_of, refusal_of, refusa
 use Rattle.ulfm_model.specs.Computed.{next, next_of_rank, outcome_of, rank_outcome, used_outcome}
 use Rattle.ulfm_model.specs.Terms.{comm_of, record_at, tests_of}
 use Rattle.ulfm_object.specs.Objects.{IsFew}
-use Rattle.ulfm_record.specs.Kept.{FitsNext}
+use Rattle.ulfm_model.specs.Kept.{FitsNext}
 use Rattle.ulfm_model.proofs.Lists.{any_none, distinct_push, each_from, each_push, none_distinct}
 use Rattle.ulfm_model.proofs.Marking.{failures_few}
 use Rattle.ulfm_model.proofs.StepsShrinks.{spawns_fit}
-use Rattle.ulfm_record.proofs.Allowed.{allowed_fits}
+use Rattle.ulfm_model.proofs.Allowed.{allowed_fits}
 
 -- a call that has started something has a round whose next number fits
 pub started_fits : {P : Type 0} (meld : P → P → P) (limits : Limits) (h : History P) (own : Record) (asked : Call P) → own.limits.rounds ≤ 4096 → (outcome_of meld limits h own asked).reply ≡ Started

@@ -1,9 +1,9 @@
 -- What the program of the sequential object keeps, as the definitions see it.
 use Rattle.std.specs.{Prelude.{◌≡◌, ◌<◌, ◌≤◌, false, List, length, map}}
 use Rattle.ulfm_model.specs.declared.{call.Call.{Call}, event.Event.{Event}, limits.Limits.{Limits}, reply.Reply.{Reply}}
-use Rattle.ulfm_record.specs.declared.record.RankRecord.{RankRecord}
+use Rattle.ulfm_model.specs.declared.record.RankRecord.{RankRecord}
 use Rattle.ulfm_model.specs.{Answers.{AtPoint, traits_of}, History.{History, failures, spawns}, Runs.{IsStep, State}}
-use Rattle.ulfm_record.specs.Kept.{record_of}
+use Rattle.ulfm_model.specs.Kept.{record_of}
 
 -- the object's state, by its limits, its log and its ranks' records
 abbrev pub state_of : {P A : Type 0} → Limits → History P → List (RankRecord A) → State P

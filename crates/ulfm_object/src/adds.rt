@@ -3,23 +3,22 @@ ghost use Rattle.std.specs.Prelude.{◌≡◌, ◌++◌, ◌∷◌, [], IfOk, So
 ghost use Rattle.std.specs.List.{cons_option};
 ghost use Rattle.ulfm_model.specs.Computed.{added, added_by_poll, given_at, is_free_mask, known_at, mark_at, mark_of, marks_of, settle_of, spawn_of};
 ghost use Rattle.ulfm_model.specs.History.{entries_by};
-ghost use Rattle.ulfm_record.specs.Kept.{record_of};
+ghost use Rattle.ulfm_model.specs.Kept.{record_of};
 ghost use Rattle.ulfm_model.specs.declared.call.Request.TheVariants.{Shrink};
 
 use std::alloc::{AllocError, Allocator};
-use ulfm_laws::counts::{Acked, Known};
 use ulfm_laws::meld::Meld;
-use ulfm_laws::summary::Body;
+use ulfm_laws::summary::{Acked, Body, Known};
 use ulfm_model::call::{Call, Request};
 use ulfm_model::contribution::{Contribution, MarkCount, Offer};
+use ulfm_model::decide::{decision, is_decided};
 use ulfm_model::event::{Caller, Entry, Event};
+use ulfm_model::groups::{count_failed, failed};
+use ulfm_model::held::HeldComm;
+use ulfm_model::ids::free_ids;
 use ulfm_model::limits::Limits;
-use ulfm_record::decide::{decision, is_decided};
-use ulfm_record::groups::{count_failed, failed};
-use ulfm_record::held::HeldComm;
-use ulfm_record::ids::free_ids;
-use ulfm_record::reads::{count_made, has_arrived, has_rank, is_made, is_revoked, slot};
-use ulfm_record::record::RankRecord;
+use ulfm_model::reads::{count_made, has_arrived, has_rank, is_made, is_revoked, slot};
+use ulfm_model::record::RankRecord;
 
 /// A count of failures, at most 1024.
 fn known_at(count: usize) -> Known

@@ -4,17 +4,17 @@ ghost use Rattle.ulfm_model.specs.Terms.{comm_of};
 ghost use Rattle.ulfm_model.specs.Answers.{left_by, traits_of};
 ghost use Rattle.ulfm_model.specs.Records.{Held, Record, held_at};
 ghost use Rattle.ulfm_model.specs.declared.reply.Reply.TheVariants.{Started};
-ghost use Rattle.ulfm_record.specs.Kept.{FitsNext, record_of};
+ghost use Rattle.ulfm_model.specs.Kept.{FitsNext, record_of};
 
 use std::alloc::{AllocError, Allocator};
 use ulfm_model::call::{Call, comm_of};
 use ulfm_model::event::Entry;
+use ulfm_model::groups::members;
+use ulfm_model::held::{HeldComm, take_in};
+use ulfm_model::leaves::settle;
 use ulfm_model::limits::Limits;
+use ulfm_model::record::RankRecord;
 use ulfm_model::reply::Reply;
-use ulfm_record::groups::members;
-use ulfm_record::held::{HeldComm, take_in};
-use ulfm_record::leaves::settle;
-use ulfm_record::record::RankRecord;
 
 /// Takes in a reply, with the failures that the rank has seen by then. Memory is taken first: after an error the record is as
 /// it was.

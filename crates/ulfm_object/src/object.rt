@@ -10,7 +10,7 @@ ghost use Rattle.ulfm_model.specs.Records.{Record};
 ghost use Rattle.ulfm_model.specs.Runs.{IsSound, State, new_state};
 ghost use Rattle.ulfm_model.specs.Words.{IsUnfit, MayOpen};
 ghost use Rattle.ulfm_object.specs.Objects.{IsFew, TakesStep, state_of};
-ghost use Rattle.ulfm_record.specs.Kept.{record_of};
+ghost use Rattle.ulfm_model.specs.Kept.{record_of};
 ghost use Rattle.ulfm_model.specs.declared.event.Caller.TheVariants.{Rank};
 ghost use Rattle.ulfm_model.specs.declared.limits.OpenFault.TheVariants.{OutOfMemory};
 
@@ -21,13 +21,13 @@ use std::marker::Model;
 use ulfm_laws::meld::Meld;
 use ulfm_model::call::{Call, rank_of};
 use ulfm_model::event::{Caller, Entry, Event};
+use ulfm_model::fresh::new_records;
+use ulfm_model::groups::{failed, members};
 use ulfm_model::limits::{Limits, OpenFault};
+use ulfm_model::reads::{failures, is_declared};
+use ulfm_model::record::RankRecord;
 use ulfm_model::refusal::Refusal;
 use ulfm_model::reply::Reply;
-use ulfm_record::fresh::new_records;
-use ulfm_record::groups::{failed, members};
-use ulfm_record::reads::{failures, is_declared};
-use ulfm_record::record::RankRecord;
 
 /// The sequential object.
 #[derive(Drop)]

@@ -7,7 +7,7 @@ ghost use Rattle.ulfm_model.specs.History.{entries_by};
 ghost use Rattle.ulfm_model.specs.Records.{held_at};
 ghost use Rattle.ulfm_model.specs.Words.{MayOpen};
 ghost use Rattle.ulfm_object.specs.Objects.{IsFew};
-ghost use Rattle.ulfm_record.specs.Kept.{record_of};
+ghost use Rattle.ulfm_model.specs.Kept.{record_of};
 ghost use Rattle.ulfm_model.specs.declared.event.Caller.TheVariants.{Rank};
 ghost use Rattle.ulfm_model.specs.declared.reply.Reply.TheVariants.{Refused};
 
@@ -17,12 +17,12 @@ use std::alloc::{AllocError, Allocator};
 use ulfm_laws::meld::Meld;
 use ulfm_model::call::{Call, comm_of};
 use ulfm_model::event::{Caller, Entry};
+use ulfm_model::held::{HeldComm, place_of, refusal_of};
 use ulfm_model::limits::Limits;
+use ulfm_model::reads::is_declared;
+use ulfm_model::record::RankRecord;
 use ulfm_model::refusal::Refusal;
 use ulfm_model::reply::Reply;
-use ulfm_record::held::{HeldComm, place_of, refusal_of};
-use ulfm_record::reads::is_declared;
-use ulfm_record::record::RankRecord;
 
 /// The history after a call, and its reply.
 #[derive(Drop)]

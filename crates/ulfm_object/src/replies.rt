@@ -4,9 +4,9 @@ ghost use Rattle.std.specs.List.{list_all, position_from};
 ghost use Rattle.ulfm_model.specs.Computed.{agree_reply, poll_reply, replied, shrink_reply, shrunk_reply, start_reply};
 ghost use Rattle.ulfm_model.specs.Answers.{barrier_reply};
 ghost use Rattle.ulfm_model.specs.History.{decision, failed, failures, has_arrived, is_decided, spawns};
-ghost use Rattle.ulfm_record.specs.Walked.{decision_of};
+ghost use Rattle.ulfm_model.specs.Walked.{decision_of};
 ghost use Rattle.ulfm_object.specs.Objects.{IsFew, view_after};
-ghost use Rattle.ulfm_record.specs.Kept.{record_of};
+ghost use Rattle.ulfm_model.specs.Kept.{record_of};
 ghost use Rattle.ulfm_model.specs.declared.event.Event.{Event};
 ghost use Rattle.ulfm_model.specs.declared.reply.Reply.TheVariants.{Pending};
 
@@ -16,16 +16,16 @@ use ulfm_laws::meld::Meld;
 use ulfm_laws::summary::Body;
 use ulfm_model::call::{Call, MOST_FAILURES, Request};
 use ulfm_model::contribution::Slot;
+use ulfm_model::decide::{Decided, decision, is_decided};
 use ulfm_model::event::Entry;
+use ulfm_model::groups::{failed, failed_among, members};
+use ulfm_model::held::HeldComm;
+use ulfm_model::ids::lowest_id;
 use ulfm_model::limits::Limits;
+use ulfm_model::reads::{has_arrived, has_rank, is_revoked, place_made, slot};
+use ulfm_model::record::RankRecord;
 use ulfm_model::refusal::Refusal;
 use ulfm_model::reply::Reply;
-use ulfm_record::decide::{Decided, decision, is_decided};
-use ulfm_record::groups::{failed, failed_among, members};
-use ulfm_record::held::HeldComm;
-use ulfm_record::ids::lowest_id;
-use ulfm_record::reads::{has_arrived, has_rank, is_revoked, place_made, slot};
-use ulfm_record::record::RankRecord;
 
 /// The reply to a start, by what stood at the rank's place before.
 fn start_reply<P: Copy>(stood: Option<Slot<P>>) -> Reply<P>

@@ -15,7 +15,7 @@ use std::alloc::{AllocError, Allocator};
 use ulfm_laws::FlagAnd;
 use ulfm_lines::print_line;
 use ulfm_model::{Caller, Limits};
-use ulfm_script::digits::flag_digits;
+use ulfm_script::printing::flag_digits;
 use ulfm_script::{
     HeaderKind, LastGroup, print_header, print_number, print_reply, print_spelled_call,
 };

@@ -3,7 +3,7 @@ use crate::{ENTRY_BYTES, bytes_of, entry_of, feed};
 use std::alloc::Global;
 use std::process::Abort;
 use std::test::Fail;
-use ulfm_laws::counts::{Acked, Known};
+use ulfm_laws::summary::{Acked, Known};
 use ulfm_laws::ctx_mask::CtxMask;
 use ulfm_laws::flag_and::FlagAnd;
 use ulfm_model::contribution::{Contribution, MarkCount, Offer};

@@ -1,4 +1,5 @@
-// A world, all its ranks and one pass in a single value, which answers call after call: for scripts and tests.
+// A world, all its ranks and one pass in a single value, which answers call after call: for scripts and tests. And the machine that answers
+// a script's calls so, over plain words, those of one thread.
 ghost use Rattle.std.specs.Prelude.{ℕ, List, ◌≡◌, ◌<◌, ◌≤◌, ◌==◌, Err, Some, find, length, vec_capacity, IsTrue, IfOk, OnErr, OnOk, MatchOption, MatchResult};
 ghost use mathlib.Core.List.{IsPrefix};
 ghost use Rattle.ulfm_model.specs.Answers.{polled_by, rank_of as rank_in, traits_of};
@@ -15,13 +16,16 @@ ghost use Rattle.ulfm_words.specs.Steps.{view_of, seen_in, IsView};
 use std::alloc::{AllocError, Allocator};
 use std::marker::Model;
 use ulfm_comm::{Rank, World};
+use ulfm_laws::FlagAnd;
 use ulfm_laws::meld::Packed;
+use ulfm_model::Limits;
 use ulfm_model::call::{Call, rank_of};
+use ulfm_model::held::is_shrink;
 use ulfm_model::limits::OpenFault;
 use ulfm_model::refusal::Refusal;
 use ulfm_model::reply::Reply;
-use ulfm_record::held::is_shrink;
-use ulfm_words::{OpenWords, Words};
+use ulfm_script::Machine;
+use ulfm_words::{OpenWords, PlainWords, Words};
 
 /// A world, all its ranks and one pass, in one hand: it answers one call after another. Contracts see it as the state of
 /// the sequential object.
@@ -317,5 +321,38 @@ fn call_by<P: Packed, A: Allocator + Copy, W: Words<P, A>>(
             Ok(reply)
         }
         _ => Ok(reply),
+    }
+}
+
+/// Ranks that make their calls over plain words, each by its own atomic steps.
+#[derive(Drop)]
+pub struct WordsMachine<A: Allocator + Copy + Drop> {
+    job: Job<PlainWords<FlagAnd>, FlagAnd, A>,
+}
+
+impl<A: Allocator + Copy + Drop> Machine<A> for WordsMachine<A> {
+    ghost state = { λ machine. machine.job };
+
+    fn open(alloc: A, limits: Limits) -> Result<Self, AllocError> {
+        let Ok(words) = PlainWords::open(limits) else {
+            unreachable!()
+        };
+        match Job::open(alloc, words) {
+            Ok(job) => Ok(WordsMachine { job }),
+            Err(_) => Err(AllocError),
+        }
+    }
+
+    fn apply(
+        &mut self,
+        call: &Call<FlagAnd>,
+        group: &mut Vec<u16, A>,
+    ) -> Result<Reply<FlagAnd>, AllocError> {
+        let reply = self.job.apply(call, group)?;
+        match reply {
+            Reply::FailedGroup { .. } | Reply::Shrunk { .. } => {}
+            _ => group.clear(),
+        }
+        Ok(reply)
     }
 }

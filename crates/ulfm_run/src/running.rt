@@ -3,7 +3,7 @@ ghost use Rattle.std.specs.Prelude.{◌<◌, IfOk};
 ghost use Rattle.ulfm_script.specs.{Ends.{EndsAlone, ended}, Runs.{RunsBuffered}};
 ghost use Rattle.ulfm_run.specs.{FailingScripts.{RunsFailing, failing_scripts}, StepScripts.{RunsSteps}};
 
-use crate::over_words::WordsMachine;
+use crate::job::WordsMachine;
 use crate::{Failing, StepTable, run_failing_script, run_step_script};
 use std::alloc::Allocator;
 use std::io::{Read, Write};

@@ -5,7 +5,7 @@ use Rattle.std.proofs.Math.Nat.{eq-or-lt_of_le}
 use Rattle.std.proofs.Math.Seq.{drop-append_seam}
 use Rattle.std.proofs.lemmas.Bool.{and_parts, cases_lt, eqb-true}
 use Rattle.ulfm_laws.specs.declared.flag_and.FlagAnd.{FlagAnd}
-use Rattle.ulfm_script.specs.declared.digits.TheConstants.{PAIRS}
+use Rattle.ulfm_script.specs.declared.printing.TheConstants.{PAIRS}
 use Rattle.ulfm_script.specs.Digits.{half_digits, hex_digit, hex_digits, printed_digits, whole_digits}
 use Rattle.ulfm_script.proofs.Hexadecimal.{all_printed, cut_off, digits_split, few_printed, length_digits}
 

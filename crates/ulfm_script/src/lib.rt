@@ -2,9 +2,7 @@
 #![tactic(auto)]
 
 pub mod buffers;
-pub mod call_script;
 pub mod calls;
-pub mod digits;
 pub mod engine;
 pub mod fault;
 pub mod flag_places;
@@ -21,9 +19,7 @@ pub mod version;
 pub mod words;
 
 pub use buffers::{Input, LineEnd, write_out};
-pub use call_script::{run_script, run_script_through};
-pub use calls::{is_padded, read_call, read_call_of};
-pub use digits::flag_digits;
+pub use calls::{is_padded, read_call, read_call_of, run_script, run_script_through};
 pub use engine::{end_of, run_text, run_text_through};
 pub use fault::RunFault;
 pub use flag_places::FlagDigits;
@@ -35,5 +31,7 @@ pub use last_group::LastGroup;
 pub use laws::{prints_the_replies, stops_at_the_first_fault};
 pub use line_kind::LineKind;
 pub use machine::Machine;
-pub use printing::{print_call, print_number, print_point, print_reply, print_spelled_call};
+pub use printing::{
+    flag_digits, print_call, print_number, print_point, print_reply, print_spelled_call,
+};
 pub use version::Version;

@@ -6,8 +6,8 @@ ghost use Rattle.ulfm_script.specs.Words.{first_word, next_word, one_of, two_of,
 ghost use Rattle.ulfm_script.specs.Words.{leading_number, number_seen};
 ghost use Rattle.ulfm_script.specs.declared.line_kind.LineKind.TheVariants.{Flag};
 
-use crate::digits::{HALF_DIGITS, WHOLE_DIGITS, printed_digits};
 use crate::line_kind::LineKind;
+use crate::printing::{HALF_DIGITS, WHOLE_DIGITS, printed_digits};
 use crate::version::Version;
 use ulfm_laws::FlagAnd;
 

@@ -1,7 +1,7 @@
 //! The trace that an order of nodes is, and what of the log it breaks.
 use std::alloc::{AllocError, Allocator};
 use ulfm_graph::tables::{NONE, at, bits_at, greatest, least, number, put, put_bits, small};
-use ulfm_laws::counts::{Acked, Known};
+use ulfm_laws::summary::{Acked, Known};
 use ulfm_laws::{CtxMask, FlagAnd};
 use ulfm_model::contribution::{Contribution, MarkCount, Offer};
 use ulfm_model::event::{Caller, Event};

@@ -16,7 +16,7 @@ use Rattle.ulfm_words.specs.{Steps.{IsAdded, IsView, Over, Sight}, Tries.{MayPut
 use Rattle.ulfm_words.proofs.{Growing.{prefix_self}, Ranks.{failures_le}, Trails.{did_added, did_more, did_none, did_prefix, did_quiet, did_wait}}
 use Rattle.ulfm_words.specs.Steps.{view_at}
 use Rattle.ulfm_words.specs.Tries.{attempt}
-use Rattle.ulfm_steps.specs.declared.mark_all.MarkAll.{MarkAll}
+use Rattle.ulfm_steps.specs.declared.blocks.MarkAll.{MarkAll}
 use Rattle.ulfm_steps.specs.Marks.{HasMarked, IsMarkOf, Marks, MarksOnce, MarkSteps, MayMarkAll, marks_left, members_in}
 use Rattle.ulfm_steps.proofs.Reading.{member_place, round_stays, take_one_more}
 use Rattle.ulfm_steps.specs.Among.{among}

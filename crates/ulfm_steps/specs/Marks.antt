@@ -8,7 +8,7 @@ use Rattle.ulfm_model.specs.{History.{History, entries_by, failures, has, slot},
 use Rattle.ulfm_model.specs.Terms.{settled_by}
 use Rattle.ulfm_words.specs.Steps.{IsAdded, IsView, View}
 use Rattle.ulfm_steps.specs.{Among.{Among}, Rounds.{IsRoundOf, RoundOn, round_on}, Turns.{TakesFirst}}
-use Rattle.ulfm_steps.specs.declared.mark_all.MarkAll.{MarkAll}
+use Rattle.ulfm_steps.specs.declared.blocks.MarkAll.{MarkAll}
 
 -- a mark of one of these ranks in this round
 abbrev pub IsMarkOf : {P : Type 0} → ℕ → ℕ → List ℕ → Event P → Type 0

@@ -11,8 +11,8 @@ ghost use Rattle.ulfm_steps.specs.Arriving.{ArrivalsTake, AtArrival, IsAsked, Is
 ghost use Rattle.ulfm_steps.specs.Rounds.{IsRoundIn};
 ghost use Rattle.ulfm_steps.specs.Among.{among};
 
+use crate::blocks::next_member;
 use crate::group::{has_rank, is_member};
-use crate::mark_all::next_member;
 use std::alloc::Allocator;
 use ulfm_laws::meld::Packed;
 use ulfm_words::{Words, load_arrival};

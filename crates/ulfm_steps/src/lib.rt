@@ -8,15 +8,13 @@ pub mod group;
 pub mod item;
 mod items;
 pub mod look;
-pub mod mark_all;
 pub mod read_on;
 pub mod settle;
 
 pub use append::{Append, Appended};
 pub use arrivals::{Arrivals, Missing};
-pub use blocks::{Found, Peek, ReadBlocks, RoundBlocks};
+pub use blocks::{Found, MarkAll, Peek, ReadBlocks, RoundBlocks};
 pub use item::Item;
 pub use look::Look;
-pub use mark_all::MarkAll;
 pub use read_on::ReadOn;
 pub use settle::Settle;

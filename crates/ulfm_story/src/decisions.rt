@@ -1,7 +1,7 @@
 //! What a round decides, in words.
 ghost use Rattle.std.specs.Prelude.{◌≡◌, ◌++◌, IfOk, OnOk};
 ghost use Rattle.std.specs.Fmt.{decimal};
-ghost use Rattle.ulfm_record.specs.Walked.{decision_of};
+ghost use Rattle.ulfm_model.specs.Walked.{decision_of};
 ghost use Rattle.ulfm_script.specs.Digits.{flag_text};
 ghost use Rattle.ulfm_story.specs.Decisions.{TellsDecision, body_text, decided_text, failed_text};
 
@@ -9,7 +9,7 @@ use itoa::Buffer;
 use std::alloc::{AllocError, Allocator};
 use ulfm_laws::{Body, FlagAnd};
 use ulfm_model::event::Entry;
-use ulfm_record::decide::{Decided, decision, is_decided};
+use ulfm_model::decide::{Decided, decision, is_decided};
 use ulfm_script::flag_digits;
 
 /// What a round decides by these events, in words: none where some member isn't settled yet.

@@ -14,7 +14,7 @@ use std::collections::HashMap;
 use std::hash::{BuildHasherDefault, FoldHasher};
 use ulfm_laws::FlagAnd;
 use ulfm_model::event::{Entry, Event};
-use ulfm_record::groups::{first_ranks, members};
+use ulfm_model::groups::{first_ranks, members};
 
 /// A communicator, a round and a rank.
 pub(crate) type Place = (u16, u16, u16);

@@ -8,7 +8,7 @@ use Rattle.ulfm_model.specs.declared.{block.Block.{Block}, block.Wing.{Wing}, co
 use Rattle.ulfm_model.specs.{Blocks.{IsBlock, IsCached, IsSide, IsSummed, IsWing, block_of, block_wing, block_word, has_block, has_wing}, History.{Exists, History, IsPlace, members, slot}}
 use Rattle.ulfm_model.specs.{Laws.{all_of, summary_of}, Words.{slot_word, word_bits}}
 use Rattle.ulfm_model.specs.Runs.{Did}
-use Rattle.ulfm_words.specs.declared.{loads.Found.{Found}, step.Site.{Site}}
+use Rattle.ulfm_words.specs.declared.{accesses.Found.{Found}, step.Site.{Site}}
 use Rattle.ulfm_words.specs.{Slots.{IsExact, acked_in, half_in, is_wing_word, known_in, number_bits, number_in, payload_in, tag_in}, Steps.{IsView, View, found}}
 
 -- the body with this tag and this payload

@@ -5,7 +5,7 @@ use Rattle.ulfm_model.specs.declared.{contribution.Contribution.{Contribution}, 
 use Rattle.ulfm_model.specs.declared.{event.Event.TheVariants.{Fail, Arrive, Revoke}, limits.Limits.{Limits}, place.Place.{Place}}
 use Rattle.ulfm_model.specs.{History.{History, IsLegal, MayFollow, MaySpawn, failures, has_arrived, is_revoked, slot}, Runs.{Did}, Words.{word_at}}
 use Rattle.ulfm_model.specs.Terms.{made_at}
-use Rattle.ulfm_words.specs.declared.{sets.Settled.{Settled}, step.Site.{Site}}
+use Rattle.ulfm_words.specs.declared.{accesses.Settled.{Settled}, step.Site.{Site}}
 use Rattle.ulfm_words.specs.{Entries.{put_of}, Steps.{IsAdded, IsView, View}}
 
 -- what an exchange is for: this event, whose word it would set at this place

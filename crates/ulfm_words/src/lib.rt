@@ -1,25 +1,21 @@
 //! Words that are set at most once: where they stand, what they mean, and what each step on them does.
 #![tactic(auto)]
 
+pub mod accesses;
 pub mod laws;
-pub mod loads;
 pub mod plain;
 mod row;
-pub mod sets;
-mod side_row;
 pub mod step;
-mod step_log;
 pub mod summaries;
 pub mod words;
 
-pub use loads::{
-    Found, load_arrival, load_block, load_block_rest, load_comm, load_failure, load_rest,
-    load_revocation, load_slot,
+pub use accesses::{
+    Found, Settled, load_arrival, load_block, load_block_rest, load_comm, load_failure, load_rest,
+    load_revocation, load_slot, put_slot, set_arrival, set_comm, set_failure, set_revocation,
+    set_slot,
 };
-pub use plain::{PlainPass, PlainTold, PlainWords, Trail};
-pub use sets::{Settled, put_slot, set_arrival, set_comm, set_failure, set_revocation, set_slot};
+pub use plain::{PlainPass, PlainTold, PlainWords, StepLog, Trail};
 pub use step::{Last, Site, Step};
-pub use step_log::StepLog;
 pub use summaries::{
     block_wing, block_word, block_words, read_block, read_slot, slot_wing, slot_words,
 };

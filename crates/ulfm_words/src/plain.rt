@@ -1,16 +1,17 @@
-// Words of one owner, and the passes over them: each pass is a memory of its own.
-ghost use Rattle.std.specs.Prelude.{◌≡◌, ◌≤◌, ◌%◌, ◌^◌, ◌++◌, ◌∷◌, [], true, false, IfOk, MatchOption, MatchResult, length};
+// Words of one owner, and the passes over them: each pass is a memory of its own, with a history that proofs alone read (`StepLog`): there
+// is nothing of it where a program runs.
+ghost use Rattle.std.specs.Prelude.{◌≡◌, ◌≤◌, ◌%◌, ◌^◌, ◌++◌, ◌∷◌, [], true, false, IfOk, MatchOption, MatchResult, length, Bool, List};
 ghost use Rattle.ulfm_model.specs.Blocks.{IsBlockWithin};
 ghost use Rattle.ulfm_model.specs.Words.{IsUnfit, MayOpen, word_at};
 ghost use Rattle.ulfm_words.specs.Blocks.{Caches, LoadsBlock, LoadsWing, SetsWing, IsBlockIn, IsSpread, IsSpreadBlock, MaySetWing};
 ghost use Rattle.ulfm_words.specs.Pass.{IsNth, plain_name};
 ghost use Rattle.ulfm_words.specs.Places.{IsWingWithin, IsWithin};
 ghost use Rattle.ulfm_words.specs.Steps.{coding, view_of, limits_in, seen_in, IsView, IsNew, IsWingedIn, Loads, MaySetIn, Sets};
+ghost use Rattle.std.specs.Borrow.{ftrue};
+ghost use Rattle.ulfm_words.specs.declared.step.Last.{Last};
 
-use crate::row::Row;
-use crate::side_row::SideRow;
+use crate::row::{Row, SideRow};
 use crate::step::{Last, Site, Step};
-use crate::step_log::StepLog;
 use crate::words::{OpenWords, Words};
 use std::alloc::{AllocError, Allocator, Global};
 use std::marker::{Model, PhantomData};
@@ -394,5 +395,37 @@ impl<P: Packed, A: Allocator + Copy> PlainPass<P, A> {
         }
         self.sides.set_wing(wing, word);
         Ok(())
+    }
+}
+
+/// Atomic steps in their order, each with whether it was a load. It takes no memory, and its methods do nothing as a program runs.
+#[derive(Drop)]
+pub struct StepLog {
+    /// What was logged, from the first step on.
+    pub ghost items: { List (Last × Bool) },
+}
+
+impl Model for StepLog {
+    ghost also_owns = { λ _. ftrue };
+}
+
+// It owns nothing.
+unsafe impl Send for StepLog {}
+
+impl StepLog {
+    /// No step.
+    #[inline(always)]
+    pub(crate) fn new() -> StepLog
+        ensures { result.items ≡ [] }
+    {
+        StepLog {}
+    }
+
+    /// One step more.
+    #[inline(always)]
+    pub(crate) fn and(&self, _last: &Last, _load: &bool) -> StepLog
+        ensures { result.items ≡ self.now.items ++ (_last.now, _load.now) ∷ [] }
+    {
+        StepLog {}
     }
 }

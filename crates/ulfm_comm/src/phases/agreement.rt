@@ -1,5 +1,5 @@
 // The steps of an agreement's poll: loads of the round's blocks; and, where not all are set, marks, and readings of those that aren't.
-ghost use Rattle.std.specs.Prelude.{Bool, List, ◌≡◌, ◌+◌, ◌<◌, ◌≤◌, false, true, IfSome, IsTrue};
+ghost use Rattle.std.specs.Prelude.{Bool, List, ◌≡◌, ◌+◌, ◌<◌, ◌≤◌, false, true, IfSome, IsTrue, MatchOption, None, Some};
 ghost use Rattle.ulfm_model.specs.{Answers.{closed}, Records.{Record}, Terms.{comm_of}};
 ghost use Rattle.ulfm_comm.specs.{Phase.{IsPast, NextBelow, NextIs, StillStands, Turns, is_looking, left}, Step.{TakesTurn}, Proposals.{WinsNext}};
 ghost use Rattle.ulfm_comm.specs.Agreement.{HasPeeked, HasReadAll, agreed_reply};
@@ -11,7 +11,7 @@ ghost use Rattle.ulfm_model.specs.declared.reply.Reply.TheVariants.{Pending as W
 ghost use Rattle.ulfm_comm.specs.declared.phases.phase.Phase.TheVariants.{Marking as AtMarking, Peeking as AtPeeking, Reading as AtReading};
 ghost use Rattle.ulfm_comm.specs.Local.{local};
 ghost use Rattle.ulfm_steps.specs.{Blocks.{MayReadBlocks}, Rounds.{IsMissingIn}, Turns.{running}};
-ghost use Rattle.ulfm_comm.specs.Requests.{polled_round};
+ghost use Rattle.ulfm_comm.specs.{Polls.{IsAgreement}, Requests.{agreement, polled_round}};
 ghost use Rattle.ulfm_comm.specs.Phase.{under_way};
 ghost use Rattle.ulfm_comm.specs.Step.{coming};
 ghost use Rattle.ulfm_words.specs.Steps.{view_of, Goes, IsView, Sight};
@@ -23,11 +23,22 @@ use crate::rank::LocalState;
 use std::alloc::Allocator;
 use ulfm_laws::meld::Packed;
 use ulfm_laws::summary::{Body, Summary};
-use ulfm_model::call::{Call, comm_of};
+use ulfm_model::call::{Call, Request, comm_of};
 use ulfm_model::refusal::Refusal;
 use ulfm_model::reply::Reply;
 use ulfm_steps::{Found, MarkAll, Peek, ReadBlocks, RoundBlocks};
 use ulfm_words::{Found as Loaded, Words, load_slot};
+
+// The round of an open agreement, and whether it is a shrink.
+pub(crate) fn agreement(request: Option<Request>) -> Option<(u16, bool)>
+    ensures { MatchOption result (IsAgreement request → request ≡ None) (λ found. request ≡ Some (agreement found.1 found.0)) }
+{
+    match request {
+        Some(Request::Agree { round }) => Some((round, false)),
+        Some(Request::Shrink { round }) => Some((round, true)),
+        _ => None,
+    }
+}
 
 // Whether the member at this place of a round's group isn't settled, by one load. None is made where the group has no such place.
 #[inline(always)]

@@ -5,7 +5,7 @@ ghost use Rattle.ulfm_model.specs.{History.{has}, Records.{Held, held_at, with_h
 ghost use Rattle.ulfm_model.specs.declared.{block.Beside.{Beside}, call.Call.TheVariants.{Poll as PollAsked}, call.Request.TheVariants.{Barrier as OfBarrier}};
 ghost use Rattle.ulfm_comm.specs.{Polls.{IsAgreement}, Phase.{IsFurther, IsPast, StillStands, left}, Look.{Passes}};
 ghost use Rattle.ulfm_comm.specs.{StepsLeft.{FewerLeft, steps_left, with_look}, Step.{FollowsLook, HasJustLooked, TakesTurn}};
-ghost use Rattle.ulfm_comm.specs.{AlsoLeft.{AlsoFollows}, Known.{KnowsNext}, Requests.{agreement}};
+ghost use Rattle.ulfm_comm.specs.{AlsoLeft.{AlsoFollows}, Known.{KnowsNext}};
 ghost use Rattle.ulfm_comm.specs.declared.phases.phase.Next.TheVariants.{Goes as NextGoes};
 ghost use Rattle.ulfm_comm.specs.declared.phases.phase.Phase.TheVariants.{Begun as AtBegun, Looking as AtLooking};
 ghost use Rattle.ulfm_comm.specs.Local.{local};
@@ -14,6 +14,7 @@ ghost use Rattle.ulfm_comm.specs.Step.{coming};
 ghost use Rattle.ulfm_words.specs.Steps.{view_of, IsView};
 ghost use Rattle.ulfm_comm.specs.Prepared.{Prepared};
 
+use crate::phases::agreement::agreement;
 use crate::phases::phase::{Next, Phase};
 use crate::rank::LocalState;
 use std::alloc::Allocator;
@@ -32,17 +33,6 @@ fn barrier(request: Option<Request>) -> Option<u16>
 {
     match request {
         Some(Request::Barrier { round }) => Some(round),
-        _ => None,
-    }
-}
-
-// The round of an open agreement, and whether it is a shrink.
-pub(crate) fn agreement(request: Option<Request>) -> Option<(u16, bool)>
-    ensures { MatchOption result (IsAgreement request → request ≡ None) (λ found. request ≡ Some (agreement found.1 found.0)) }
-{
-    match request {
-        Some(Request::Agree { round }) => Some((round, false)),
-        Some(Request::Shrink { round }) => Some((round, true)),
         _ => None,
     }
 }

@@ -6,7 +6,7 @@ ghost use Rattle.ulfm_comm.specs.Prepared.{HasPlaces, few_comms, unprepared};
 use std::alloc::{AllocError, Allocator};
 use std::marker::Model;
 use ulfm_laws::ctx_mask::CtxMask;
-use ulfm_record::held::HeldComm;
+use ulfm_model::held::HeldComm;
 
 // For so many communicators a rank has room from the start.
 pub(crate) const FEW: usize = 4;

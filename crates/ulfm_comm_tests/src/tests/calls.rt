@@ -8,7 +8,7 @@ use std::process::Abort;
 use std::test::Fail;
 use ulfm_comm::{Polled, World};
 use ulfm_intruder::Intruder;
-use ulfm_laws::counts::{Acked, Known};
+use ulfm_laws::summary::{Acked, Known};
 use ulfm_laws::flag_and::FlagAnd;
 use ulfm_model::call::Call;
 use ulfm_model::contribution::{Contribution, Offer};

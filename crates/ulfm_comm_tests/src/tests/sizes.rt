@@ -6,7 +6,7 @@ use std::process::Abort;
 use std::test::Fail;
 use ulfm_comm::Rank;
 use ulfm_laws::flag_and::FlagAnd;
-use ulfm_record::held::HeldComm;
+use ulfm_model::held::HeldComm;
 
 /// A rank has 80 bytes of its own. Room for a communicator takes 56: for four 224, and for 64 3,584. Its list of failures has 2 bytes for each rank.
 #[test]

@@ -9,7 +9,7 @@ use crate::tests::finished::give;
 use crate::tests::world::{GROUP, THREE, flag};
 use std::alloc::Allocator;
 use std::test::Fail;
-use ulfm_laws::counts::{Acked, Known};
+use ulfm_laws::summary::{Acked, Known};
 use ulfm_laws::flag_and::FlagAnd;
 use ulfm_laws::meld::Packed;
 use ulfm_laws::summary::{Body, Summary};

@@ -8,7 +8,7 @@ use crate::tests::world::{GROUP, THREE, declare, flag};
 use std::alloc::Allocator;
 use std::test::Fail;
 use ulfm_intruder::{Intruder, ReadRound};
-use ulfm_laws::counts::{Acked, Known};
+use ulfm_laws::summary::{Acked, Known};
 use ulfm_laws::flag_and::FlagAnd;
 use ulfm_laws::meld::Packed;
 use ulfm_laws::summary::{Body, Summary};

@@ -3,7 +3,7 @@ ghost use Rattle.std.specs.Prelude.{◌≤◌};
 
 use crate::tests::world::THREE;
 use std::test::Fail;
-use ulfm_laws::counts::{Acked, Known};
+use ulfm_laws::summary::{Acked, Known};
 use ulfm_laws::ctx_mask::CtxMask;
 use ulfm_laws::flag_and::FlagAnd;
 use ulfm_laws::summary::{Body, Summary};

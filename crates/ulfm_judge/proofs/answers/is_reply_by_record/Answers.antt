@@ -2,7 +2,7 @@ use Rattle.std.proofs.Common.{◌≡◌, Option, None, arith, sym, subst, ap, ap
 use Rattle.std.specs.Prelude.{IfOk}
 use Rattle.ulfm_model.specs.declared.refusal.Refusal.{Refusal}
 use Rattle.ulfm_model.specs.{Answers.{comm_of, refusal_of}, Records.{Held}}
-use Rattle.ulfm_record.proofs.Places.{find_is, find_missing, is_of, position_below}
+use Rattle.ulfm_model.proofs.Places.{find_is, find_missing, is_of, position_below}
 use Rattle.ulfm_judge.specs.ReplyTests.{by_record_test, replied_test}
 use Rattle.ulfm_judge.specs.CallsAt.{call_at}
 use Rattle.ulfm_judge.proofs.answers.is_reply_by_record.Goals as goal

@@ -1,7 +1,7 @@
 use Rattle.std.proofs.Common.{◌==◌, ◌&&◌, not, is_some, slice_index_or, sym, ap, ◌∙◌}
 use Rattle.ulfm_model.specs.Records.{Record}
-use Rattle.ulfm_record.specs.Kept.{record_of}
-use Rattle.ulfm_record.proofs.Places.{find_no_place, find_place}
+use Rattle.ulfm_model.specs.Kept.{record_of}
+use Rattle.ulfm_model.proofs.Places.{find_no_place, find_place}
 use Rattle.ulfm_judge.specs.Tests.{due_test}
 use Rattle.ulfm_judge.proofs.calls.is_due.Goals as goal
 

@@ -1,5 +1,5 @@
 use Rattle.std.proofs.Common.{Some, arith, sym, ap, ◌∙◌}
-use Rattle.ulfm_record.specs.declared.record.RankRecord.{RankRecord}
+use Rattle.ulfm_model.specs.declared.record.RankRecord.{RankRecord}
 use Rattle.ulfm_judge.proofs.Seating.{numbered_past, numbered_place}
 use Rattle.ulfm_judge.proofs.calls.place_of_rank.Goals as goal
 

@@ -2,8 +2,8 @@ use Rattle.std.proofs.Common.{◌≡◌, ◌==◌, ◌&&◌, ℕ, Bool, List, []
 use Rattle.std.specs.Prelude.{IfOk, unwrap_or}
 use Rattle.ulfm_model.specs.declared.{event.Event.{Event}, refusal.Refusal.{Refusal}}
 use Rattle.ulfm_model.specs.{History.{History, failures}, Records.{Record}}
-use Rattle.ulfm_record.specs.{declared.record.RankRecord.{RankRecord}, Kept.{record_of}}
-use Rattle.ulfm_record.proofs.Places.{find_no_place, find_place}
+use Rattle.ulfm_model.specs.{declared.record.RankRecord.{RankRecord}, Kept.{record_of}}
+use Rattle.ulfm_model.proofs.Places.{find_no_place, find_place}
 use Rattle.ulfm_model.specs.Traces.{record_in, view_at}
 use Rattle.ulfm_judge.proofs.{Answering.{started_fits}, Leaving.{may_leave, no_record, on_test}}
 use Rattle.ulfm_numbers.proofs.Seeing.{seen_same}

@@ -1,6 +1,6 @@
 use Rattle.std.proofs.Common.{◌≡◌, ℕ, List, [], ◌∷◌, ◌++◌, ap, ◌∙◌, take}
 use Rattle.ulfm_model.specs.{Answers.{closed, comm_of}, History.{members}, Records.{Record, new_held}}
-use Rattle.ulfm_record.specs.{Kept.{record_of}, Members.{members_of}}
+use Rattle.ulfm_model.specs.{Kept.{record_of}, Members.{members_of}}
 use Rattle.ulfm_numbers.specs.Seen.{Seen}
 use Rattle.ulfm_judge.proofs.Leaving.{left_number, on_ok}
 use Rattle.ulfm_numbers.proofs.Seeing.{seen_same}

@@ -4,8 +4,8 @@ use Rattle.std.specs.Prelude.{nat_eq, unwrap_or}
 use Rattle.std.specs.List.{IsDistinct}
 use Rattle.ulfm_model.specs.{Answers.{left_by}, History.{failures}, Records.{Record}}
 use Rattle.ulfm_model.proofs.Ranks.{ranks_distinct}
-use Rattle.ulfm_record.specs.{declared.record.RankRecord.{RankRecord}, Kept.{record_of}}
-use Rattle.ulfm_record.proofs.Places.{find_no_place, find_place}
+use Rattle.ulfm_model.specs.{declared.record.RankRecord.{RankRecord}, Kept.{record_of}}
+use Rattle.ulfm_model.proofs.Places.{find_no_place, find_place}
 use Rattle.ulfm_model.specs.Traces.{taken_in}
 use Rattle.ulfm_judge.specs.Kept.{traced_of, under_of}
 use Rattle.ulfm_numbers.proofs.Lasting.{no_value}

@@ -1,9 +1,9 @@
 use Rattle.std.proofs.Common.{◌==◌, [], sym, ap, ap₂, ◌∙◌, take}
 use Rattle.ulfm_model.specs.{Records.{Record}}
 use Rattle.ulfm_model.specs.declared.event.Caller.{Caller}
-use Rattle.ulfm_record.specs.Kept.{record_of}
-use Rattle.ulfm_record.specs.declared.record.RankRecord.{RankRecord}
-use Rattle.ulfm_record.proofs.Places.{find_no_place, find_place}
+use Rattle.ulfm_model.specs.Kept.{record_of}
+use Rattle.ulfm_model.specs.declared.record.RankRecord.{RankRecord}
+use Rattle.ulfm_model.proofs.Places.{find_no_place, find_place}
 use Rattle.ulfm_judge.specs.declared.calls.OpenCall.{OpenCall}
 use Rattle.ulfm_judge.specs.Kept.{traced_of}
 use Rattle.ulfm_judge.specs.Tests.{own_test}

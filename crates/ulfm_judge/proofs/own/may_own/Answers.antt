@@ -1,7 +1,7 @@
 use Rattle.std.proofs.Common.{◌≡◌, Some, None, false, is_some, sym, ap, ◌∙◌}
 use Rattle.ulfm_model.specs.{Answers.{comm_of, refusal_of}, History.{has}, Records.{Held}}
-use Rattle.ulfm_record.specs.Kept.{record_of}
-use Rattle.ulfm_record.proofs.Places.{find_is, find_missing}
+use Rattle.ulfm_model.specs.Kept.{record_of}
+use Rattle.ulfm_model.proofs.Places.{find_is, find_missing}
 use Rattle.ulfm_judge.specs.Tests.{adds_on_test}
 use Rattle.ulfm_judge.proofs.Deciding.{own_on}
 use Rattle.ulfm_judge.proofs.own.may_own.Goals as goal

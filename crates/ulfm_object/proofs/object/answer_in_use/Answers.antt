@@ -1,5 +1,5 @@
 use Rattle.std.proofs.Common.{sym, ◌∙◌}
-use Rattle.ulfm_record.specs.Kept.{record_of}
+use Rattle.ulfm_model.specs.Kept.{record_of}
 use Rattle.ulfm_object.proofs.ObjectSteps.{started_fits}
 use Rattle.ulfm_object.proofs.object.answer_in_use.Goals as goal
 

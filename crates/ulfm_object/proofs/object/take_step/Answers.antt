@@ -2,7 +2,7 @@ use Rattle.std.proofs.Common.{sym, subst, map}
 use Rattle.std.specs.Prelude.{IfOk}
 use Rattle.ulfm_model.specs.declared.call.Call.TheVariants.{Fail}
 use Rattle.ulfm_object.specs.Objects.{TakesStep, state_of}
-use Rattle.ulfm_record.specs.Kept.{record_of}
+use Rattle.ulfm_model.specs.Kept.{record_of}
 use Rattle.ulfm_object.proofs.Answering.{few_here, is_next, log_kept, numbers_of, stays_sound, takes_step}
 use Rattle.ulfm_object.proofs.object.take_step.Goals as goal
 

@@ -1,7 +1,7 @@
 use Rattle.std.proofs.Common.{◌≡◌, Some, ap, sym, ◌∙◌}
 use Rattle.std.specs.List.{position}
 use Rattle.ulfm_model.specs.Records.{Record, held_at}
-use Rattle.ulfm_record.proofs.Places.{find_is, find_missing, is_of}
+use Rattle.ulfm_model.proofs.Places.{find_is, find_missing, is_of}
 use Rattle.ulfm_comm.proofs.rank.LocalState.held.Goals as goal
 
 pub returns-in-Some-clause-held : goal.returns-in-Some-clause-held

@@ -1,7 +1,7 @@
 use Rattle.std.proofs.Common.{◌≡◌, ◌≤◌, length, filter, ap₂, sym, ◌∙◌, subst, arith}
 use Rattle.std.specs.List.Sorted.{IsStrictlyIncreasing}
 use Rattle.ulfm_model.specs.{History.{has}, Records.{Held}}
-use Rattle.ulfm_record.specs.Members.{members_of}
+use Rattle.ulfm_model.specs.Members.{members_of}
 use Rattle.ulfm_comm.proofs.rank.LocalState.offered.Goals as goal
 use Rattle.ulfm_comm.proofs.rank.LocalState.offered.Goals.{After-count_in-known}
 

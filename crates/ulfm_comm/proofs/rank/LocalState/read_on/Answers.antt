@@ -4,7 +4,7 @@ use mathlib.Core.List.{IsPrefix}
 use Rattle.ulfm_model.specs.History.{failures}
 use Rattle.ulfm_model.specs.Records.{Held, Record, held_at}
 use Rattle.ulfm_steps.specs.ReadsOn.{AtFailure, MayReadOn, ReadOnTakes}
-use Rattle.ulfm_record.proofs.Places.{find_is, find_missing, is_of, position_below}
+use Rattle.ulfm_model.proofs.Places.{find_is, find_missing, is_of, position_below}
 use Rattle.ulfm_comm.proofs.Others.{others_stay, room_in}
 use Rattle.ulfm_comm.proofs.rank.LocalState.read_on.Goals as goal
 use Rattle.ulfm_comm.proofs.rank.LocalState.read_on.Goals.{After-deref-2}

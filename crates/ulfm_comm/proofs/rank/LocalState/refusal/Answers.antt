@@ -1,7 +1,7 @@
 use Rattle.std.proofs.Common.{ap, ◌∙◌}
 use Rattle.ulfm_model.specs.{Answers.{first_refusal}, Records.{Record}}
 use Rattle.ulfm_model.specs.Terms.{tests_of}
-use Rattle.ulfm_record.proofs.Testing.{tests_are}
+use Rattle.ulfm_model.proofs.Testing.{tests_are}
 use Rattle.ulfm_comm.proofs.rank.LocalState.refusal.Goals as goal
 
 pub returns : goal.returns

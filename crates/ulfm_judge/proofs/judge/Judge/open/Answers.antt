@@ -1,7 +1,7 @@
 use Rattle.std.proofs.Common.{◌≡◌, ℕ, List, [], ◌∷◌, map, refl, sym, ap, ◌∙◌}
 use Rattle.std.proofs.lemmas.Simd.{map-map}
 use Rattle.ulfm_model.specs.{History.{first_ranks}, Records.{Record, new_record}}
-use Rattle.ulfm_record.specs.{Kept.{record_of}}
+use Rattle.ulfm_model.specs.{Kept.{record_of}}
 use Rattle.ulfm_model.specs.Traces.{Traced}
 use Rattle.ulfm_judge.specs.{declared.calls.OpenCall.{OpenCall}, Kept.{kept_by}}
 use Rattle.ulfm_judge.proofs.judge.Judge.open.Goals as goal

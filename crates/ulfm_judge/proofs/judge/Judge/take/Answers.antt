@@ -1,6 +1,6 @@
 use Rattle.std.proofs.Common.{List, sym, subst, ◌∙◌}
 use Rattle.std.specs.Prelude.{IfOk}
-use Rattle.ulfm_record.specs.declared.record.RankRecord.{RankRecord}
+use Rattle.ulfm_model.specs.declared.record.RankRecord.{RankRecord}
 use Rattle.ulfm_model.specs.Traces.{Takes}
 use Rattle.ulfm_judge.specs.{Kept.{traced_of}, Telling.{TellsSome}}
 use Rattle.ulfm_judge.proofs.Leaving.{stands_on}

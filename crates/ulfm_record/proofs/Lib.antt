@@ -1,5 +1,0 @@
-pub mod Allowed
-pub mod Contexts
-pub mod Places
-pub mod Testing
-pub mod Walks
