@@ -1,7 +1,7 @@
 //! Judges traces, each with a line `=` behind it, by the judge of traces: a line for each.
 #![allow(warnings)]
 mod rstd;
-mod ulfm_laws; mod ulfm_model; mod ulfm_record; mod ulfm_numbers; mod ulfm_judge; mod ulfm_script; mod ulfm_lines; mod ulfm_observed; mod ulfm_graph; mod ulfm_study; mod ulfm_search;
+mod ulfm_laws; mod ulfm_model; mod ulfm_numbers; mod ulfm_judge; mod ulfm_script; mod ulfm_lines; mod ulfm_observed; mod ulfm_graph; mod ulfm_study; mod ulfm_search;
 use std::io::Read;
 use rstd::alloc::Global;
 fn verdict(text: &[u8]) -> String {

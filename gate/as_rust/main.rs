@@ -1,6 +1,6 @@
 #![allow(warnings)]
 mod rstd;
-mod ulfm_laws; mod ulfm_model; mod ulfm_record; mod ulfm_numbers; mod ulfm_judge; mod ulfm_script; mod ulfm_lines; mod ulfm_observed; mod ulfm_graph; mod ulfm_study; mod ulfm_search;
+mod ulfm_laws; mod ulfm_model; mod ulfm_numbers; mod ulfm_judge; mod ulfm_script; mod ulfm_lines; mod ulfm_observed; mod ulfm_graph; mod ulfm_study; mod ulfm_search;
 use std::io::Read;
 use ulfm_script::{LastGroup, RunFault};
 use ulfm_search::{Answer, BUDGET, explain};

@@ -9,12 +9,12 @@ ghost use Rattle.ulfm_audit.specs.Texts.{body_text, decided_text, failed_text, r
 use itoa::Buffer;
 use std::alloc::{AllocError, Allocator};
 use ulfm_laws::{Body, FlagAnd};
+use ulfm_model::decide::Decided;
 use ulfm_model::event::Event;
 use ulfm_numbers::allowed::{decision, is_decided};
 use ulfm_numbers::numbers::Numbers;
-use ulfm_model::decide::Decided;
-use ulfm_script::printing::flag_digits;
 use ulfm_script::print_number;
+use ulfm_script::printing::flag_digits;
 
 /// Appends what the round decided that an event settles somebody in, where that round is decided by the events so far; else nothing. After an
 /// error nothing is said of the text.

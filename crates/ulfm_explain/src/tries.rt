@@ -6,12 +6,12 @@ use std::alloc::{AllocError, Allocator};
 use ulfm_judge::Judge;
 use ulfm_laws::{Body, FlagAnd};
 use ulfm_model::call::{Call, Request, comm_of};
-use ulfm_model::event::Entry;
-use ulfm_model::refusal::Refusal;
-use ulfm_model::{Line, Reply};
 use ulfm_model::decide::{decision, is_decided};
+use ulfm_model::event::Entry;
 use ulfm_model::groups::{failed, members};
 use ulfm_model::reads::place_made;
+use ulfm_model::refusal::Refusal;
+use ulfm_model::{Line, Reply};
 
 /// The most lines that are offered.
 const MOST_OFFERS: usize = 4;

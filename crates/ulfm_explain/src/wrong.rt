@@ -7,11 +7,11 @@ use std::alloc::{AllocError, Allocator};
 use ulfm_laws::FlagAnd;
 use ulfm_lines::trace_line::LONGEST;
 use ulfm_model::event::{Caller, Event};
-use ulfm_model::{Line, Reply};
 use ulfm_model::groups::{failed, members};
 use ulfm_model::reads::{
     count_made, failures, has_arrived, has_rank, is_declared, is_revoked, slot,
 };
+use ulfm_model::{Line, Reply};
 
 /// The most lines that a trace may have.
 const LAST_LINE: u32 = 5_000_000;

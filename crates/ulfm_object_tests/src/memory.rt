@@ -10,8 +10,8 @@ use std::test::Fail;
 use ulfm_laws::flag_and::FlagAnd;
 use ulfm_model::limits::{Limits, OpenFault};
 use ulfm_model::reply::Reply;
-use ulfm_object::Object;
 use ulfm_model::{HeldComm, RankRecord};
+use ulfm_object::Object;
 
 /// Fills a heap, block by block, until it has no more than so many bytes of room. The room comes back with what is
 /// answered.

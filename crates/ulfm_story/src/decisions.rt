@@ -8,8 +8,8 @@ ghost use Rattle.ulfm_story.specs.Decisions.{TellsDecision, body_text, decided_t
 use itoa::Buffer;
 use std::alloc::{AllocError, Allocator};
 use ulfm_laws::{Body, FlagAnd};
-use ulfm_model::event::Entry;
 use ulfm_model::decide::{Decided, decision, is_decided};
+use ulfm_model::event::Entry;
 use ulfm_script::flag_digits;
 
 /// What a round decides by these events, in words: none where some member isn't settled yet.

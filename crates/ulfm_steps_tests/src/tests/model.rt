@@ -1,8 +1,8 @@
 // Which worlds open, how refusals print, that entries are cloned, and that the laws hold for flags.
 use std::fmt::Write;
 use std::test::Fail;
-use ulfm_laws::summary::{Acked, Known};
 use ulfm_laws::flag_and::FlagAnd;
+use ulfm_laws::summary::{Acked, Known};
 use ulfm_model::contribution::{Contribution, Offer, Slot};
 use ulfm_model::event::{Caller, Entry, Event};
 use ulfm_model::laws;
