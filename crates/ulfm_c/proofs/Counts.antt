@@ -2,7 +2,7 @@
 use Rattle.std.proofs.Common.{◌≡◌, List, length, ap, sym, ◌∙◌}
 use Rattle.std.specs.Prelude.{Option}
 use Rattle.std.proofs.lemmas.List.{length-map}
-use Rattle.ulfm_model.proofs.Groups.{first_length}
+use Rattle.ulfm_model.proofs.RankGroups.{first_length}
 use Rattle.ulfm_model.specs.{History.{first_ranks}, Records.{new_record}}
 use Rattle.ulfm_model.specs.declared.limits.Limits.{Limits}
 use Rattle.ulfm_c.specs.Opens.{Opens}

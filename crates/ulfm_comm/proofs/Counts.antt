@@ -8,7 +8,7 @@ use Rattle.ulfm_model.specs.declared.step_name.StepName.{StepName}
 use Rattle.ulfm_model.specs.declared.step_name.StepName.TheVariants as step
 use Rattle.ulfm_model.specs.{Answers.{refusal_of}, History.{History, failures}, Records.{Fits, Held, Record, held_at}, Words.{MayOpen}}
 use Rattle.ulfm_model.specs.Terms.{comm_of, request_of}
-use Rattle.ulfm_model.proofs.Groups.{members_few}
+use Rattle.ulfm_model.proofs.RankGroups.{members_few}
 use Rattle.ulfm_words.specs.Steps.{IsView, Over, Sight, view_at}
 use Rattle.ulfm_comm.specs.{Bound.{call_bound, poll_bound, step_bound}, Calls.{EndsAs, EndsReply, wants_memory}, Counts.{Counted, CountsStep, MakesSteps, named_steps}, Step.{HasReadOn}}
 use Rattle.ulfm_comm.specs.{Phase.{next_step}, StepsLeft.{MakesStep, Spends, group_of, steps_left}}

@@ -6,7 +6,7 @@ use Rattle.std.proofs.lemmas.Bool.{eq-eqb, ne_eqb}
 use Rattle.std.proofs.lemmas.List.{get_or-map, length-map}
 use Rattle.ulfm_model.proofs.Places.{found_at}
 use Rattle.ulfm_model.specs.{History.{first_ranks}, Records.{Record}}
-use Rattle.ulfm_model.proofs.Groups.{first_at, first_length}
+use Rattle.ulfm_model.proofs.RankGroups.{first_at, first_length}
 
 module _ {X : Type 0} (p : X → Bool) where
   -- none passes

@@ -14,7 +14,7 @@ use Rattle.ulfm_model.specs.declared.{reply.Reply.{Reply}, reply.Reply.TheVarian
 use Rattle.ulfm_model.specs.{Answers.{CallAdds, PollAdds, closed, polled_by, traits_of}, History.{History, IsLegal, entries_by, failures, has, spawns, without}}
 use Rattle.ulfm_model.specs.{Records.{Fits, Held, IsLowestId, Record, held_at, is_shrink}, Runs.{Did}}
 use Rattle.ulfm_model.specs.Terms.{comm_of, contexts_of, new_held}
-use Rattle.ulfm_model.proofs.{Groups.{members_few}, Histories.{failures_begin}, LeftFits.{fits_seen}, Lists.{length-filter-le, prefix_trans}}
+use Rattle.ulfm_model.proofs.{RankGroups.{members_few}, Histories.{failures_begin}, LeftFits.{fits_seen}, Lists.{length-filter-le, prefix_trans}}
 use Rattle.ulfm_model.proofs.Stable.{fits_stays}
 use Rattle.ulfm_model.specs.Records.{moment}
 use Rattle.ulfm_words.specs.Steps.{IsView, Over, Sight, view_at}

@@ -9,7 +9,7 @@ use Rattle.std.proofs.lemmas.List.Sums.{position_or_len_is}
 use Rattle.std.proofs.lemmas.Option.{get_or_from_slice_get, slice_get_past, slice_get_read, slice_get_within}
 use Rattle.ulfm_model.specs.declared.event.Caller.{Caller}
 use Rattle.ulfm_model.specs.History.{first_ranks}
-use Rattle.ulfm_model.proofs.Groups.{first_at, first_length}
+use Rattle.ulfm_model.proofs.RankGroups.{first_at, first_length}
 use Rattle.ulfm_numbers.proofs.Placing.{get_other, get_same}
 use Rattle.ulfm_model.specs.Traces.{Under, caller_of, change_by, same_caller}
 use Rattle.ulfm_judge.specs.declared.calls.OpenCall.{OpenCall}

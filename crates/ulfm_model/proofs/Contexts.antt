@@ -19,7 +19,7 @@ use Rattle.ulfm_model.proofs.Decisions.{decision_push}
 use Rattle.ulfm_model.proofs.FreeIds.{free_where}
 use Rattle.ulfm_model.proofs.Histories.{by_events, spawns_push}
 use Rattle.ulfm_model.proofs.Lists.{each_from}
-use Rattle.ulfm_model.proofs.Says.{made_by}
+use Rattle.ulfm_model.proofs.OneEvent.{made_by}
 use Rattle.ulfm_model.proofs.Spawned.{at_push, members_of_spawned}
 
 -- a mask has one least id

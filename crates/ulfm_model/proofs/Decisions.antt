@@ -17,7 +17,7 @@ use Rattle.ulfm_model.specs.declared.contribution.Slot.{Slot}
 use Rattle.ulfm_model.specs.declared.contribution.Slot.TheVariants.{Given, Mark as Marked}
 use Rattle.ulfm_model.specs.History.{has}
 use Rattle.ulfm_model.specs.History.{History, failures, slot}
-use Rattle.ulfm_model.proofs.Says.{put_by, declared_by}
+use Rattle.ulfm_model.proofs.OneEvent.{put_by, declared_by}
 use Rattle.ulfm_model.specs.History.{Decision, Exists, IsLegal, IsPlace, MayFollow, body_of, contribution_of, decided_by, decision, failed, failed_among, is_decided, known_of, members, round, round_among, union_of}
 use Rattle.ulfm_model.specs.Terms.{lacks_one}
 use Rattle.ulfm_model.proofs.Lists.{none_first, filter_map_same, all_some, each_filter_map, each_filter, filter_map_each, each_from, any_same, any_none, each_always, filter_none, not_in_take, not_in_filter, in_list, get_stays}

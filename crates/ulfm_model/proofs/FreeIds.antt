@@ -7,7 +7,7 @@ use Rattle.std.specs.List.{AllByRecursion, list_all}
 use Rattle.std.proofs.lemmas.Nat.Bits.{bit_at_and, bit_at_ones, bit_at-lt}
 use Rattle.ulfm_model.specs.History.{first_ranks, has}
 use Rattle.ulfm_model.specs.Records.{Held, all_but, free_ids}
-use Rattle.ulfm_model.proofs.Groups.{first_has}
+use Rattle.ulfm_model.proofs.RankGroups.{first_has}
 
 -- a bit stands in the mask where every held communicator leaves it standing
 pub free_is : (held : List Held) (i : ℕ) → i < payload_bits → (bit_at (free_ids held).bits i ≡ 1) ↔ AllByRecursion (λ x. bit_at (all_but x.context).bits i ≡ 1) held

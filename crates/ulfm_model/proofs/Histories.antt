@@ -10,7 +10,7 @@ use Rattle.ulfm_model.specs.declared.event.Entry.{Entry}
 use Rattle.ulfm_model.specs.declared.contribution.Slot.{Slot}
 use Rattle.ulfm_model.specs.History.{without}
 use Rattle.ulfm_model.specs.History.{History, failures, slot, spawns}
-use Rattle.ulfm_model.proofs.Says.{put_by, declared_by, made_by}
+use Rattle.ulfm_model.proofs.OneEvent.{put_by, declared_by, made_by}
 use Rattle.ulfm_model.specs.History.{Exists, IsLegal, IsLegalAfter, MayFollow, members, members_after, members_by}
 use Rattle.ulfm_model.specs.Terms.{group_among}
 use Rattle.ulfm_model.proofs.Lists.{reverse_push}

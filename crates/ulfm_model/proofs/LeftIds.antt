@@ -20,7 +20,7 @@ use Rattle.ulfm_model.specs.declared.limits.Limits.{Limits}
 use Rattle.ulfm_model.specs.History.{History, has, same_place, slot}
 use Rattle.ulfm_model.specs.{History.{IsLegal, body_of, contribution_of, decision, members}, Records.{Held, all_but, free_ids}}
 use Rattle.ulfm_model.specs.Terms.{IsOwn, contexts_of}
-use Rattle.ulfm_model.proofs.Says.{put_by}
+use Rattle.ulfm_model.proofs.OneEvent.{put_by}
 use Rattle.ulfm_model.proofs.Histories.{slot_first}
 use Rattle.ulfm_model.proofs.Lists.{at_member, each_from, in_list}
 use Rattle.ulfm_model.proofs.Decisions.{settled_once}

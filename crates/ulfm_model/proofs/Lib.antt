@@ -3,7 +3,7 @@ pub mod Contexts
 pub mod Decisions
 pub mod Excluded
 pub mod FreeIds
-pub mod Groups
+pub mod RankGroups
 pub mod Histories
 pub mod Interleaved
 pub mod LeftFits
@@ -28,7 +28,7 @@ pub mod OnlySpawned
 pub mod OnlyStep
 pub mod Ranks
 pub mod Rows
-pub mod Says
+pub mod OneEvent
 pub mod Spawned
 pub mod Stable
 pub mod StepsAlone

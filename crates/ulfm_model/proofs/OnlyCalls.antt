@@ -28,7 +28,7 @@ use Rattle.ulfm_model.specs.Computed.{added, added_by_poll, given_at, marks_of, 
 use Rattle.ulfm_model.specs.Terms.{settled_by}
 use Rattle.ulfm_model.specs.Records.{FitsHeld, Held, Record, free_ids}
 use Rattle.ulfm_model.specs.Answers.{BarrierStartReplies, CallAdds, PollAdds, PollReplies, Replies, StartReplies, AtPoint, traits_of}
-use Rattle.ulfm_model.proofs.Says.{declared_by}
+use Rattle.ulfm_model.proofs.OneEvent.{declared_by}
 use Rattle.ulfm_model.proofs.Histories.{failures_begin, legal_parts, members_stay}
 use Rattle.ulfm_model.proofs.Lists.{each_from, has_prefix}
 use Rattle.ulfm_model.proofs.OnlyPoll.{MarksRound, ShrinkAdds, agree_events, ends_at, made_is, shrink_events}

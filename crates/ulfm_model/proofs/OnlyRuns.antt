@@ -16,7 +16,7 @@ use Rattle.ulfm_model.specs.Computed.{CallOutcome, outcome_of, rank_outcome, rep
 use Rattle.ulfm_model.specs.Terms.{comm_of, contexts_of, request_of, settled_by, rests_on}
 use Rattle.ulfm_model.specs.Records.{moment}
 use Rattle.ulfm_model.specs.Answers.{Replies}
-use Rattle.ulfm_model.proofs.Says.{declared_by}
+use Rattle.ulfm_model.proofs.OneEvent.{declared_by}
 use Rattle.ulfm_model.proofs.Lists.{each_from, find_holds}
 use Rattle.ulfm_model.proofs.OnlyCalls.{adds_nothing, call_is, declares_none, same_failures}
 

@@ -15,7 +15,7 @@ use Rattle.ulfm_model.specs.History.{IsLegal, MayFollow, is_made}
 use Rattle.ulfm_model.specs.Computed.{lowest_id}
 use Rattle.ulfm_model.specs.Records.{IsLowestId}
 use Rattle.ulfm_model.proofs.LowestId.{first_found}
-use Rattle.ulfm_model.proofs.Says.{made_by}
+use Rattle.ulfm_model.proofs.OneEvent.{made_by}
 use Rattle.ulfm_model.proofs.Histories.{by_events, spawns_push}
 
 filter_of_none : {X : Type 0} (p : X → Bool) (xs : List X) → list_any p xs ≡ false → filter p xs ≡ []

@@ -9,7 +9,7 @@ use Rattle.ulfm_model.specs.declared.event.Event.{Event}
 use Rattle.ulfm_model.specs.declared.event.Event.TheVariants.{Fail, Settle, Mark, Arrive, Revoke, Spawn}
 use Rattle.ulfm_model.specs.History.{without}
 use Rattle.ulfm_model.specs.History.{History, failures, spawns}
-use Rattle.ulfm_model.proofs.Says.{declared_by, made_by}
+use Rattle.ulfm_model.proofs.OneEvent.{declared_by, made_by}
 use Rattle.ulfm_model.specs.History.{Decision, Exists, IsLegal, MayFollow, MaySpawn, decision, is_decided, members}
 use Rattle.ulfm_model.proofs.Lists.{distinct_push, in_list, none_distinct}
 use Rattle.ulfm_model.proofs.Histories.{by_events, exists_push, members_made, members_same, spawns_push}

@@ -13,7 +13,7 @@ use Rattle.ulfm_model.specs.declared.event.Event.TheVariants.{Fail, Settle, Mark
 use Rattle.ulfm_model.specs.declared.contribution.Slot.{Slot}
 use Rattle.ulfm_model.specs.History.{has}
 use Rattle.ulfm_model.specs.History.{History, failures, slot, has_arrived, is_revoked, spawns}
-use Rattle.ulfm_model.proofs.Says.{made_by}
+use Rattle.ulfm_model.proofs.OneEvent.{made_by}
 use Rattle.ulfm_model.specs.{History.{Decision, Exists, IsLegal, IsPlace, MayFollow, MaySpawn, decision, failed, known_of, members, round}, Laws.{all_of}, Records.{Fits, FitsHeld, FitsRequest, Held, IsContext, Record}}
 use Rattle.ulfm_model.specs.Terms.{IsOwn, contexts_of}
 use Rattle.ulfm_model.proofs.Lists.{none_first, each_from, each_filter_map, distinct_filter, get_prefix, length_prefix, has_prefix}

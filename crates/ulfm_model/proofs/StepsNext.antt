@@ -17,7 +17,7 @@ use Rattle.ulfm_model.specs.Records.{Fits, Record}
 use Rattle.ulfm_model.specs.Answers.{AnswersFail, left_by, traits_of}
 use Rattle.ulfm_model.specs.Records.{moment}
 use Rattle.ulfm_model.proofs.Lists.{find_holds}
-use Rattle.ulfm_model.proofs.Says.{declared_by}
+use Rattle.ulfm_model.proofs.OneEvent.{declared_by}
 use Rattle.ulfm_model.proofs.StepsAlone.{good_run, span_alone}
 use Rattle.ulfm_model.proofs.StepsOutcome.{outcome_good}
 use Rattle.ulfm_model.proofs.StepsPlain.{has_last}

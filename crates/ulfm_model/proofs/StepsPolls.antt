@@ -23,7 +23,7 @@ use Rattle.ulfm_model.specs.{Answers.{AgreeReplies, MarksDeclared, PollAdds, Pol
 use Rattle.ulfm_model.specs.Computed.{added_by_poll, agree_reply, held_outcome, marks_of, poll_reply, shrink_reply, spawn_of}
 use Rattle.ulfm_model.specs.Terms.{IsOwn, request_of, settled_by}
 use Rattle.ulfm_model.proofs.Lists.{each_append, each_from, has_filter, has_passes}
-use Rattle.ulfm_model.proofs.Says.{declared_by}
+use Rattle.ulfm_model.proofs.OneEvent.{declared_by}
 use Rattle.ulfm_model.proofs.Histories.{legal_append, legal_parts, members_stay, slot_stays}
 use Rattle.ulfm_model.proofs.Decisions.{slot_stands}
 use Rattle.ulfm_model.proofs.Marking.{each_mark, marks_failures, marks_legal, marks_members, marks_settle, marks_settled_by, some_stays}

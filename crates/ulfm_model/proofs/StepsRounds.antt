@@ -21,7 +21,7 @@ use Rattle.ulfm_model.specs.{History.{IsLegal, MayFollow, body_of, contribution_
 use Rattle.ulfm_model.specs.Terms.{IsOwn}
 use Rattle.ulfm_model.specs.Answers.{IsPending}
 use Rattle.ulfm_model.proofs.Lists.{at_member, has_kept, none_of, some_fails}
-use Rattle.ulfm_model.proofs.Says.{put_by}
+use Rattle.ulfm_model.proofs.OneEvent.{put_by}
 use Rattle.ulfm_model.proofs.Histories.{by_events, slot_push, slot_remains}
 use Rattle.ulfm_model.proofs.Decisions.{put_stands}
 use Rattle.ulfm_model.proofs.Marking.{same_itself}

@@ -20,7 +20,7 @@ use Rattle.ulfm_model.specs.Computed.{is_free_mask, shrink_reply, shrunk_reply, 
 use Rattle.ulfm_model.specs.Terms.{settled_by}
 use Rattle.ulfm_model.specs.Answers.{ShrinkReplies, SpawnReplies}
 use Rattle.ulfm_model.proofs.Lists.{not_in_filter}
-use Rattle.ulfm_model.proofs.Says.{made_by}
+use Rattle.ulfm_model.proofs.OneEvent.{made_by}
 use Rattle.ulfm_model.proofs.Histories.{by_events, spawns_push}
 use Rattle.ulfm_model.proofs.LowestId.{lowest_is}
 use Rattle.ulfm_model.proofs.StepsRounds.{IsMasked}

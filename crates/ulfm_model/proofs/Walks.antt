@@ -8,7 +8,7 @@ use Rattle.ulfm_model.specs.declared.event.Entry.{Entry}
 use Rattle.ulfm_model.specs.History.{Exists, History, first_ranks, members, members_after, members_by, spawns, without}
 use Rattle.ulfm_model.specs.Terms.{group_among}
 use Rattle.ulfm_model.specs.Walked.{IsNotMade, IsOrigin}
-use Rattle.ulfm_model.proofs.Says.{made_by}
+use Rattle.ulfm_model.proofs.OneEvent.{made_by}
 use Rattle.ulfm_model.proofs.Histories.{members_made, members_stay, spawns_push}
 
 -- one more element of a beginning

@@ -19,7 +19,7 @@ use Rattle.ulfm_model.specs.Laws.{SetsWord, SetsOneWord, HasWords}
 use Rattle.ulfm_model.specs.{History.{IsLegal, IsLegalAfter, MayFollow}, Words.{first_word, offer_number, place_of, slot_word, word_at, word_of}}
 use Rattle.ulfm_model.specs.Terms.{word_or_zero}
 use Rattle.ulfm_model.proofs.Histories.{along, by_events, legal_parts, legal_push, slot_kept as slot_same, slot_push}
-use Rattle.ulfm_model.proofs.Says.{arrives_at, declared_by, made_by, put_by, revokes}
+use Rattle.ulfm_model.proofs.OneEvent.{arrives_at, declared_by, made_by, put_by, revokes}
 
 at_end : {X : Type 0} (xs : List X) (x : X) → slice_get (xs ++ x ∷ []) (length xs) ≡ Some x
 at_end [] x = refl

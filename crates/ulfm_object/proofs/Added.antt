@@ -11,7 +11,7 @@ use Rattle.ulfm_model.specs.{History.{History, decision, entries_by, failed, fai
 use Rattle.ulfm_model.specs.Computed.{added, added_by_poll, is_free_mask, mark_at, mark_of, marks_of, settle_of, spawn_of}
 use Rattle.ulfm_object.specs.Objects.{IsFew}
 use Rattle.ulfm_model.proofs.Lists.{each_filter_map}
-use Rattle.ulfm_model.proofs.Says.{declared_by, made_by}
+use Rattle.ulfm_model.proofs.OneEvent.{declared_by, made_by}
 
 module _ {P : Type 0} where
   -- an event that declares nobody and makes no communicator

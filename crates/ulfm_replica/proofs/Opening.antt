@@ -3,7 +3,7 @@ use Rattle.std.proofs.Common.{◌≡◌, ℕ, zero, suc, ◌<◌, List, [], ◌�
 use Rattle.std.specs.{List.{AllByRecursion}, Prelude.{slice_get}}
 use Rattle.ulfm_model.specs.declared.limits.Limits.{Limits}
 use Rattle.ulfm_model.specs.{History.{first_ranks}, Records.{Fits, new_record}}
-use Rattle.ulfm_model.proofs.Groups.{first_at, first_length}
+use Rattle.ulfm_model.proofs.RankGroups.{first_at, first_length}
 use Rattle.ulfm_comm.specs.Counts.{Ranked, new_rank, records_of}
 
 get_map : {X Y : Type 0} (f : X → Y) (xs : List X) (i : ℕ) (y : Y) → slice_get (map f xs) i ≡ Some y → (x : X) × (slice_get xs i ≡ Some x) × (y ≡ f x)

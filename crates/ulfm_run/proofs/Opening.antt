@@ -6,7 +6,7 @@ use Rattle.ulfm_laws.specs.Flags.{flag_meld}
 use Rattle.ulfm_laws.specs.declared.flag_and.FlagAnd.{FlagAnd}
 use Rattle.ulfm_model.specs.declared.limits.Limits.{Limits}
 use Rattle.ulfm_model.specs.{History.{first_ranks}, Records.{Fits, Record, new_record}}
-use Rattle.ulfm_model.proofs.Groups.{first_at, first_length}
+use Rattle.ulfm_model.proofs.RankGroups.{first_at, first_length}
 use Rattle.ulfm_words.specs.Steps.{view_at, IsNew, Name, Sight}
 use Rattle.ulfm_comm.specs.Counts.{Ranked, new_rank, records_of}
 use Rattle.ulfm_comm.proofs.InOrder.{rank_missing}

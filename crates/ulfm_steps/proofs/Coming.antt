@@ -3,7 +3,7 @@ use Rattle.std.proofs.Common.{◌≡◌, ℕ, suc, ◌<◌, ◌==◌, Bool, true
 use Rattle.std.proofs.lemmas.Bool.{eqb-true}
 use Rattle.ulfm_model.specs.declared.limits.Limits.{Limits}
 use Rattle.ulfm_model.specs.History.{History, IsPlace, failures, first_ranks, has}
-use Rattle.ulfm_model.proofs.Groups.{first_has}
+use Rattle.ulfm_model.proofs.RankGroups.{first_has}
 use Rattle.ulfm_steps.specs.Appends.{MayAppend}
 use Rattle.ulfm_steps.specs.declared.item.Item.TheVariants.{Failure}
 use Rattle.ulfm_steps.proofs.{Appending.{failure_stands}, Reading.{member_place, world_round}}

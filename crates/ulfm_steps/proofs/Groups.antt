@@ -9,7 +9,7 @@ use Rattle.std.proofs.lemmas.Map.Keys.{below_from_sorted, sorted_from_strictly_i
 use Rattle.ulfm_model.specs.declared.limits.Limits.{Limits}
 use Rattle.ulfm_model.specs.History.{History, first_ranks, has, members, members_after, members_by, says, spawns, without}
 use Rattle.ulfm_model.specs.Terms.{group_among}
-use Rattle.ulfm_model.proofs.Groups.{first_at, first_length}
+use Rattle.ulfm_model.proofs.RankGroups.{first_at, first_length}
 use Rattle.ulfm_steps.specs.Rounds.{IsRoundOf}
 use Rattle.ulfm_steps.proofs.Reading.{has_at}
 

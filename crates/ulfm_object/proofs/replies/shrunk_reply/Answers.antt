@@ -2,7 +2,7 @@ use Rattle.std.proofs.Common.{◌≡◌, ℕ, ◌+◌, ◌==◌, ◌&&◌, Optio
 use Rattle.std.specs.List.{position_from}
 use Rattle.ulfm_model.specs.History.{members, spawns}
 use Rattle.ulfm_model.specs.declared.{reply.Reply.{Reply}, reply.Reply.TheVariants.{Shrunk}}
-use Rattle.ulfm_model.proofs.{Groups.{members_few}, OnlySpawned.{lowest_is}}
+use Rattle.ulfm_model.proofs.{RankGroups.{members_few}, OnlySpawned.{lowest_is}}
 use Rattle.ulfm_model.specs.Computed.{shrunk_reply}
 use Rattle.ulfm_object.proofs.Bounds.{place_within}
 use Rattle.ulfm_object.proofs.replies.shrunk_reply.Goals as goal
