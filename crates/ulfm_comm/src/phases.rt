@@ -3,7 +3,6 @@ mod agreement;
 mod barrier;
 mod exchange;
 mod look;
-pub(crate) mod new_comm;
 pub mod phase;
 mod proposal;
 pub(crate) mod spawning;

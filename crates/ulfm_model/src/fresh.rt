@@ -7,9 +7,8 @@ ghost use Rattle.ulfm_model.specs.Records.{new_record};
 ghost use Rattle.ulfm_model.specs.Kept.{record_of};
 
 use crate::groups::first_ranks;
-use crate::held::HeldComm;
+use crate::held::{HeldComm, Members};
 use crate::limits::Limits;
-use crate::members::Members;
 use crate::record::RankRecord;
 use std::alloc::{AllocError, Allocator};
 use std::sync::ArcSlice;

@@ -1,5 +1,6 @@
-//! The communicators that a rank holds, and when these refuse a call.
-ghost use Rattle.std.specs.Prelude.{◌≡◌, ◌==◌, ◌<◌, ◌≤◌, ◌++◌, ◌∷◌, [], Some, None, filter, not, position, vec_capacity, vec_len};
+//! The communicators that a rank holds, who their members are, and when these refuse a call. All ranks hold the world's, so its members stand
+//! in one list for all.
+ghost use Rattle.std.specs.Prelude.{◌≡◌, ◌==◌, ◌<◌, ◌≤◌, ◌++◌, ◌∷◌, [], Some, None, filter, not, position, vec_capacity, vec_len, length};
 ghost use Rattle.std.specs.List.{list_any};
 ghost use Rattle.ulfm_model.specs.Records.{change_at, is_shrink};
 ghost use Rattle.ulfm_model.specs.Answers.{first_refusal, opened, refusal_of as refusal_by};
@@ -9,11 +10,12 @@ ghost use Rattle.ulfm_model.specs.Kept.{FitsNext, HasNext, record_of, tested};
 
 use crate::call::{Call, Request, comm_of};
 use crate::limits::Limits;
-use crate::members::Members;
 use crate::record::RankRecord;
 use crate::refusal::Refusal;
 use std::alloc::Allocator;
 use std::marker::Model;
+use std::ops::DerefSlice;
+use std::sync::ArcSlice;
 
 /// A communicator that a rank holds.
 #[derive(Drop)]
@@ -216,5 +218,44 @@ pub fn refusal_of<P: Copy, A: Allocator>(
     match place_of(&own.held, comm_of(asked)) {
         Some(i) => refusal_on(limits, &own.held, &own.held[i], asked),
         None => Some(Refusal::NoSuchComm),
+    }
+}
+
+/// The members of a communicator, in order. It is read as a slice of them.
+#[derive(Drop)]
+pub enum Members<A: Allocator> {
+    /// Those of a communicator that many hold, in one list for all.
+    Shared(ArcSlice<u16, A>),
+    /// Those of a communicator that a shrink made, in a list of the rank's own.
+    Own(Vec<u16, A>),
+}
+
+impl<A: Allocator> Members<A> {
+    /// How many they are.
+    #[inline(always)]
+    pub fn len(&self) -> usize
+        ensures { result ≡ length (members_of self.now) }
+    {
+        match self {
+            Members::Shared(ranks) => ranks.len(),
+            Members::Own(ranks) => ranks.len(),
+        }
+    }
+}
+
+impl<A: Allocator> DerefSlice for Members<A> {
+    type Elem = u16;
+
+    ghost deref_gives = { λ a ranks. ranks ≡ members_of a };
+
+    #[inline(always)]
+    fn deref(&self) -> &[u16]
+        ensures value { result.now ≡ members_of self.now }
+        ensures len { length result.now ≡ length (members_of self.now) }
+    {
+        match self {
+            Members::Shared(ranks) => ranks.as_slice(),
+            Members::Own(ranks) => ranks.as_slice(),
+        }
     }
 }

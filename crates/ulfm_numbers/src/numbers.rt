@@ -29,7 +29,7 @@ use ulfm_model::contribution::Slot;
 use ulfm_model::decide::{Decided, decided_by};
 use ulfm_model::event::{Entry, Event};
 use ulfm_model::groups::{first_ranks, union_of, without};
-use ulfm_model::members::Members;
+use ulfm_model::held::Members;
 
 /// A place in a round: a communicator, a round and a rank.
 pub type RoundKey = (u16, u16, u16);

@@ -17,9 +17,8 @@ ghost use Rattle.ulfm_comm.specs.Step.{coming};
 ghost use Rattle.ulfm_words.specs.Steps.{view_of, Goes, IsView, Sight};
 ghost use Rattle.ulfm_comm.specs.Prepared.{Prepared};
 
-use crate::phases::new_comm::NewComm;
 use crate::phases::phase::{Next, Phase};
-use crate::rank::LocalState;
+use crate::rank::{LocalState, NewComm};
 use std::alloc::Allocator;
 use ulfm_laws::meld::Packed;
 use ulfm_laws::summary::{Body, Summary};

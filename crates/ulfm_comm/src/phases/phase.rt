@@ -3,7 +3,7 @@ ghost use Rattle.std.specs.Prelude.{◌≡◌, ◌+◌, min};
 ghost use Rattle.ulfm_comm.specs.Counts.{named_steps};
 ghost use Rattle.ulfm_comm.specs.Phase.{is_checking, is_looking, next_step};
 
-use crate::phases::new_comm::NewComm;
+use crate::rank::NewComm;
 use std::alloc::Allocator;
 use std::marker::Model;
 use ulfm_laws::ctx_mask::CtxMask;

@@ -11,9 +11,8 @@ ghost use Rattle.ulfm_comm.specs.Step.{coming};
 ghost use Rattle.ulfm_words.specs.Steps.{view_of, IsView, Sight};
 ghost use Rattle.ulfm_steps.specs.declared.append.Appended.TheVariants.{Found as IsFound, Full as IsFull, Won as IsWon};
 
-use crate::phases::new_comm::NewComm;
 use crate::phases::phase::{Made, Next, Phase};
-use crate::rank::LocalState;
+use crate::rank::{LocalState, NewComm};
 use std::alloc::Allocator;
 use ulfm_laws::meld::Packed;
 use ulfm_laws::summary::{Body, Summary};

@@ -16,9 +16,8 @@ ghost use Rattle.ulfm_comm.specs.Step.{HasJustLooked, RunsBehind, RunsOn, RunsTh
 ghost use Rattle.ulfm_comm.specs.Prepared.{unprepared};
 
 use crate::phases::agreement::agreement;
-use crate::phases::new_comm::NewComm;
 use crate::phases::phase::{Doing, Next, Phase, Way};
-use crate::rank::{LocalState, Rank};
+use crate::rank::{LocalState, NewComm, Rank};
 use crate::world::World;
 use std::alloc::Allocator;
 use std::mem;
