@@ -118,6 +118,7 @@ fn read_called(text: &[u8]) -> Result<(Line<FlagAnd>, Option<&[u8]>), LineKind>
     Ok((Line::Called { call, padded }, None))
 }
 
+#[inline(always)]
 #[tactic(auto, unfolding(crate::specs::LineReading::looked_line))]
 fn read_looked(text: Option<&[u8]>) -> Result<(Line<FlagAnd>, Option<&[u8]>), LineKind>
     ensures { Gives at_field result (looked_line (rest_at text.entry)) }

@@ -115,6 +115,7 @@ pub(crate) fn open_on<A: Allocator>(x: &mut HeldComm<A>, request: Option<Request
 }
 
 /// A request is open on a communicator, and its round is used up. Nothing changes where it isn't held.
+#[inline(always)]
 pub fn open<A: Allocator>(held: &mut Vec<HeldComm<A>, A>, comm: u16, request: Request)
     requires { HasNext request }
     ensures items { held.new.items ≡ change_at comm (λ y. opened y (Some request)) held.old.items }

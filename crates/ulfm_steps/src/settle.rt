@@ -32,6 +32,7 @@ pub struct Settle<P: Packed> {
 impl<P: Packed> Settle<P> {
     /// The exchange of the wing, which comes first: whether this step has set it. Where it was set before, the contribution can't be made any
     /// more.
+    #[inline(always)]
     pub fn spread<A: Allocator, W: Words<P, A>>(&self, words: &W, pass: &mut W::Pass) -> bool
         requires of { IsView P.meld (view_of P.pack (W.name words.now) (W.sight pass.old)) }
         requires may { MayGiveIn (view_of P.pack (W.name words.now) (W.sight pass.old)) self.now.comm self.now.round self.now.rank self.now.given }
@@ -48,6 +49,7 @@ impl<P: Packed> Settle<P> {
     }
 
     /// The exchange, once the wing is set: it settles the place, or tells what has settled it.
+    #[inline(always)]
     pub fn step<A: Allocator, W: Words<P, A>>(
         &self,
         words: &W,

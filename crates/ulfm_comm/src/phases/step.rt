@@ -365,8 +365,7 @@ impl<P: Packed, A: Allocator + Copy> LocalState<P, A> {
         }
     }
 
-    // The poll of an open request, which the record doesn't refuse. That of an agree and that of a shrink are two branches: an agree's
-    // then prepares no communicator.
+    // The poll of an open request, which the record doesn't refuse.
     #[inline(always)]
     fn run_ready<W: Words<P, A>>(
         &mut self,
@@ -386,11 +385,7 @@ impl<P: Packed, A: Allocator + Copy> LocalState<P, A> {
         let Some((round, shrinks)) = agreement(x.request) else {
             return self.run_passed(words, pass, asked);
         };
-        let peek = Peek::new(comm, round);
-        if shrinks {
-            return self.run_peeking(words, pass, asked, peek, true);
-        }
-        self.run_peeking(words, pass, asked, peek, false)
+        self.run_peeking(words, pass, asked, Peek::new(comm, round), shrinks)
     }
 
     // Any call that the record doesn't refuse.
