@@ -2,7 +2,7 @@
 use Rattle.std.proofs.Common.{◌≡◌, ℕ, ◌-◌, ◌<◌, ◌≤◌, ◌==◌, Bool, true, false, not, List, [], ◌∷◌, length, filter, take, drop, max, min, Option, Some, None}
 use Rattle.std.proofs.Common.{is_some, refl, ap, ap₂, sym, ◌∙◌, subst, arith, inr, IsTrue, if◌then◌else◌}
 use Rattle.std.specs.List.{AllByRecursion}
-use Rattle.ulfm_laws.specs.declared.ctx_mask.CtxMask.{CtxMask}
+use Rattle.ulfm_laws.specs.declared.summary.CtxMask.{CtxMask}
 use Rattle.ulfm_model.specs.declared.call.Call.TheVariants as call
 use Rattle.ulfm_model.specs.declared.{call.Call.{Call}, call.Request.{Request}, call.Request.TheVariants.{Agree, Shrink}, contribution.Offer.{Offer}}
 use Rattle.ulfm_model.specs.declared.{contribution.Offer.TheVariants.{Flag, Ctx}, event.Caller.TheVariants.{Rank}, refusal.Refusal.{Refusal}}

@@ -7,7 +7,7 @@ use Rattle.std.specs.List.{AllByRecursion, list_all}
 use Rattle.std.proofs.lemmas.List.{length-take}
 use Rattle.std.proofs.lemmas.Bool.{ne_eqb}
 use Rattle.ulfm_laws.specs.declared.{summary.Body.{Body}, summary.Body.TheVariants.{Unit as NoBody, Flag as OfFlags, Ctx as OfIds, Clash}}
-use Rattle.ulfm_laws.specs.declared.{ctx_mask.CtxMask.{CtxMask}, summary.Summary.{Summary}}
+use Rattle.ulfm_laws.specs.declared.{summary.CtxMask.{CtxMask}, summary.Summary.{Summary}}
 use Rattle.ulfm_model.specs.declared.call.Call.TheVariants as call
 use Rattle.ulfm_model.specs.declared.{call.Call.{Call}, call.Request.{Request}, call.Request.TheVariants.{Agree, Shrink}}
 use Rattle.ulfm_model.specs.declared.{contribution.Contribution.{Contribution}, contribution.Slot.TheVariants.{Given}, event.Caller.TheVariants.{Rank}}

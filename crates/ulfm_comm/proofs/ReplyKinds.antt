@@ -3,7 +3,7 @@ use Rattle.std.proofs.Common.{◌≡◌, ◌⊎◌, ℕ, ◌<◌, Bool, true, fa
 use Rattle.std.specs.Bool.{⊤}
 use Rattle.std.specs.List.{list_all}
 use Rattle.ulfm_model.specs.declared.call.Call.TheVariants as call
-use Rattle.ulfm_laws.specs.declared.ctx_mask.CtxMask.{CtxMask}
+use Rattle.ulfm_laws.specs.declared.summary.CtxMask.{CtxMask}
 use Rattle.ulfm_model.specs.declared.{call.Call.{Call}, call.Request.{Request}, call.Request.TheVariants.{Agree, Shrink, Barrier}, contribution.Offer.{Offer}}
 use Rattle.ulfm_model.specs.declared.{contribution.Offer.TheVariants.{Ctx, Flag}, limits.Limits.{Limits}, refusal.Refusal.{Refusal}}
 use Rattle.ulfm_model.specs.declared.{refusal.Refusal.TheVariants.{IsRevoked, NoContext, ProcFailed, SelfFailed, Twice}, reply.Reply.{Reply}}

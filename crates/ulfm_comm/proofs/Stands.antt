@@ -1,7 +1,7 @@
 -- A call under way stands as it stood, after others' events.
 use Rattle.std.proofs.Common.{◌≡◌, ℕ, Bool, true, List, [], Option, Some, None, IfSome, IsTrue, ap, refl, sym, append-nil, ◌∙◌, arith}
 use mathlib.Core.List.{IsPrefix}
-use Rattle.ulfm_laws.specs.declared.ctx_mask.CtxMask.{CtxMask}
+use Rattle.ulfm_laws.specs.declared.summary.CtxMask.{CtxMask}
 use Rattle.ulfm_model.specs.declared.call.Call.TheVariants as call
 use Rattle.ulfm_model.specs.declared.{call.Call.{Call}, limits.Limits.{Limits}}
 use Rattle.ulfm_model.specs.{Answers.{polled_by}, History.{History, IsLegal, failures}, Records.{Held, Record, is_shrink}, Runs.{Did}}

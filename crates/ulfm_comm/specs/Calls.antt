@@ -2,7 +2,7 @@
 use Rattle.std.specs.Prelude.{◌≡◌, ◌⊎◌, ℕ, ◌<◌, ◌≤◌, Bool, ◌==◌, true, false, [], Option, Some, None, IsTrue, IsFalse, Result, Ok, Err, ⊤}
 use Rattle.std.specs.List.{AllByRecursion}
 use mathlib.Core.List.{IsPrefix}
-use Rattle.ulfm_laws.specs.declared.{summary.Body.TheVariants.{Ctx as OfIds}, ctx_mask.CtxMask.{CtxMask}}
+use Rattle.ulfm_laws.specs.declared.{summary.Body.TheVariants.{Ctx as OfIds}, summary.CtxMask.{CtxMask}}
 use Rattle.ulfm_model.specs.declared.{call.Request.{Request}, call.Request.TheVariants.{Agree, Shrink, Barrier}}
 use Rattle.ulfm_model.specs.declared.{call.Call.{Call}, event.Caller.TheVariants.{Rank}, limits.Limits.{Limits}, refusal.Refusal.{Refusal}, reply.Reply.{Reply}}
 use Rattle.ulfm_model.specs.declared.{refusal.Refusal.TheVariants.{OutOfMemory, Twice}, reply.Reply.TheVariants.{FailedGroup, Refused}}

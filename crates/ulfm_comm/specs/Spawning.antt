@@ -1,7 +1,7 @@
 -- The poll of a shrink once its round is decided: how it comes by its communicator.
 use Rattle.std.specs.Prelude.{◌≡◌, ◌⊎◌, ℕ, ◌<◌, ◌≤◌, Bool, true, false, List, [], ◌∷◌, Some, length, take, IsFalse, ◌+◌, ◌^◌, ◌-◌, not, ◌++◌, nat_eq, slice_get}
 use mathlib.Core.List.{IsPrefix}
-use Rattle.ulfm_laws.specs.declared.{summary.Body.TheVariants.{Ctx as OfIds}, ctx_mask.CtxMask.{CtxMask}, summary.Summary.{Summary}}
+use Rattle.ulfm_laws.specs.declared.{summary.Body.TheVariants.{Ctx as OfIds}, summary.CtxMask.{CtxMask}, summary.Summary.{Summary}}
 use Rattle.ulfm_laws.specs.Ranges.{payload_bits}
 use Rattle.ulfm_model.specs.declared.call.Call.TheVariants as call
 use Rattle.ulfm_model.specs.declared.{call.Call.{Call}, event.Caller.TheVariants.{Rank}, event.Event.{Event}, limits.Limits.{Limits}, event.Caller.{Caller}}

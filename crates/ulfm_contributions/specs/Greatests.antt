@@ -3,9 +3,9 @@ use Rattle.std.specs.Prelude.{◌≡◌, ℕ, ◌<◌, ◌^◌, ◌%◌, max, Op
 use Rattle.std.specs.Coded.{le_prop}
 use Rattle.std.proofs.Common.{ap, le_refl, lit<, mod-eq_of_lt, mod-lt, zero-le}
 use Rattle.std.proofs.Math.Nat.{max_comm, max-eq_left, max-eq_right}
-use Rattle.ulfm_laws.specs.Lawful.{IsLawful}
+use Rattle.ulfm_laws.specs.Lawful.{IsLawful, lawful_by_number}
 use Rattle.ulfm_laws.specs.Ranges.{payload_bits, same_by_number}
-use Rattle.ulfm_contributions.specs.Orders.{max_assoc, max_keeps}
+use Rattle.ulfm_laws.specs.Counts.{max_assoc, max_keeps}
 use Rattle.ulfm_contributions.specs.declared.greatest.Greatest.{Greatest}
 
 -- the least number
@@ -22,12 +22,8 @@ same_greatest x y =
     same_by_number (record { Fits = λ n. n < 2 ^ payload_bits; one_way = λ n. le_prop; value = λ n fits. record { value = n; fits = fits } }) x.fits y.fits
 
 pub greatest_lawful : IsLawful greatest_unit greatest_meld
-greatest_lawful = record {
-  associative = λ x y z. same_greatest (greatest_meld (greatest_meld x y) z) (greatest_meld x (greatest_meld y z)) (max_assoc x.value y.value z.value);
-  commutative = λ x y. same_greatest (greatest_meld x y) (greatest_meld y x) (max_comm x.value y.value);
-  idempotent = λ x. same_greatest (greatest_meld x x) x (max-eq_left (le_refl x.value));
-  unit_left = λ x. same_greatest (greatest_meld greatest_unit x) x (max-eq_right zero-le);
-}
+greatest_lawful =
+    lawful_by_number greatest_unit greatest_meld (λ x. x.value) same_greatest (λ x y z. max_assoc x.value y.value z.value) (λ x y. max_comm x.value y.value) (λ x. max-eq_left (le_refl x.value)) (λ x. max-eq_right zero-le)
 
 -- The value of a word. A word is below 2 ^ payload_bits, so the remainder is the word itself.
 abbrev pub greatest_unpack : ℕ → Option Greatest

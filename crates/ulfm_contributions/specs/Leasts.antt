@@ -3,9 +3,9 @@ use Rattle.std.specs.Prelude.{◌≡◌, ℕ, ◌<◌, ◌^◌, ◌%◌, min, Op
 use Rattle.std.specs.Coded.{le_prop}
 use Rattle.std.proofs.Common.{ap, le_refl, lit<, lt_of_le_of_lt, mod-eq_of_lt, mod-lt}
 use Rattle.std.proofs.Math.Nat.{le-pred_of_lt, min-le_left, min_comm, min-eq_left, min-eq_right}
-use Rattle.ulfm_laws.specs.Lawful.{IsLawful}
+use Rattle.ulfm_laws.specs.Lawful.{IsLawful, lawful_by_number}
 use Rattle.ulfm_laws.specs.Ranges.{all_ones, payload_bits, same_by_number}
-use Rattle.ulfm_contributions.specs.Orders.{min_assoc}
+use Rattle.ulfm_laws.specs.Counts.{min_assoc}
 use Rattle.ulfm_contributions.specs.declared.least.Least.{Least}
 
 -- the greatest number
@@ -22,12 +22,8 @@ same_least x y =
     same_by_number (record { Fits = λ n. n < 2 ^ payload_bits; one_way = λ n. le_prop; value = λ n fits. record { value = n; fits = fits } }) x.fits y.fits
 
 pub least_lawful : IsLawful least_unit least_meld
-least_lawful = record {
-  associative = λ x y z. same_least (least_meld (least_meld x y) z) (least_meld x (least_meld y z)) (min_assoc x.value y.value z.value);
-  commutative = λ x y. same_least (least_meld x y) (least_meld y x) (min_comm x.value y.value);
-  idempotent = λ x. same_least (least_meld x x) x (min-eq_left (le_refl x.value));
-  unit_left = λ x. same_least (least_meld least_unit x) x (min-eq_right (le-pred_of_lt x.fits));
-}
+least_lawful =
+    lawful_by_number least_unit least_meld (λ x. x.value) same_least (λ x y z. min_assoc x.value y.value z.value) (λ x y. min_comm x.value y.value) (λ x. min-eq_left (le_refl x.value)) (λ x. min-eq_right (le-pred_of_lt x.fits))
 
 -- The value of a word. A word is below 2 ^ payload_bits, so the remainder is the word itself.
 abbrev pub least_unpack : ℕ → Option Least

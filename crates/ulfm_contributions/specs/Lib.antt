@@ -1,4 +1,3 @@
 pub mod Greatests
 pub mod Leasts
-pub mod Orders
 pub mod Ors

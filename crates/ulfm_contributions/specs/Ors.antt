@@ -6,9 +6,9 @@ use Rattle.std.specs.Int.Bits.{or_self}
 use Rattle.std.proofs.Common.{◌∙◌, ap, refl, sym, lit<, mod-eq_of_lt, mod-lt}
 use Rattle.std.proofs.lemmas.Nat.{or_comm, or_lt}
 use Rattle.std.proofs.lemmas.Nat.Bits.{bit_at_or, same_from_bits}
-use Rattle.ulfm_laws.specs.Lawful.{IsLawful}
+use Rattle.ulfm_laws.specs.Lawful.{IsLawful, lawful_by_number}
 use Rattle.ulfm_laws.specs.Ranges.{payload_bits, same_by_number}
-use Rattle.ulfm_contributions.specs.Orders.{max_assoc}
+use Rattle.ulfm_laws.specs.Counts.{max_assoc}
 use Rattle.ulfm_contributions.specs.declared.flag_or.FlagOr.{FlagOr}
 
 -- no bit
@@ -35,12 +35,8 @@ or_assoc a b c = same_from_bits (bit_or (bit_or a b) c) (bit_or a (bit_or b c)) 
         left ∙ (max_assoc (bit_at a i) (bit_at b i) (bit_at c i) ∙ sym right)
 
 pub or_lawful : IsLawful or_unit or_meld
-or_lawful = record {
-  associative = λ x y z. same_or (or_meld (or_meld x y) z) (or_meld x (or_meld y z)) (or_assoc x.bits y.bits z.bits);
-  commutative = λ x y. same_or (or_meld x y) (or_meld y x) (or_comm x.bits y.bits);
-  idempotent = λ x. same_or (or_meld x x) x (or_self x.bits);
-  unit_left = λ x. same_or (or_meld or_unit x) x refl;
-}
+or_lawful =
+    lawful_by_number or_unit or_meld (λ x. x.bits) same_or (λ x y z. or_assoc x.bits y.bits z.bits) (λ x y. or_comm x.bits y.bits) (λ x. or_self x.bits) (λ x. refl)
 
 -- The value of a word. A word is below 2 ^ payload_bits, so the remainder is the word itself.
 abbrev pub or_unpack : ℕ → Option FlagOr

@@ -1,7 +1,7 @@
 -- A round of the world's own communicator, as it was read.
 use Rattle.std.proofs.Common.{◌≡◌, ℕ, ◌<◌, is_some, ap, sym, ◌∙◌}
 use Rattle.std.specs.List.{list_all}
-use Rattle.ulfm_laws.specs.{declared.summary.Body.TheVariants.{Ctx}, declared.ctx_mask.CtxMask.{CtxMask}, declared.summary.Summary.{Summary}}
+use Rattle.ulfm_laws.specs.{declared.summary.Body.TheVariants.{Ctx}, declared.summary.CtxMask.{CtxMask}, declared.summary.Summary.{Summary}}
 use Rattle.ulfm_model.specs.declared.limits.Limits.{Limits}
 use Rattle.ulfm_model.specs.{Blocks.{IsSummed}, History.{Decision, History, IsLegal, first_ranks, round_among, slot}, Laws.{all_of}}
 use Rattle.ulfm_model.proofs.Stable.{decision_is}

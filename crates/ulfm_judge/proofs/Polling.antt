@@ -3,7 +3,7 @@ use Rattle.std.proofs.Common.{◌≡◌, ◌⊎◌, ◌≤◌, ◌<◌, ◌+◌,
 use Rattle.std.specs.Bool.{Decides}
 use Rattle.std.specs.Coded.{le_prop}
 use Rattle.std.proofs.lemmas.Bool.Decides.{Decides-and, Decides-like, Decides-or}
-use Rattle.ulfm_laws.specs.declared.{summary.Acked.{Acked}, summary.Body.{Body}, ctx_mask.CtxMask.{CtxMask}, summary.Known.{Known}}
+use Rattle.ulfm_laws.specs.declared.{summary.Acked.{Acked}, summary.Body.{Body}, summary.CtxMask.{CtxMask}, summary.Known.{Known}}
 use Rattle.ulfm_laws.specs.{Counts.{same_acked, same_known}, Masks.{same_mask}}
 use Rattle.ulfm_model.specs.declared.{event.Event.{Event}, limits.Limits.{Limits}, refusal.Refusal.{Refusal}, reply.Reply.{Reply}}
 use Rattle.ulfm_model.specs.declared.{contribution.Contribution.{Contribution}, contribution.Offer.{Offer}, contribution.Slot.{Slot}}

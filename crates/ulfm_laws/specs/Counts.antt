@@ -6,7 +6,7 @@ use Rattle.std.proofs.Common.{sym, subst, inl, inr, lit≤, zero-le, le_refl, le
 use Rattle.std.proofs.Math.Nat.{max-le, le-max_left, le-max_right, max_comm, max-eq_left, max-eq_right}
 use Rattle.std.proofs.Math.Nat.{le-min, min-le_left, min-le_right, min_comm, min-eq_left, min-eq_right}
 use Rattle.std.proofs.lemmas.Bool.{cases_lt, or_cases}
-use Rattle.ulfm_laws.specs.Lawful.{IsLawful}
+use Rattle.ulfm_laws.specs.Lawful.{IsLawful, lawful_by_number}
 use Rattle.ulfm_laws.specs.Ranges.{is_acked_count, same_by_number}
 use Rattle.ulfm_laws.specs.declared.summary.Acked.{Acked}
 use Rattle.ulfm_laws.specs.declared.summary.Known.{Known}
@@ -28,7 +28,7 @@ same_known x y =
     x.in_range y.in_range
 
 -- the greatest of three, in either grouping
-max_assoc : (a b c : ℕ) → max (max a b) c ≡ max a (max b c)
+pub max_assoc : (a b c : ℕ) → max (max a b) c ≡ max a (max b c)
 max_assoc a b c =
     let to_b : max a b ≤ max a (max b c) = max-le (le-max_left a (max b c)) (le_trans (le-max_left b c) (le-max_right a (max b c))) in
     let from_b : max b c ≤ max (max a b) c = max-le (le_trans (le-max_right a b) (le-max_left (max a b) c)) (le-max_right (max a b) c) in
@@ -37,14 +37,18 @@ max_assoc a b c =
     (max-le (le_trans (le-max_left a b) (le-max_left (max a b) c)) from_b)
 
 pub known_lawful : IsLawful known_unit known_meld
-known_lawful = record {
-  associative = λ x y z. same_known (known_meld (known_meld x y) z) (known_meld x (known_meld y z)) (max_assoc x.count y.count z.count);
-  commutative = λ x y. same_known (known_meld x y) (known_meld y x) (max_comm x.count y.count);
-  idempotent = λ x. same_known (known_meld x x) x (max-eq_left (le_refl x.count));
-  unit_left = λ x. same_known (known_meld known_unit x) x (max-eq_right zero-le);
-}
+known_lawful =
+    lawful_by_number known_unit known_meld (λ x. x.count) same_known (λ x y z. max_assoc x.count y.count z.count) (λ x y. max_comm x.count y.count) (λ x. max-eq_left (le_refl x.count)) (λ x. max-eq_right zero-le)
 
 -- ---- acknowledged failures
+
+-- what holds of two numbers holds of the greater
+pub max_keeps : (Holds : ℕ → Type 0) (m n : ℕ) → Holds m → Holds n → Holds (max m n)
+max_keeps Holds m n here there =
+    elim (cases_lt m n) [
+      | inl less ↦ subst Holds (sym (max-eq_right (le_of_lt less))) there
+      | inr more ↦ subst Holds (sym (max-eq_left more)) here
+    ]
 
 -- what holds of two numbers holds of the lesser
 pub min_keeps : (Holds : ℕ → Type 0) (m n : ℕ) → Holds m → Holds n → Holds (min m n)
@@ -83,7 +87,7 @@ acked_le n in_range =
     ]
 
 -- the least of three, in either grouping
-min_assoc : (a b c : ℕ) → min (min a b) c ≡ min a (min b c)
+pub min_assoc : (a b c : ℕ) → min (min a b) c ≡ min a (min b c)
 min_assoc a b c =
     let from_b : min (min a b) c ≤ min b c = le-min (le_trans (min-le_left (min a b) c) (min-le_right a b)) (min-le_right (min a b) c) in
     let to_b : min a (min b c) ≤ min a b = le-min (min-le_left a (min b c)) (le_trans (min-le_right a (min b c)) (min-le_left b c)) in
@@ -92,9 +96,5 @@ min_assoc a b c =
     (le-min to_b (le_trans (min-le_right a (min b c)) (min-le_right b c)))
 
 pub acked_lawful : IsLawful acked_unit acked_meld
-acked_lawful = record {
-  associative = λ x y z. same_acked (acked_meld (acked_meld x y) z) (acked_meld x (acked_meld y z)) (min_assoc x.count y.count z.count);
-  commutative = λ x y. same_acked (acked_meld x y) (acked_meld y x) (min_comm x.count y.count);
-  idempotent = λ x. same_acked (acked_meld x x) x (min-eq_left (le_refl x.count));
-  unit_left = λ x. same_acked (acked_meld acked_unit x) x (min-eq_right (acked_le x.count x.in_range));
-}
+acked_lawful =
+    lawful_by_number acked_unit acked_meld (λ x. x.count) same_acked (λ x y z. min_assoc x.count y.count z.count) (λ x y. min_comm x.count y.count) (λ x. min-eq_left (le_refl x.count)) (λ x. min-eq_right (acked_le x.count x.in_range))

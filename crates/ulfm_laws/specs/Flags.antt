@@ -4,7 +4,7 @@ use Rattle.std.specs.Coded.{le_prop}
 use Rattle.std.specs.Int.Bits.{and_self}
 use Rattle.std.proofs.Common.{ap, lit<, lt_of_le_of_lt, mod-eq_of_lt, mod-lt}
 use Rattle.std.proofs.lemmas.Nat.{and_le_l, and_comm, and_assoc}
-use Rattle.ulfm_laws.specs.Lawful.{IsLawful}
+use Rattle.ulfm_laws.specs.Lawful.{IsLawful, lawful_by_number}
 use Rattle.ulfm_laws.specs.Ranges.{all_ones, ones-and, payload_bits, same_by_number}
 use Rattle.ulfm_laws.specs.declared.flag_and.FlagAnd.{FlagAnd}
 
@@ -22,12 +22,8 @@ same_flag x y =
     same_by_number (record { Fits = λ n. n < 2 ^ payload_bits; one_way = λ n. le_prop; value = λ n fits. record { bits = n; fits = fits } }) x.fits y.fits
 
 pub flag_lawful : IsLawful flag_unit flag_meld
-flag_lawful = record {
-  associative = λ x y z. same_flag (flag_meld (flag_meld x y) z) (flag_meld x (flag_meld y z)) (and_assoc z.bits x.bits y.bits);
-  commutative = λ x y. same_flag (flag_meld x y) (flag_meld y x) (and_comm x.bits y.bits);
-  idempotent = λ x. same_flag (flag_meld x x) x (and_self x.bits);
-  unit_left = λ x. same_flag (flag_meld flag_unit x) x (ones-and x.bits x.fits);
-}
+flag_lawful =
+    lawful_by_number flag_unit flag_meld (λ x. x.bits) same_flag (λ x y z. and_assoc z.bits x.bits y.bits) (λ x y. and_comm x.bits y.bits) (λ x. and_self x.bits) (λ x. ones-and x.bits x.fits)
 
 -- The flag of a word. A word is below 2 ^ payload_bits, so the remainder is the word itself.
 abbrev pub flag_unpack : ℕ → Option FlagAnd

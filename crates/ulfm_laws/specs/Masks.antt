@@ -4,9 +4,9 @@ use Rattle.std.specs.Coded.{le_prop}
 use Rattle.std.specs.Int.Bits.{and_self}
 use Rattle.std.proofs.Common.{lit<, lt_of_le_of_lt}
 use Rattle.std.proofs.lemmas.Nat.{and_le_l, and_comm, and_assoc}
-use Rattle.ulfm_laws.specs.Lawful.{IsLawful}
+use Rattle.ulfm_laws.specs.Lawful.{IsLawful, lawful_by_number}
 use Rattle.ulfm_laws.specs.Ranges.{all_ones, ones-and, payload_bits, same_by_number}
-use Rattle.ulfm_laws.specs.declared.ctx_mask.CtxMask.{CtxMask}
+use Rattle.ulfm_laws.specs.declared.summary.CtxMask.{CtxMask}
 
 -- every id
 abbrev pub mask_unit : CtxMask
@@ -22,9 +22,5 @@ same_mask x y =
     same_by_number (record { Fits = λ n. n < 2 ^ payload_bits; one_way = λ n. le_prop; value = λ n fits. record { bits = n; fits = fits } }) x.fits y.fits
 
 pub mask_lawful : IsLawful mask_unit mask_meld
-mask_lawful = record {
-  associative = λ x y z. same_mask (mask_meld (mask_meld x y) z) (mask_meld x (mask_meld y z)) (and_assoc z.bits x.bits y.bits);
-  commutative = λ x y. same_mask (mask_meld x y) (mask_meld y x) (and_comm x.bits y.bits);
-  idempotent = λ x. same_mask (mask_meld x x) x (and_self x.bits);
-  unit_left = λ x. same_mask (mask_meld mask_unit x) x (ones-and x.bits x.fits);
-}
+mask_lawful =
+    lawful_by_number mask_unit mask_meld (λ x. x.bits) same_mask (λ x y z. and_assoc z.bits x.bits y.bits) (λ x y. and_comm x.bits y.bits) (λ x. and_self x.bits) (λ x. ones-and x.bits x.fits)

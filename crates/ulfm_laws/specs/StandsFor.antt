@@ -5,7 +5,7 @@ use Rattle.std.specs.List.{range_with_len}
 use Rattle.ulfm_laws.specs.Combined.{combined}
 use Rattle.ulfm_laws.specs.Ranges.{payload_bits}
 use Rattle.ulfm_laws.specs.declared.summary.Acked.{Acked}
-use Rattle.ulfm_laws.specs.declared.ctx_mask.CtxMask.{CtxMask}
+use Rattle.ulfm_laws.specs.declared.summary.CtxMask.{CtxMask}
 use Rattle.ulfm_laws.specs.declared.flag_and.FlagAnd.{FlagAnd}
 use Rattle.ulfm_laws.specs.declared.summary.Known.{Known}
 

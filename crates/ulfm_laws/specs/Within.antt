@@ -5,7 +5,7 @@ use Rattle.std.proofs.Math.Nat.{le-max_left, max-le, min-le_right, sub-le}
 use Rattle.std.proofs.lemmas.Bool.{le-leb}
 use Rattle.ulfm_laws.specs.Ranges.{is_acked_count}
 use Rattle.ulfm_laws.specs.Ranges.{all_ones}
-use Rattle.ulfm_laws.specs.declared.{summary.Acked.{Acked}, ctx_mask.CtxMask.{CtxMask}, summary.Known.{Known}}
+use Rattle.ulfm_laws.specs.declared.{summary.Acked.{Acked}, summary.CtxMask.{CtxMask}, summary.Known.{Known}}
 
 -- all context ids but i, which is one of them: all bits but bit i
 abbrev pub all_but : ℕ → CtxMask

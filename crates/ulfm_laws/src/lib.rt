@@ -9,14 +9,12 @@
 //! What each kind stands for as a set, and what follows from the laws, are the contracts of [`meanings`].
 #![tactic(auto)]
 
-pub mod ctx_mask;
 pub mod flag_and;
 pub mod meanings;
 pub mod meld;
 pub mod meld_all;
 pub mod summary;
 
-pub use ctx_mask::CtxMask;
 pub use flag_and::FlagAnd;
 pub use meld::{Meld, Packed};
-pub use summary::{Acked, Body, Known, Summary};
+pub use summary::{Acked, Body, CtxMask, Known, Summary};

@@ -11,7 +11,7 @@ ghost use Rattle.ulfm_laws.specs.StandsFor.{MeldsToUnion, MeldsToIntersection, p
 ghost use Rattle.ulfm_laws.specs.StandsFor.{flag_stands_for, mask_stands_for};
 ghost use Rattle.ulfm_laws.specs.StandsFor.{known_stands_for, acked_stands_for};
 ghost use Rattle.ulfm_laws.specs.declared.summary.Acked.{Acked};
-ghost use Rattle.ulfm_laws.specs.declared.ctx_mask.CtxMask.{CtxMask};
+ghost use Rattle.ulfm_laws.specs.declared.summary.CtxMask.{CtxMask};
 ghost use Rattle.ulfm_laws.specs.declared.flag_and.FlagAnd.{FlagAnd};
 ghost use Rattle.ulfm_laws.specs.declared.summary.Known.{Known};
 

@@ -2,7 +2,7 @@
 use denote.Ref.{Bor}
 use Rattle.std.specs.Prelude.{ℕ, ◌==◌, ◌&&◌, not, List, [], ◌∷◌, codes, Bool, true, false, Option, Some, None, Result, Ok, Err, if◌then◌else◌}
 use Rattle.std.specs.Str.{bytes_eq}
-use Rattle.ulfm_laws.specs.declared.{ctx_mask.CtxMask.{CtxMask}, flag_and.FlagAnd.{FlagAnd}}
+use Rattle.ulfm_laws.specs.declared.{summary.CtxMask.{CtxMask}, flag_and.FlagAnd.{FlagAnd}}
 use Rattle.ulfm_model.specs.declared.{contribution.Offer.{Offer}, contribution.Offer.TheVariants.{Flag, Ctx}, event.Caller.{Caller}}
 use Rattle.ulfm_model.specs.declared.event.Caller.TheVariants.{Outside, Rank}
 use Rattle.ulfm_script.specs.declared.line_kind.LineKind.{LineKind}

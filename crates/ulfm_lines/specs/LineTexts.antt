@@ -1,7 +1,7 @@
 -- The texts of a trace's lines: how each typed line is printed.
 use Rattle.std.specs.Prelude.{ℕ, List, [], ◌∷◌, ◌++◌, Option, Some, None, codes}
 use Rattle.std.specs.Fmt.{decimal}
-use Rattle.ulfm_laws.specs.declared.{ctx_mask.CtxMask.{CtxMask}, flag_and.FlagAnd.{FlagAnd}}
+use Rattle.ulfm_laws.specs.declared.{summary.CtxMask.{CtxMask}, flag_and.FlagAnd.{FlagAnd}}
 use Rattle.ulfm_model.specs.declared.{contribution.Offer.{Offer}, contribution.Offer.TheVariants.{Flag, Ctx}}
 use Rattle.ulfm_model.specs.declared.{event.Caller.{Caller}, event.Caller.TheVariants.{Outside, Rank}}
 use Rattle.ulfm_model.specs.declared.{event.Event.{Event}, event.Event.TheVariants.{Fail, Settle, Mark, Arrive, Revoke, Spawn}, reply.Reply.{Reply}}

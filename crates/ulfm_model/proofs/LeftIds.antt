@@ -8,7 +8,7 @@ use Rattle.std.proofs.lemmas.Bool.{and_from, eq-eqb}
 use Rattle.std.proofs.lemmas.Nat.Bits.{bit_at_and, bit_at-lt}
 use Rattle.ulfm_laws.specs.declared.summary.Body.{Body}
 use Rattle.ulfm_laws.specs.declared.summary.Body.TheVariants.{Unit as NoBody, Flag, Ctx, Clash}
-use Rattle.ulfm_laws.specs.declared.ctx_mask.CtxMask.{CtxMask}
+use Rattle.ulfm_laws.specs.declared.summary.CtxMask.{CtxMask}
 use Rattle.ulfm_laws.specs.Bodies.{body_unit, body_meld}
 use Rattle.ulfm_laws.specs.Combined.{combined}
 use Rattle.ulfm_model.specs.declared.contribution.Contribution.{Contribution}

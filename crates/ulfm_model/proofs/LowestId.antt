@@ -7,7 +7,7 @@ use Rattle.std.specs.Int.{bit_at, trailing_zeros}
 use Rattle.std.proofs.lemmas.Bool.{cases_lt, eq-eqb}
 use Rattle.std.proofs.lemmas.List.Folds.{find-append}
 use Rattle.std.proofs.lemmas.Nat.Bits.{bit_at-trailing_zeros}
-use Rattle.ulfm_laws.specs.declared.ctx_mask.CtxMask.{CtxMask}
+use Rattle.ulfm_laws.specs.declared.summary.CtxMask.{CtxMask}
 use Rattle.ulfm_model.specs.History.{first_ranks}
 use Rattle.ulfm_model.specs.Records.{IsLowestId}
 use Rattle.ulfm_model.specs.Computed.{lowest_id}

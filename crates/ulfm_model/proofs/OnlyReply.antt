@@ -4,7 +4,7 @@ use Rattle.ulfm_laws.specs.Ranges.{payload_bits}
 use Rattle.std.specs.List.{list_all, list_any, position_from}
 use Rattle.std.proofs.lemmas.Bool.{and_from, and_parts, eq-eqb, eqb-true, false_from_ne_true, ne_eqb, or_left, or_right}
 use Rattle.ulfm_laws.specs.declared.summary.Body.TheVariants.{Ctx as OfIds}
-use Rattle.ulfm_laws.specs.declared.ctx_mask.CtxMask.{CtxMask}
+use Rattle.ulfm_laws.specs.declared.summary.CtxMask.{CtxMask}
 use Rattle.ulfm_model.specs.declared.call.Request.{Request}
 use Rattle.ulfm_model.specs.declared.call.Request.TheVariants.{Agree, Shrink, Barrier}
 use Rattle.ulfm_model.specs.declared.limits.Limits.{Limits}

@@ -6,7 +6,7 @@ use Rattle.std.proofs.lemmas.Bool.Decides.{nat_tests}
 use Rattle.std.proofs.lemmas.List.Folds.{list_any-append}
 use Rattle.ulfm_laws.specs.declared.summary.Body.{Body}
 use Rattle.ulfm_laws.specs.declared.summary.Body.TheVariants.{Unit as NoBody, Flag as OfFlags, Ctx as OfIds, Clash}
-use Rattle.ulfm_laws.specs.declared.ctx_mask.CtxMask.{CtxMask}
+use Rattle.ulfm_laws.specs.declared.summary.CtxMask.{CtxMask}
 use Rattle.ulfm_model.specs.declared.reply.Reply.TheVariants.{Refused}
 use Rattle.ulfm_model.specs.declared.refusal.Refusal.TheVariants.{NoContext, SelfFailed}
 use Rattle.ulfm_model.specs.declared.limits.Limits.{Limits}

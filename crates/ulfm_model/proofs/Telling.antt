@@ -3,7 +3,7 @@ use Rattle.std.proofs.Common.{◌≡◌, ℕ, ◌+◌, ◌==◌, Bool, true, fal
 use Rattle.std.specs.Prelude.{find, ⊤}
 use Rattle.std.proofs.lemmas.Bool.{eqb-true}
 use mathlib.Core.List.{IsPrefix}
-use Rattle.ulfm_laws.specs.declared.ctx_mask.CtxMask.{CtxMask}
+use Rattle.ulfm_laws.specs.declared.summary.CtxMask.{CtxMask}
 use Rattle.ulfm_laws.specs.declared.summary.Body.TheVariants.{Ctx as OfIds}
 use Rattle.ulfm_model.specs.declared.{call.Request.{Request}, call.Request.TheVariants.{Agree, Shrink}, contribution.Offer.{Offer}, contribution.Offer.TheVariants.{Flag}, contribution.Slot.TheVariants.{Given}, event.Caller.TheVariants.{Rank}, limits.Limits.{Limits}, refusal.Refusal.{Refusal}, refusal.Refusal.TheVariants.{Mismatch, NoContext, NoRoom, SelfFailed}, reply.Reply.{Reply}, reply.Reply.TheVariants.{Agreed, Pending, Refused, Shrunk, Started}}
 use Rattle.ulfm_model.specs.declared.call.Call.TheVariants as call

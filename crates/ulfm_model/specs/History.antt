@@ -2,7 +2,7 @@
 use Rattle.std.specs.Prelude.{◌≡◌, ℕ, zero, suc, ◌+◌, ◌-◌, ◌<◌, ◌≤◌, ◌==◌, Bool, not, ◌&&◌, if◌then◌else◌, IsTrue, IsFalse, ⊤}
 use Rattle.std.specs.Prelude.{List, [], ◌∷◌, ◌++◌, length, reverse, map, take, filter, filter_map, slice_get, Option, Some, None, is_some}
 use Rattle.std.specs.{List.{list_any, list_all}, Option.{option_or}}
-use Rattle.ulfm_laws.specs.{declared.summary.Body.{Body}, declared.ctx_mask.CtxMask.{CtxMask}, Bodies.{body_unit, body_meld}, Combined.{combined}}
+use Rattle.ulfm_laws.specs.{declared.summary.Body.{Body}, declared.summary.CtxMask.{CtxMask}, Bodies.{body_unit, body_meld}, Combined.{combined}}
 use Rattle.ulfm_model.specs.declared.{contribution.Contribution.{Contribution}, contribution.Offer.{Offer}, contribution.Slot.{Slot}}
 use Rattle.ulfm_model.specs.declared.{event.Caller.{Caller}, event.Entry.{Entry}, event.Event.{Event}, limits.Limits.{Limits}}
 

@@ -4,7 +4,7 @@ use Rattle.std.specs.Prelude.{List, [], ◌∷◌, length, filter, map, find, Op
 use Rattle.std.specs.{Int.{bit_at}, List.{AllByRecursion, IsDistinct}}
 use mathlib.Core.List.{IsPrefix}
 pub use Rattle.ulfm_laws.specs.Within.{all_but}
-use Rattle.ulfm_laws.specs.{declared.summary.Body.{Body}, declared.ctx_mask.CtxMask.{CtxMask}, Combined.{combined}, Masks.{mask_unit, mask_meld}}
+use Rattle.ulfm_laws.specs.{declared.summary.Body.{Body}, declared.summary.CtxMask.{CtxMask}, Combined.{combined}, Masks.{mask_unit, mask_meld}}
 use Rattle.ulfm_model.specs.declared.{call.Request.{Request}, contribution.Contribution.{Contribution}, contribution.Offer.{Offer}}
 use Rattle.ulfm_model.specs.declared.{event.Caller.{Caller}, event.Event.{Event}, limits.Limits.{Limits}}
 use Rattle.ulfm_model.specs.History.{Exists, History, decision, failed, failures, first_ranks, has, made_of, members}

@@ -1,6 +1,6 @@
 -- What a reply tells of its round, in a history; and the replies of a rank that agrees round after round and then shrinks.
 use Rattle.std.specs.Prelude.{◌≡◌, ◌⊎◌, ℕ, ◌+◌, ◌-◌, ◌<◌, ◌≤◌, Bool, List, [], ◌∷◌, ◌++◌, length, slice_get, Some, IsTrue}
-use Rattle.ulfm_laws.specs.declared.{summary.Body.{Body}, ctx_mask.CtxMask.{CtxMask}}
+use Rattle.ulfm_laws.specs.declared.{summary.Body.{Body}, summary.CtxMask.{CtxMask}}
 use Rattle.ulfm_model.specs.declared.{contribution.Contribution.{Contribution}, contribution.Offer.{Offer}, contribution.Slot.{Slot}}
 use Rattle.ulfm_model.specs.declared.{limits.Limits.{Limits}, refusal.Refusal.{Refusal}, reply.Reply.{Reply}}
 use Rattle.ulfm_model.specs.History.{History, decision, failures, has, is_decided, members, slot, spawns}

@@ -2,8 +2,7 @@
 ghost use Rattle.std.specs.Prelude.{◌≡◌, ◌≤◌, ◌<◌};
 
 use std::alloc::AllocError;
-use ulfm_laws::ctx_mask::CtxMask;
-use ulfm_laws::summary::{Acked, Known};
+use ulfm_laws::summary::{Acked, CtxMask, Known};
 
 /// What a rank offers to an agreement round: a flag to an agree, the context ids that are free at it to a shrink.
 #[derive(Clone, Copy, Debug, PartialEq, Eq)]

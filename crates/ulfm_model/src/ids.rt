@@ -4,8 +4,8 @@ ghost use Rattle.ulfm_model.specs.Records.{IsLowestId, all_but, free_ids};
 
 use crate::held::HeldComm;
 use std::alloc::Allocator;
-use ulfm_laws::ctx_mask::CtxMask;
 use ulfm_laws::meld::Meld;
+use ulfm_laws::summary::CtxMask;
 
 /// All context ids but one.
 fn all_but(id: u8) -> CtxMask

@@ -4,7 +4,7 @@ use Rattle.std.specs.Bool.{Decides}
 use Rattle.std.proofs.lemmas.Bool.{leb-true, le-leb, ltb-true, lt-ltb, eqb-true, eq-eqb}
 use Rattle.std.proofs.lemmas.Bool.Decides.{Decides-and, Decides-like, Decides-eqb}
 use Rattle.std.proofs.lemmas.Slice.Eq.{slice_eq-Decides}
-use Rattle.ulfm_laws.specs.declared.{summary.Body.{Body}, ctx_mask.CtxMask.{CtxMask}}
+use Rattle.ulfm_laws.specs.declared.{summary.Body.{Body}, summary.CtxMask.{CtxMask}}
 use Rattle.ulfm_model.specs.declared.{event.Event.{Event}, limits.Limits.{Limits}}
 use Rattle.ulfm_model.specs.History.{History, IsPlace, MayFollow, MaySpawn, decision, failed, failures, has, has_arrived, is_decided, is_made, is_revoked, members, slot, spawns}
 use Rattle.ulfm_numbers.specs.{Groups.{same_ranks}, Seen.{seen_of}}

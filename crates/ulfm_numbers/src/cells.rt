@@ -1,9 +1,8 @@
 //! What settles a place, with the number of its event, in one value of few bytes: the small parts stand beside the tag.
 ghost use Rattle.std.specs.Prelude.{◌≤◌};
 
-use ulfm_laws::ctx_mask::CtxMask;
 use ulfm_laws::flag_and::FlagAnd;
-use ulfm_laws::summary::{Acked, Known};
+use ulfm_laws::summary::{Acked, CtxMask, Known};
 use ulfm_model::contribution::MarkCount;
 
 /// The counts of a contribution.

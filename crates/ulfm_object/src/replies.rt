@@ -11,9 +11,8 @@ ghost use Rattle.ulfm_model.specs.declared.event.Event.{Event};
 ghost use Rattle.ulfm_model.specs.declared.reply.Reply.TheVariants.{Pending};
 
 use std::alloc::{AllocError, Allocator};
-use ulfm_laws::ctx_mask::CtxMask;
 use ulfm_laws::meld::Meld;
-use ulfm_laws::summary::Body;
+use ulfm_laws::summary::{Body, CtxMask};
 use ulfm_model::call::{Call, MOST_FAILURES, Request};
 use ulfm_model::contribution::Slot;
 use ulfm_model::decide::{Decided, decision, is_decided};

@@ -19,9 +19,8 @@ ghost use Rattle.ulfm_model.specs.declared.{contribution.Contribution.{Contribut
 ghost use Rattle.ulfm_replica.specs.Wire.{IsReadAs, blank, bytes_from, entry_bytes, fields_by, fields_of, named_of, number_of};
 ghost use Rattle.ulfm_replica.specs.declared.wire.Fields.{Fields};
 
-use ulfm_laws::ctx_mask::CtxMask;
 use ulfm_laws::meld::Packed;
-use ulfm_laws::summary::{Acked, Known};
+use ulfm_laws::summary::{Acked, CtxMask, Known};
 use ulfm_model::contribution::{Contribution, MarkCount, Offer};
 use ulfm_model::event::{Caller, Entry, Event};
 

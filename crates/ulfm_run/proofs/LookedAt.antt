@@ -9,7 +9,7 @@ use Rattle.ulfm_model.proofs.{Histories.{failures_begin}, Lists.{prefix_trans}, 
 use Rattle.ulfm_model.specs.Records.{moment}
 use Rattle.ulfm_words.specs.Steps.{IsView, Sight, Over as Named, view_at}
 use Rattle.ulfm_words.proofs.Trails.{did_none, did_prefix}
-use Rattle.ulfm_laws.specs.declared.ctx_mask.CtxMask.{CtxMask}
+use Rattle.ulfm_laws.specs.declared.summary.CtxMask.{CtxMask}
 use Rattle.ulfm_comm.specs.{Look.{HasLooked, Looked as HasFound}, Spawning.{HasReadMask}}
 use Rattle.ulfm_comm.specs.Phase.{Stands, StandsAt, UnderWay, is_looking}
 use Rattle.ulfm_comm.specs.declared.phases.phase.{Phase.{Phase}, Phase.TheVariants.{Over, Begun, Looking, Spreading, Settling, Arriving, Revoking, Asking, Peeking, Marking, Reading, ReadingOn, Spawning, Waiting, Checking}}

@@ -2,7 +2,7 @@
 use Rattle.std.proofs.Common.{◌≡◌, ◌⊎◌, ℕ, ◌+◌, ◌-◌, ◌<◌, ◌≤◌, Bool, true, false, not, filter, length, Option, Some, None, refl, ap, sym, ◌∙◌, subst, arith}
 use Rattle.std.proofs.Common.{inl, inr, IsTrue, IsFalse, if◌then◌else◌}
 use Rattle.std.specs.List.{list_all}
-use Rattle.ulfm_laws.specs.declared.ctx_mask.CtxMask.{CtxMask}
+use Rattle.ulfm_laws.specs.declared.summary.CtxMask.{CtxMask}
 use Rattle.ulfm_model.specs.declared.{call.Call.TheVariants.{Poll}, call.Request.{Request}, call.Request.TheVariants.{Agree, Shrink, Barrier}}
 use Rattle.ulfm_model.specs.declared.limits.Limits.{Limits}
 use Rattle.ulfm_model.specs.declared.{refusal.Refusal.TheVariants.{IsRevoked, NoContext, ProcFailed}, reply.Reply.{Reply}}

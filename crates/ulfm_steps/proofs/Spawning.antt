@@ -2,7 +2,7 @@
 use Rattle.std.proofs.Common.{◌≡◌, ℕ, suc, ◌+◌, ◌<◌, ◌==◌, ◌&&◌, Bool, true, false, ◌||◌, List, [], ◌∷◌, length, map, Some, slice_get, refl, ap, ◌∙◌, arith, IsTrue}
 use Rattle.std.specs.List.{list_any}
 use Rattle.std.proofs.lemmas.Bool.{and_parts, eqb-true}
-use Rattle.ulfm_laws.specs.{declared.summary.Body.TheVariants.{Ctx}, declared.ctx_mask.CtxMask.{CtxMask}}
+use Rattle.ulfm_laws.specs.{declared.summary.Body.TheVariants.{Ctx}, declared.summary.CtxMask.{CtxMask}}
 use Rattle.ulfm_model.specs.declared.limits.Limits.{Limits}
 use Rattle.ulfm_model.specs.{History.{Decision, Exists, History, decision, is_decided, is_made, spawns}}
 use Rattle.ulfm_model.proofs.{Decisions.{decision_stays}, Histories.{members_stay}}

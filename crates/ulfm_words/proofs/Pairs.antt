@@ -2,7 +2,7 @@
 use Rattle.std.proofs.Common.{◌≡◌, ◌↔◌, ℕ, ◌+◌, ◌*◌, ◌/◌, ◌%◌, ◌^◌, ◌<◌, ◌==◌, ◌&&◌, Bool, true, false, cond, Option, Some, None, IsSome, IfSome, is_some, refl, ap, ap₂, sym, ◌∙◌, subst, arith, mod-eq_of_lt}
 use Rattle.std.proofs.lemmas.Bool.{and_parts, and_from, eqb-true, eq-eqb}
 use Rattle.std.proofs.lemmas.Bool.Decides.{nat_tests}
-use Rattle.ulfm_laws.specs.{declared.ctx_mask.CtxMask.{CtxMask}, Counts.{acked_le}, Masks.{same_mask}, Ranges.{payload_bits}}
+use Rattle.ulfm_laws.specs.{declared.summary.CtxMask.{CtxMask}, Counts.{acked_le}, Masks.{same_mask}, Ranges.{payload_bits}}
 use Rattle.ulfm_laws.specs.declared.summary.Summary.{Summary}
 use Rattle.ulfm_model.specs.declared.{contribution.Contribution.{Contribution}, contribution.Offer.{Offer}, contribution.Offer.TheVariants.{Flag, Ctx}, contribution.Slot.{Slot}, contribution.Slot.TheVariants.{Given, Mark as Marked}}
 use Rattle.ulfm_model.specs.{Blocks.{block_number, block_wing, block_word}, Words.{first_word, half_bits, offer_number, packed, slot_half, slot_number, slot_wing, slot_word, upper_half, wing_word, word_bits}}

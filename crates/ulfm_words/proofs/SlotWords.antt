@@ -2,7 +2,7 @@
 use Rattle.std.proofs.Common.{◌≡◌, ◌↔◌, ◌⊎◌, inl, inr, ℕ, ◌%◌, ◌≤◌, ◌<◌, ◌^◌, ◌==◌, Bool, true, false, cond, Option, Some, None, IsSome, IfSome, is_some, refl, ap, sym, ◌∙◌, subst, arith, lit<, mod-lt, mod-eq_of_lt}
 use Rattle.std.proofs.lemmas.Bool.Decides.{nat_tests}
 use Rattle.std.specs.Coded.{le_prop}
-use Rattle.ulfm_laws.specs.{declared.summary.Known.{Known}, declared.summary.Acked.{Acked}, declared.ctx_mask.CtxMask.{CtxMask}, Counts.{same_known, same_acked, acked_le}, Flags.{flag_unpack}, Masks.{same_mask}}
+use Rattle.ulfm_laws.specs.{declared.summary.Known.{Known}, declared.summary.Acked.{Acked}, declared.summary.CtxMask.{CtxMask}, Counts.{same_known, same_acked, acked_le}, Flags.{flag_unpack}, Masks.{same_mask}}
 use Rattle.ulfm_model.specs.declared.{contribution.Contribution.{Contribution}, contribution.MarkCount.{MarkCount}, contribution.Offer.{Offer}, contribution.Offer.TheVariants.{Flag, Ctx}, contribution.Slot.{Slot}, contribution.Slot.TheVariants.{Given, Mark as Marked}}
 use Rattle.ulfm_laws.specs.Ranges.{payload_bits}
 use Rattle.ulfm_model.specs.Words.{packed, slot_number}

@@ -4,7 +4,7 @@ use Rattle.std.specs.Prelude.{◌≡◌, ◌⊎◌, ◌≤◌, ◌<◌, ◌+◌,
 use Rattle.std.specs.Prelude.{IsSome, refl}
 use Rattle.std.proofs.Common.{mod-lt, lit<, arith}
 use Rattle.std.proofs.lemmas.Bool.Decides.{nat_tests}
-use Rattle.ulfm_laws.specs.{Ranges.{is_acked_count, payload_bits}, declared.ctx_mask.CtxMask.{CtxMask}}
+use Rattle.ulfm_laws.specs.{Ranges.{is_acked_count, payload_bits}, declared.summary.CtxMask.{CtxMask}}
 use Rattle.ulfm_model.specs.declared.{contribution.Offer.{Offer}, contribution.Offer.TheVariants.{Flag, Ctx}, contribution.Slot.{Slot}}
 use Rattle.ulfm_model.specs.declared.{contribution.Slot.TheVariants.{Given, Mark as Marked}}
 use Rattle.ulfm_model.specs.Words.{half_bits, slot_wing, slot_word, wing_word, word_bits}

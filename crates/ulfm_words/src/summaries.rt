@@ -11,9 +11,8 @@ ghost use Rattle.ulfm_words.specs.Blocks.{FitsBody, IsBodyOf, IsPairOf};
 ghost use Rattle.ulfm_words.specs.Slots.{slot_of, HasPair, IsSlotPair, IsFlag, IsExact, given_if, are_counts, mark_if, is_mark_word};
 ghost use Rattle.ulfm_words.specs.Slots.{half_in, is_wing_word as is_a_wing, number_in, payload_in as payload_of_number};
 
-use ulfm_laws::ctx_mask::CtxMask;
 use ulfm_laws::meld::{Meld, Packed};
-use ulfm_laws::summary::{Acked, Body, Known, Summary};
+use ulfm_laws::summary::{Acked, Body, CtxMask, Known, Summary};
 use ulfm_model::contribution::{Contribution, MarkCount, Offer, Slot};
 
 /// The word of a block whose members say this together, and of a slot that says it: bit 0 is 1; bits 1 and 2 tell nothing, a flag,

@@ -3,9 +3,8 @@ ghost use Rattle.std.specs.Prelude.{◌≤◌};
 
 use crate::tests::world::THREE;
 use std::test::Fail;
-use ulfm_laws::ctx_mask::CtxMask;
 use ulfm_laws::flag_and::FlagAnd;
-use ulfm_laws::summary::{Acked, Body, Known, Summary};
+use ulfm_laws::summary::{Acked, Body, CtxMask, Known, Summary};
 use ulfm_model::contribution::{Contribution, MarkCount, Offer, Slot};
 use ulfm_model::place::Place;
 use ulfm_words::{OpenWords, PlainWords, block_words, read_block, read_slot, slot_words};

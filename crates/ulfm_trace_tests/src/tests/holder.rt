@@ -1,7 +1,7 @@
 //! What a rank holds, and which events its call may add.
 use std::alloc::{AllocError, Allocator};
 use ulfm_laws::FlagAnd;
-use ulfm_laws::ctx_mask::CtxMask;
+use ulfm_laws::summary::CtxMask;
 use ulfm_model::call::{comm_of, rank_of};
 use ulfm_model::{Call, Caller, Event, Limits, Refusal, Reply, Request};
 

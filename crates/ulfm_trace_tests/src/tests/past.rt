@@ -1,8 +1,7 @@
 //! What a history says, found by walking over it.
 use std::alloc::{AllocError, Allocator};
 use ulfm_laws::FlagAnd;
-use ulfm_laws::ctx_mask::CtxMask;
-use ulfm_laws::summary::Body;
+use ulfm_laws::summary::{Body, CtxMask};
 use ulfm_model::{Entry, Event, Offer, Slot};
 
 /// The ranks that were declared, in order.

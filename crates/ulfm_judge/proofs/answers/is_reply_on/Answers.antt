@@ -1,6 +1,6 @@
 use Rattle.std.proofs.Common.{◌≡◌, List, Option, subst, ap, ◌∙◌}
 use Rattle.std.specs.Prelude.{IfOk}
-use Rattle.ulfm_laws.specs.declared.ctx_mask.CtxMask.{CtxMask}
+use Rattle.ulfm_laws.specs.declared.summary.CtxMask.{CtxMask}
 use Rattle.ulfm_model.specs.declared.{call.Request.{Request}, contribution.Offer.{Offer}}
 use Rattle.ulfm_model.specs.Records.{Held, free_ids}
 use Rattle.ulfm_judge.specs.ReplyTests.{offer_test, polled_test}

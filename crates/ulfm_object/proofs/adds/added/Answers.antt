@@ -1,6 +1,6 @@
 use Rattle.std.proofs.Common.{List, ap, subst, ◌≡◌, ◌∙◌}
 use Rattle.std.specs.Prelude.{IfOk}
-use Rattle.ulfm_laws.specs.declared.ctx_mask.CtxMask.{CtxMask}
+use Rattle.ulfm_laws.specs.declared.summary.CtxMask.{CtxMask}
 use Rattle.ulfm_model.specs.declared.contribution.Offer.TheVariants.{Ctx}
 use Rattle.ulfm_model.specs.{Computed.{settle_of}, Records.{Held, free_ids}}
 use Rattle.ulfm_object.proofs.adds.added.Goals as goal
