@@ -4,7 +4,7 @@ use Rattle.std.specs.{List.{cons_option}, Option.{option_map}}
 use Rattle.std.proofs.lemmas.Option.{slice_get-get_or, slice_get-map}
 use Rattle.ulfm_model.specs.declared.{limits.Limits.{Limits}, event.Event.{Event}, event.Event.TheVariants.{Fail, Settle, Mark, Arrive, Revoke, Spawn}}
 use Rattle.ulfm_model.specs.History.{Exists, History, IsLegal, MayFollow, spawns}
-use Rattle.ulfm_model.proofs.{Histories.{by_events, spawns_push}, Says.{made_by}, Spawned.{at_push}}
+use Rattle.ulfm_model.proofs.{Histories.{by_events, spawns_push}, OneEvent.{made_by}, Spawned.{at_push}}
 use Rattle.ulfm_steps.specs.Appends.{Passed, items}
 use Rattle.ulfm_steps.specs.declared.item.Item.{Item}
 use Rattle.ulfm_steps.specs.declared.item.Item.TheVariants.{Comm as OfComm}

@@ -14,7 +14,7 @@ use Rattle.ulfm_model.specs.declared.reply.Reply.TheVariants as reply
 use Rattle.ulfm_model.specs.Answers.{AnswersFail, AgreeReplies, DoneOrFound, IsReply, IsSelfFailed, PollReplies, Replies, RepliesBy, ShrinkReplies, SpawnReplies, StartReplies, barrier_reply, closed, comm_of, first_refusal, most_failures, rank_of, refusal_of, refusal_on, traits_of}
 use Rattle.ulfm_model.specs.History.{History, IsLegal, MayFollow, decision, failed, failures, has, has_arrived, is_revoked, known_of, members, says, round}
 use Rattle.ulfm_model.specs.{Records.{Fits, FitsHeld, Held, Record, held_at, new_held}, Words.{MayOpen}}
-use Rattle.ulfm_model.proofs.{Contexts.{context_below}, Groups.{members_few}, Histories.{by_events, legal_parts}, LeftFits.{held_fits}, Lists.{all_has, each_filter, each_from, each_push, length-filter-le}}
+use Rattle.ulfm_model.proofs.{Contexts.{context_below}, RankGroups.{members_few}, Histories.{by_events, legal_parts}, LeftFits.{held_fits}, Lists.{all_has, each_filter, each_from, each_push, length-filter-le}}
 use Rattle.ulfm_words.specs.Places.{IsCell}
 use Rattle.ulfm_words.proofs.Ranks.{failures_le, members_below, place_within, spawns_below}
 use Rattle.ulfm_script.specs.Calls.{ScriptCall}

@@ -8,7 +8,7 @@ use Rattle.std.proofs.lemmas.List.Folds.{list_any-append}
 use Rattle.ulfm_model.specs.declared.event.Entry.{Entry}
 use Rattle.ulfm_model.specs.History.{History, first_ranks, has, members, members_after, members_by, spawns, without}
 use Rattle.ulfm_model.specs.Terms.{group_among}
-use Rattle.ulfm_model.proofs.{Lists.{length-filter-le}, Says.{made_by}}
+use Rattle.ulfm_model.proofs.{Lists.{length-filter-le}, OneEvent.{made_by}}
 
 -- there are as many first ranks as are asked for
 pub first_length : (n : ℕ) → length (first_ranks n) ≡ n

@@ -10,7 +10,7 @@ use mathlib.Core.List.{IsPrefix}
 use Rattle.ulfm_laws.specs.{declared.summary.Summary.{Summary}}
 use Rattle.ulfm_model.specs.declared.{block.Wing.{Wing}, block.Side.{Side}, block.Side.TheVariants.{Front, Back}, place.Place.TheVariants.{Slot as SlotAt}, limits.Limits.{Limits}}
 use Rattle.ulfm_model.specs.{Blocks.{IsBlockWithin, IsSide, IsSummed, IsWritten, block_of, width}, History.{History, IsLegal}, Words.{MayOpen}}
-use Rattle.ulfm_model.proofs.{Blocks.{width_is, width_power, width_wide}, Groups.{members_few}, Lists.{none_of}, Summed.{summed_later, summed_none}}
+use Rattle.ulfm_model.proofs.{Blocks.{width_is, width_power, width_wide}, RankGroups.{members_few}, Lists.{none_of}, Summed.{summed_later, summed_none}}
 use Rattle.ulfm_words.specs.{Blocks.{Caches, BlockSays}, Steps.{Over, Sight, View}, declared.step.Site.{Site}}
 use Rattle.ulfm_words.proofs.Ranks.{spawns_below}
 use Rattle.ulfm_words.specs.Steps.{view_at}

@@ -11,7 +11,7 @@ use mathlib.Core.List.{IsPrefix}
 use Rattle.ulfm_model.specs.declared.{contribution.MarkCount.{MarkCount}, contribution.Slot.{Slot}, contribution.Slot.TheVariants.{Mark as Marked}, event.Caller.TheVariants.{Rank as ByRank}, event.Entry.{Entry}, event.Event.{Event}, event.Event.TheVariants.{Fail, Settle, Mark, Arrive, Revoke, Spawn}, limits.Limits.{Limits}, place.Place.TheVariants.{Slot as SlotAt}}
 use Rattle.ulfm_model.specs.{History.{History, IsLegal, entries_by, failed, failures, has, says, slot}, Runs.{Did}, Words.{MayOpen}}
 use Rattle.ulfm_model.specs.Terms.{settled_by}
-use Rattle.ulfm_model.proofs.{Histories.{failures_begin, legal_parts, slot_kept, slot_stays}, Lists.{distinct_filter, each_always, each_append, each_from, filter_same, get_prefix, is_some_of, length_prefix, not_in_filter, prefix_trans}, Says.{put_by}, Spawned.{failures_distinct}}
+use Rattle.ulfm_model.proofs.{Histories.{failures_begin, legal_parts, slot_kept, slot_stays}, Lists.{distinct_filter, each_always, each_append, each_from, filter_same, get_prefix, is_some_of, length_prefix, not_in_filter, prefix_trans}, OneEvent.{put_by}, Spawned.{failures_distinct}}
 use Rattle.ulfm_words.specs.{Steps.{IsAdded, IsView, Over, Sight}, Tries.{MayPut, Tries, entry}}
 use Rattle.ulfm_words.proofs.{Growing.{prefix_self}, Ranks.{failures_le}, Trails.{did_added, did_more, did_none, did_prefix, did_quiet, did_wait}}
 use Rattle.ulfm_words.specs.Steps.{view_at}

@@ -13,7 +13,7 @@ use Rattle.ulfm_model.specs.declared.{limits.Limits.{Limits}, event.Event.{Event
 use Rattle.ulfm_model.specs.{History.{History, IsLegal, IsPlace, MayFollow, failures, first_ranks, has, members, members_after, members_by, says, spawns, without}, Words.{MayOpen}}
 use Rattle.ulfm_model.specs.Terms.{group_among}
 use Rattle.ulfm_words.specs.Places.{IsCell}
-use Rattle.ulfm_model.proofs.{Histories.{by_events, spawns_push}, Lists.{has_filter}, Says.{declared_by, made_by}, Spawned.{failures_distinct}}
+use Rattle.ulfm_model.proofs.{Histories.{by_events, spawns_push}, Lists.{has_filter}, OneEvent.{declared_by, made_by}, Spawned.{failures_distinct}}
 
 module _ {P : Type 0} (meld : P → P → P) (limits : Limits) where
   -- each declared rank is one of the world's
