@@ -23,7 +23,9 @@ same_least x y =
 
 pub least_lawful : IsLawful least_unit least_meld
 least_lawful =
-    lawful_by_number least_unit least_meld (λ x. x.value) same_least (λ x y z. min_assoc x.value y.value z.value) (λ x y. min_comm x.value y.value) (λ x. min-eq_left (le_refl x.value)) (λ x. min-eq_right (le-pred_of_lt x.fits))
+    lawful_by_number least_unit least_meld (λ x. x.value) same_least
+    (λ x y z. min_assoc x.value y.value z.value) (λ x y. min_comm x.value y.value) (λ x. min-eq_left (le_refl x.value))
+    (λ x. min-eq_right (le-pred_of_lt x.fits))
 
 -- The value of a word. A word is below 2 ^ payload_bits, so the remainder is the word itself.
 abbrev pub least_unpack : ℕ → Option Least

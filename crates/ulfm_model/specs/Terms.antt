@@ -1,5 +1,5 @@
 -- Short names for terms of the definitions, for clauses and for the statements of lemmas.
-use Rattle.std.specs.Prelude.{ℕ, zero, suc, ◌==◌, Bool, if◌then◌else◌, List, Option, Some, None, find, map, slice_get}
+use Rattle.std.specs.Prelude.{ℕ, zero, suc, ◌==◌, Bool, if◌then◌else◌, List, Option, None, find, map, slice_get}
 use Rattle.std.specs.Option.{option_and_then, option_map_or}
 use Rattle.ulfm_model.specs.declared.{call.Call.{Call}, call.Request.{Request}, refusal.Refusal.{Refusal}}
 pub use Rattle.ulfm_model.specs.{Answers.{comm_of}, History.{group_among, lacks_one, put_at}, Records.{IsOwn, new_held}, Runs.{settled_by, rests_on}}
