@@ -23,7 +23,7 @@ same_greatest x y =
 
 pub greatest_lawful : IsLawful greatest_unit greatest_meld
 greatest_lawful =
-    lawful_by_number greatest_unit greatest_meld (λ x. x.value) same_greatest
+    lawful_by_number (λ x. x.value) same_greatest
     (λ x y z. max_assoc x.value y.value z.value) (λ x y. max_comm x.value y.value) (λ x. max-eq_left (le_refl x.value)) (λ x. max-eq_right zero-le)
 
 -- The value of a word. A word is below 2 ^ payload_bits, so the remainder is the word itself.

@@ -23,7 +23,7 @@ same_least x y =
 
 pub least_lawful : IsLawful least_unit least_meld
 least_lawful =
-    lawful_by_number least_unit least_meld (λ x. x.value) same_least
+    lawful_by_number (λ x. x.value) same_least
     (λ x y z. min_assoc x.value y.value z.value) (λ x y. min_comm x.value y.value) (λ x. min-eq_left (le_refl x.value))
     (λ x. min-eq_right (le-pred_of_lt x.fits))
 

@@ -36,7 +36,7 @@ or_assoc a b c = same_from_bits (bit_or (bit_or a b) c) (bit_or a (bit_or b c)) 
 
 pub or_lawful : IsLawful or_unit or_meld
 or_lawful =
-    lawful_by_number or_unit or_meld (λ x. x.bits) same_or
+    lawful_by_number (λ x. x.bits) same_or
     (λ x y z. or_assoc x.bits y.bits z.bits) (λ x y. or_comm x.bits y.bits) (λ x. or_self x.bits) (λ x. refl)
 
 -- The value of a word. A word is below 2 ^ payload_bits, so the remainder is the word itself.

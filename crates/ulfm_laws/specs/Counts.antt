@@ -38,7 +38,7 @@ max_assoc a b c =
 
 pub known_lawful : IsLawful known_unit known_meld
 known_lawful =
-    lawful_by_number known_unit known_meld (λ x. x.count) same_known
+    lawful_by_number (λ x. x.count) same_known
     (λ x y z. max_assoc x.count y.count z.count) (λ x y. max_comm x.count y.count) (λ x. max-eq_left (le_refl x.count)) (λ x. max-eq_right zero-le)
 
 -- ---- acknowledged failures
@@ -98,6 +98,6 @@ min_assoc a b c =
 
 pub acked_lawful : IsLawful acked_unit acked_meld
 acked_lawful =
-    lawful_by_number acked_unit acked_meld (λ x. x.count) same_acked
+    lawful_by_number (λ x. x.count) same_acked
     (λ x y z. min_assoc x.count y.count z.count) (λ x y. min_comm x.count y.count) (λ x. min-eq_left (le_refl x.count))
     (λ x. min-eq_right (acked_le x.count x.in_range))

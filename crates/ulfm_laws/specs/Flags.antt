@@ -23,7 +23,7 @@ same_flag x y =
 
 pub flag_lawful : IsLawful flag_unit flag_meld
 flag_lawful =
-    lawful_by_number flag_unit flag_meld (λ x. x.bits) same_flag
+    lawful_by_number (λ x. x.bits) same_flag
     (λ x y z. and_assoc z.bits x.bits y.bits) (λ x y. and_comm x.bits y.bits) (λ x. and_self x.bits) (λ x. ones-and x.bits x.fits)
 
 -- The flag of a word. A word is below 2 ^ payload_bits, so the remainder is the word itself.

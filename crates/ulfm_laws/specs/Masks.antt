@@ -23,5 +23,5 @@ same_mask x y =
 
 pub mask_lawful : IsLawful mask_unit mask_meld
 mask_lawful =
-    lawful_by_number mask_unit mask_meld (λ x. x.bits) same_mask
+    lawful_by_number (λ x. x.bits) same_mask
     (λ x y z. and_assoc z.bits x.bits y.bits) (λ x y. and_comm x.bits y.bits) (λ x. and_self x.bits) (λ x. ones-and x.bits x.fits)
