@@ -4,7 +4,7 @@ use Rattle.std.specs.Prelude.{MatchOption}
 use Rattle.std.proofs.lemmas.List.{map-append}
 use mathlib.Core.List.{IsPrefix}
 use Rattle.ulfm_model.specs.declared.{event.Caller.{Caller}, limits.Limits.{Limits}}
-use Rattle.ulfm_model.specs.{History.{History, MayFollow, failures, spawns}, Runs.{Did}}
+use Rattle.ulfm_model.specs.History.{History, MayFollow, failures, spawns}
 use Rattle.ulfm_model.specs.Terms.{made_at}
 use Rattle.ulfm_model.proofs.{Histories.{failures_begin}, Lists.{get_prefix, in_list, prefix_trans}, Stable.{spawns_begin}}
 use Rattle.ulfm_words.specs.{Steps.{Goes, Over, Sight}, Tries.{MayMake, entry}}
@@ -12,6 +12,7 @@ use Rattle.ulfm_words.proofs.Trails.{added_after, did_wait}
 use Rattle.ulfm_words.specs.Steps.{view_at}
 use Rattle.ulfm_steps.specs.declared.{append.Append.{Append}, append.Appended.{Appended}, append.Appended.TheVariants.{Won, Found, Full}, item.Item.{Item}, item.Item.TheVariants.{Failure, Comm}}
 use Rattle.ulfm_steps.specs.{Appends.{AppendIs, Appends, MayStand, MayAppend, Passed, event_at, items, room, turns_left}}
+use Rattle.ulfm_steps.proofs.Going.{Went, went_most, went_on}
 use Rattle.ulfm_steps.specs.Appends.{wanted}
 
 get_map : {X Y : Type 0} (f : X → Y) (xs : List X) (i : ℕ) (x : X) → slice_get xs i ≡ Some x → slice_get (map f xs) i ≡ Some (f x)
@@ -98,21 +99,20 @@ module _ {P : Type 0} (meld : P → P → P) (limits : Limits) where
   append_stays seen longer item begins may more further legal = may more (prefix_trans seen longer more begins further) legal
 
 -- steps before it that made no event
-pub appends_later : {P : Type 0} (meld : P → P → P) (alone : Bool) (name : Over P) (item : Item) (by : Caller) (few most : ℕ) (result : Appended) (x y z : Sight P) → Did alone [] x.seen y.seen → IsPrefix x.cached y.cached → y.caches ≡ x.caches → x.steps ≤ y.steps → y.steps + few ≤ x.steps + most
+pub appends_later : {P : Type 0} (meld : P → P → P) (alone : Bool) (name : Over P) (item : Item) (by : Caller) (few most : ℕ) (result : Appended) (x y z : Sight P) → Went meld alone false (view_at name x) (view_at name y) → y.steps + few ≤ x.steps + most
     → Appends meld alone (wanted item by) few (view_at name y) result (view_at name z) → Appends meld alone (wanted item by) most (view_at name x) result (view_at name z)
-appends_later {P} meld alone name item by few most result x y z did kept same onward fewer ends = record { of = ends.of; outcome = later result ends.outcome; cached = prefix_trans x.cached y.cached z.cached kept ends.cached; caches = ends.caches ∙ same; onward = omega (arith, onward, ends.onward); steps = omega (arith, fewer, ends.steps) }
+appends_later {P} meld alone name item by few most result x y z went fewer ends = record { of = ends.of; outcome = later result ends.outcome; cached = prefix_trans x.cached y.cached z.cached went.cached ends.cached; caches = ends.caches ∙ went.caches; onward = omega (arith, went.onward, ends.onward); steps = omega (arith, fewer, ends.steps) }
   where
     later : (r : Appended) → AppendIs alone name.limits item by y.seen z.seen r → AppendIs alone name.limits item by x.seen z.seen r
-    later (Won i) is = (added_after alone (entry by (event_at item i)) x.seen y.seen z.seen did is.0, is.1)
-    later (Found i) is = (did_wait alone [] x.seen y.seen z.seen did is.0, is.1)
-    later Full is = (did_wait alone [] x.seen y.seen z.seen did is.0, is.1)
+    later (Won i) is = (added_after alone (entry by (event_at item i)) x.seen y.seen z.seen went.did is.0, is.1)
+    later (Found i) is = (did_wait alone [] x.seen y.seen z.seen went.did is.0, is.1)
+    later Full is = (did_wait alone [] x.seen y.seen z.seen went.did is.0, is.1)
 
 -- .. and one more step, whether it was the last or not
-pub appends_next : {P : Type 0} (meld : P → P → P) (alone : Bool) (name : Over P) (item : Item) (by : Caller) (most : ℕ) (result : Option Appended) (x y z : Sight P) → Did alone [] x.seen y.seen → IsPrefix x.cached y.cached → y.caches ≡ x.caches → x.steps ≤ y.steps → y.steps + 1 ≤ x.steps + most
+pub appends_next : {P : Type 0} (meld : P → P → P) (alone : Bool) (name : Over P) (item : Item) (by : Caller) (most : ℕ) (result : Option Appended) (x y z : Sight P) → Went meld alone false (view_at name x) (view_at name y) → y.steps + 1 ≤ x.steps + most
     → MatchOption result (Goes meld alone false 1 (view_at name y) (view_at name z)) (λ a. Appends meld alone (wanted item by) 1 (view_at name y) a (view_at name z)) → MatchOption result (Goes meld alone false most (view_at name x) (view_at name z)) (λ a. Appends meld alone (wanted item by) most (view_at name x) a (view_at name z))
-appends_next meld alone name item by most None x y z did kept same onward fewer went =
-    record { of = went.of; did = did_wait alone [] x.seen y.seen z.seen did went.did; cached = prefix_trans x.cached y.cached z.cached kept went.cached; caches = went.caches ∙ same; onward = omega (arith, onward, went.onward); steps = omega (arith, fewer, went.steps) }
-appends_next meld alone name item by most (Some a) x y z did kept same onward fewer ends = appends_later meld alone name item by 1 most a x y z did kept same onward fewer ends
+appends_next meld alone name item by most None x y z went fewer goes = went_most meld alone false name most x z (went_on meld alone false name 1 x y z went goes) (omega (arith, fewer, goes.steps))
+appends_next meld alone name item by most (Some a) x y z went fewer ends = appends_later meld alone name item by 1 most a x y z went fewer ends
 
 -- at a place of the list there is a step to take
 pub turns_some : (places : ℕ) (a : Append) → a.index < places → 1 ≤ turns_left places a

@@ -1,4 +1,5 @@
 mod Turning
+mod Going
 pub mod Looking
 pub mod Settling
 pub mod Groups

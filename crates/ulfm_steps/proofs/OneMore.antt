@@ -1,11 +1,13 @@
 -- One more member of a block is read.
-use Rattle.std.proofs.Common.{◌≡◌, ℕ, ◌+◌, ◌<◌, List, [], ◌∷◌, ◌++◌, take, slice_index_or, length, Some, ap, sym, ◌∙◌, subst, arith}
+use Rattle.std.proofs.Common.{◌≡◌, ℕ, ◌+◌, ◌<◌, Bool, true, false, List, [], ◌∷◌, ◌++◌, take, slice_index_or, length, Option, None, Some, refl, ap, sym, ◌∙◌, subst, arith}
 use mathlib.Core.List.{IsPrefix}
 use Rattle.ulfm_laws.specs.{declared.summary.Summary.{Summary}, Lawful.{IsLawful}, Summaries.{summary_meld}}
 use Rattle.ulfm_model.specs.{Blocks.{IsSummed, block_of, width}, History.{History, slot}, Laws.{summary_of}, declared.contribution.Slot.{Slot}}
 use Rattle.ulfm_model.proofs.Summed.{summed_later, summed_push}
-use Rattle.ulfm_steps.specs.{Blocks.{AtBlock}, declared.blocks.ReadBlocks.{ReadBlocks}}
-use Rattle.ulfm_steps.proofs.{InBlocks.{block_index, block_length, rank_is}, Reading.{take_one_more}}
+use Rattle.ulfm_words.specs.Steps.{Goes, Over, Sight, view_at}
+use Rattle.ulfm_words.proofs.Trails.{did_prefix}
+use Rattle.ulfm_steps.specs.{Blocks.{AtBlock, BlocksTake, MayReadBlocks, ReadsBlocks, block_at, reads_most}, Turns.{running}, declared.blocks.ReadBlocks.{ReadBlocks}}
+use Rattle.ulfm_steps.proofs.{InBlocks.{are_later, block_index, block_length, rank_is}, KnownBlocks.{no_first, set_later, spread_later}, Reading.{take_one_more}}
 
 -- what the members say together that were read before, and the next one
 pub one_more : {P : Type 0} {unit : P} (meld : P → P → P) → IsLawful unit meld → (old new : History P) (group : List ℕ) (r : ReadBlocks P) → IsPrefix old new → (at : AtBlock meld old group r) → r.read < width (length group) → (s : Slot P)
@@ -21,3 +23,35 @@ one_more {P} meld laws old new group r begins at lt s stands said tells all is =
     let push : take (r.read + 1) block ≡ done ++ rank ∷ [] = take_one_more block r.read 0 (omega (arith, lt, block_length r.side group)) ∙ ap (λ x. done ++ x ∷ []) same in
     let whole : all ≡ summary_meld meld r.all (summary_of s) = is ∙ ap (summary_meld meld r.all) tells in
     rw (whole, push) more
+
+-- .. and the reading goes on behind it
+pub reads_one : {P : Type 0} {unit : P} (meld : P → P → P) → IsLawful unit meld → (alone : Bool) (name : Over P) (old new : Sight P) (group : List ℕ) (r : ReadBlocks P) (first : Option ℕ) → first ≡ None
+    → MayReadBlocks meld group (running r (view_at name old)) → r.read < width (length group) → (s : Slot P) → slot new.seen r.comm r.round (slice_index_or group (r.begin + r.read) 0) ≡ Some s → (said : Summary P) → said ≡ summary_of s
+    → (all : Summary P) → all ≡ summary_meld meld r.all said → Goes meld alone true (reads_most (length group)) (view_at name old) (view_at name new) → BlocksTake false group r None (record r { read = r.read + 1; all = all; first = first }) old new
+    → ReadsBlocks meld alone false group (running r (view_at name old)) None (running (record r { read = r.read + 1; all = all; first = first }) (view_at name new))
+reads_one meld laws alone name old new group r first none may more s stands said tells all is goes takes =
+    let at = may.at in
+    let begins = did_prefix alone [] old.seen new.seen goes.did in
+    record {
+      goes = goes;
+      takes = takes;
+      comm = refl;
+      round = refl;
+      tells = record {
+        are = are_later meld old.seen new.seen r.comm r.round group r.blocks begins at.are;
+        unknown = at.unknown;
+        side = at.side;
+        front = at.front;
+        wide = at.wide;
+        begins = at.begins;
+        within = omega (arith, more);
+        read = one_more meld laws old.seen new.seen group r begins at more s stands said tells all is;
+      };
+      half = λ _. record {
+        first = rw none tt;
+        more = λ some. absurd (no_first first none some);
+        winged = λ set. spread_later (view_at name old) (view_at name new) (block_at r.comm r.round r.side) goes.cached (may.half.winged set);
+      };
+      sets = λ are. set_later old.cached new.cached r.comm r.round r.blocks goes.cached are;
+      ends = λ whole. absurd (cc whole);
+    }

@@ -1,12 +1,14 @@
 -- What each step on a word that no event sets tells of a plain pass.
-use Rattle.std.proofs.Common.{◌≡◌, ◌≢◌, ◌⊎◌, inl, inr, ℕ, zero, suc, ◌<◌, Bool, true, false, List, [], ◌∷◌, ◌++◌, length, Option, Some, Ok, Err, refl, ap, sym, ◌∙◌, subst, arith, append-nil, length-append}
+use Rattle.std.proofs.Common.{◌≡◌, ◌≢◌, ◌⊎◌, inl, inr, ℕ, zero, suc, ◌<◌, Bool, true, false, List, [], ◌∷◌, ◌++◌, length, Option, Some, Ok, Err, IsTrue, refl, ap, sym, ◌∙◌, subst, arith, append-nil, length-append}
+use Rattle.std.specs.List.{Contains}
+use Rattle.std.specs.Prelude.{MatchResult, Result, ⊤}
 use mathlib.Core.List.{IsPrefix}
 use Rattle.ulfm_model.specs.declared.{block.Beside.{Beside}, block.Block.{Block}, block.Wing.{Wing}, contribution.Contribution.{Contribution}, contribution.Slot.TheVariants.{Given}, limits.Limits.{Limits}}
 use Rattle.ulfm_model.specs.{Blocks.{IsBlock, IsBlockWithin, IsCached, IsWing, has_block, has_wing}, History.{History, IsPlace, slot}, Words.{slot_wing}}
 use Rattle.ulfm_model.proofs.Blocks.{now_has_wing, one_block, one_wing, wing_some}
-use Rattle.ulfm_words.specs.declared.{plain.Setting.{Setting}, step.Last.{Last}}
-use Rattle.ulfm_words.specs.{Besides.{AreBeside, written}, Blocks.{Caches, IsSpread, IsSpreadBlock, LoadsBlock, LoadsWing, MaySetWing, SetsWing, WasWing, standing}, Pass.{AreStood, AreTried, IsTied, cached_by, caches_in, entries, last_of, sight_of}, Places.{IsCell, IsWingWithin}, Rows.{SideWords, block_in, wing_in}, Slots.{is_wing_word}, Steps.{Sight, view_of}}
-use Rattle.ulfm_words.proofs.{Besides.{beside_block, beside_found, beside_stood, beside_wing}, Growing.{prefix_self}, Pairs.{wing_small}, Standing.{at_block, at_wing, cached_found, cached_nothing, cached_set, cached_wing_load, cached_wing_set, caches_loaded, caches_set, caches_wing_load, caches_wing_set, now_has}, Telling.{last_of-push}, Trails.{did_none}}
+use Rattle.ulfm_words.specs.declared.{plain.Setting.{Setting}, step.Last.{Last}, step.Site.{Site}}
+use Rattle.ulfm_words.specs.{Besides.{AreBeside, written}, Blocks.{Caches, IsSpread, IsSpreadBlock, LoadsBlock, LoadsWing, MaySetWing, SetsWing, WasWing, standing}, Pass.{AreStood, AreTried, IsTied, cached_by, caches_in, entries, last_of, sight_of}, Places.{IsCell, IsWingWithin}, Rows.{SideWords, block_in, wing_in}, Slots.{is_wing_word}, Steps.{Sight, found as found_by, view_of}}
+use Rattle.ulfm_words.proofs.{Besides.{beside_block, beside_found, beside_stood, beside_wing}, Growing.{prefix_self}, Pairs.{wing_small}, Standing.{at_block, at_wing, cached_found, cached_nothing, cached_set, cached_wing_load, cached_wing_set, caches_loaded, caches_set, caches_wing_load, caches_wing_set, now_has}, Telling.{last_of-push}, Trails.{did_none}, Tried.{tried_same}}
 
 pub nothing_more : (xs : List Beside) → IsPrefix xs xs
 nothing_more xs = ([], append-nil xs)
@@ -23,6 +25,11 @@ module _ {P : Type 0} (meld : P → P → P) (pack : P → ℕ) where
   -- what is known changes nothing of what stands
   pub knows_as : (seen : History P) (sides : SideWords) (ts ts' : List (Last × Bool)) → cached_by ts' ≡ cached_by ts → AreStood meld pack seen sides ts → AreStood meld pack seen sides ts'
   knows_as seen sides ts ts' same are = subst (λ c. AreBeside meld pack (written seen sides.limits c) (block_in sides) (wing_in sides)) (sym same) are
+
+  -- what holds of a pass holds after a step that sets nothing, where what stands beside the words still does
+  pub still_holds : {Tied Same : Type 0} (seen : History P) (sides : SideWords) (ts ts' : List (Last × Bool)) (step : Last × Bool) → ts' ≡ ts ++ step ∷ [] → Tied × Same × AreStood meld pack seen sides ts × AreTried sides ts → AreStood meld pack seen sides ts'
+      → Tied × Same × AreStood meld pack seen sides ts' × AreTried sides ts'
+  still_holds seen sides ts ts' step is holds stood = (holds.0, holds.1, stood, tried_same sides ts ts' step is holds.3)
 
 module _ {P : Type 0} (meld : P → P → P) (pack : P → ℕ) (unpack : ℕ → Option P) (limits : Limits) (old : Sight P) (ws : List ℕ) (sides : SideWords) (ms : List Setting) (cap : ℕ) (ts ts' : List (Last × Bool))
     (shown : sight_of unpack limits ws ms ts ≡ old) (tied : IsTied meld pack unpack limits ws ms cap) (same : sides.limits ≡ limits) (stood : AreStood meld pack (entries unpack limits ws ms) sides ts) where
@@ -90,18 +97,22 @@ module _ {P : Type 0} (meld : P → P → P) (pack : P → ℕ) (unpack : ℕ �
       same_word (inl none) some = absurd (some none)
       same_word (inr one) some = one_block meld pack limits.ranks seen b v w one block
 
-      pub lost_tells : v ≢ 0 → Caches meld true b w (view_of pack old.name old) (Err v) (view_of pack old.name (sight_of unpack limits ws ms ts'))
-      lost_tells some =
-          subst (λ (o : Sight P). Caches meld true b w (view_of pack o.name o) (Err v) (view_of pack o.name (sight_of unpack limits ws ms ts'))) shown (record {
+      -- what it tells, whether it was lost or not
+      exchange_tells : (r : Result (Unit {0}) ℕ) → v ≡ found_by r → MatchResult r (λ _. has_block (cached_by ts) b ≡ false) (λ n. n ≡ w) → Caches meld true b w (view_of pack old.name old) r (view_of pack old.name (sight_of unpack limits ws ms ts'))
+      exchange_tells r is_found stood_there =
+          subst (λ (o : Sight P). Caches meld true b w (view_of pack o.name o) r (view_of pack o.name (sight_of unpack limits ws ms ts'))) shown (record {
             of = record { name_is = refl; may_open = tied.may_open; legal = tied.legal };
             did = did_none true seen;
             cached = (Beside.Block b ∷ [], sym more);
             caches = ap caches_in is ∙ caches_set ts b v;
             steps = ap length is ∙ length-append ts (at_block b v false ∷ []);
-            last = ap last_of is ∙ last_of-push ts (at_block b v false);
+            last = ap last_of is ∙ (last_of-push ts (at_block b v false) ∙ ap (λ n. Some (at_block b n false).0) is_found);
             set = set;
-            stood = same_word stands some;
+            stood = stood_there;
           })
+
+      pub lost_tells : v ≢ 0 → Caches meld true b w (view_of pack old.name old) (Err v) (view_of pack old.name (sight_of unpack limits ws ms ts'))
+      lost_tells some = exchange_tells (Err v) refl (same_word stands some)
 
       pub won_stood : (winged : IsSpreadBlock (view_of pack old.name old) b) (sides' : SideWords) → sides'.limits ≡ sides.limits → block_in sides' b ≡ w → ((x : Block) → IsBlockWithin sides.limits x → x ≢ b → block_in sides' x ≡ block_in sides x)
           → ((x : Wing) → IsWingWithin sides.limits x → wing_in sides' x ≡ wing_in sides x) → AreStood meld pack seen sides' ts'
@@ -114,18 +125,7 @@ module _ {P : Type 0} (meld : P → P → P) (pack : P → ℕ) (unpack : ℕ �
           (subst (λ c. AreBeside meld pack (written seen sides.limits c) (block_in sides') (wing_in sides')) (sym more) are)
 
       pub won_tells : v ≡ 0 → Caches meld true b w (view_of pack old.name old) (Ok tt) (view_of pack old.name (sight_of unpack limits ws ms ts'))
-      won_tells none =
-          let stamped : ts' ≡ ts ++ at_block b 0 false ∷ [] = is ∙ ap (λ n. ts ++ at_block b n false ∷ []) none in
-          subst (λ (o : Sight P). Caches meld true b w (view_of pack o.name o) (Ok tt) (view_of pack o.name (sight_of unpack limits ws ms ts'))) shown (record {
-            of = record { name_is = refl; may_open = tied.may_open; legal = tied.legal };
-            did = did_none true seen;
-            cached = (Beside.Block b ∷ [], sym more);
-            caches = ap caches_in is ∙ caches_set ts b v;
-            steps = ap length is ∙ length-append ts (at_block b v false ∷ []);
-            last = ap last_of stamped ∙ last_of-push ts (at_block b 0 false);
-            set = set;
-            stood = not_has (has_block (cached_by ts) b) (λ has. stood.told b here has (sym found ∙ none));
-          })
+      won_tells none = exchange_tells (Ok tt) none (not_has (has_block (cached_by ts) b) (λ has. stood.told b here has (sym found ∙ none)))
 
   module _ (x : Wing) (v : ℕ) (within : IsWingWithin old.name.limits x) (found : v ≡ wing_in sides x) where
     there : IsWingWithin sides.limits x
@@ -168,26 +168,32 @@ module _ {P : Type 0} (meld : P → P → P) (pack : P → ℕ) (unpack : ℕ �
       some_wing (Wing.Slot c k r) it = let parts = wing_small w it.1 in omega (arith, parts.0)
       some_wing (Wing.Block b) it = wing_some meld pack limits.ranks seen (Wing.Block b) w it
 
+      -- what it tells, whether it was lost or not
+      wing_exchange_tells : (r : Result (Unit {0}) ℕ) → ts' ≡ ts ++ at_wing x (standing w r) false ∷ [] → 0 < standing w r → MatchResult r (λ _. ⊤) (WasWing x w)
+          → (IsTrue true → MatchResult r (λ _. ⊤) (λ n. Contains (caches_in ts) (Site.Wing x))) → SetsWing meld true x w (view_of pack old.name old) r (view_of pack old.name (sight_of unpack limits ws ms ts'))
+      wing_exchange_tells r is some was before =
+          let n = standing w r in
+          let more : cached_by ts' ≡ cached_by ts ++ Beside.Wing x n ∷ [] = ap cached_by is ∙ cached_wing_set ts x n in
+          subst (λ (o : Sight P). SetsWing meld true x w (view_of pack o.name o) r (view_of pack o.name (sight_of unpack limits ws ms ts'))) shown (record {
+            of = record { name_is = refl; may_open = tied.may_open; legal = tied.legal };
+            did = did_none true seen;
+            cached = (Beside.Wing x n ∷ [], sym more);
+            caches = ap caches_in is ∙ caches_wing_set ts x n;
+            steps = ap length is ∙ length-append ts (at_wing x n false ∷ []);
+            last = ap last_of is ∙ last_of-push ts (at_wing x n false);
+            set = subst (λ xs. has_wing xs x n ≡ true) (sym more) (now_has_wing (cached_by ts) x n);
+            some = some;
+            was = was;
+            before = before;
+          })
+
       pub lost_wing_stood : v ≢ 0 → ts' ≡ ts ++ at_wing x v false ∷ [] → AreStood meld pack seen sides ts'
       lost_wing_stood some is =
           let more : cached_by ts' ≡ cached_by ts ++ Beside.Wing x (wing_in sides x) ∷ [] = ap cached_by is ∙ (cached_wing_set ts x v ∙ ap (λ n. cached_by ts ++ Beside.Wing x n ∷ []) found) in
           subst (λ c. AreBeside meld pack (written seen sides.limits c) (block_in sides) (wing_in sides)) (sym more) (beside_stood meld pack sides.limits (block_in sides) (wing_in sides) seen (cached_by ts) x (λ zero. some (found ∙ zero)) stood)
 
       pub lost_wing_tells : v ≢ 0 → AreTried sides ts → ts' ≡ ts ++ at_wing x v false ∷ [] → SetsWing meld true x w (view_of pack old.name old) (Err v) (view_of pack old.name (sight_of unpack limits ws ms ts'))
-      lost_wing_tells some tried is =
-          let more : cached_by ts' ≡ cached_by ts ++ Beside.Wing x v ∷ [] = ap cached_by is ∙ cached_wing_set ts x v in
-          subst (λ (o : Sight P). SetsWing meld true x w (view_of pack o.name o) (Err v) (view_of pack o.name (sight_of unpack limits ws ms ts'))) shown (record {
-            of = record { name_is = refl; may_open = tied.may_open; legal = tied.legal };
-            did = did_none true seen;
-            cached = (Beside.Wing x v ∷ [], sym more);
-            caches = ap caches_in is ∙ caches_wing_set ts x v;
-            steps = ap length is ∙ length-append ts (at_wing x v false ∷ []);
-            last = ap last_of is ∙ last_of-push ts (at_wing x v false);
-            set = subst (λ xs. has_wing xs x v ≡ true) (sym more) (now_has_wing (cached_by ts) x v);
-            some = omega (arith, some);
-            was = was_it x there found may_in;
-            before = λ here. tried x there (λ zero. some (found ∙ zero));
-          })
+      lost_wing_tells some tried is = wing_exchange_tells (Err v) is (omega (arith, some)) (was_it x there found may_in) (λ here. tried x there (λ zero. some (found ∙ zero)))
         where
           was_it : (x : Wing) → IsWingWithin sides.limits x → v ≡ wing_in sides x → MaySetWing meld pack (view_of pack (sight_of unpack limits ws ms ts).name (sight_of unpack limits ws ms ts)) x w → WasWing x w v
           was_it (Wing.Slot c k r) at here it = tt
@@ -207,17 +213,4 @@ module _ {P : Type 0} (meld : P → P → P) (pack : P → ℕ) (unpack : ℕ �
           (subst (λ c. AreBeside meld pack (written seen sides.limits c) (block_in sides') (wing_in sides')) (sym more) are)
 
       pub won_wing_tells : ts' ≡ ts ++ at_wing x w false ∷ [] → SetsWing meld true x w (view_of pack old.name old) (Ok tt) (view_of pack old.name (sight_of unpack limits ws ms ts'))
-      won_wing_tells is =
-          let more : cached_by ts' ≡ cached_by ts ++ Beside.Wing x w ∷ [] = ap cached_by is ∙ cached_wing_set ts x w in
-          subst (λ (o : Sight P). SetsWing meld true x w (view_of pack o.name o) (Ok tt) (view_of pack o.name (sight_of unpack limits ws ms ts'))) shown (record {
-            of = record { name_is = refl; may_open = tied.may_open; legal = tied.legal };
-            did = did_none true seen;
-            cached = (Beside.Wing x w ∷ [], sym more);
-            caches = ap caches_in is ∙ caches_wing_set ts x w;
-            steps = ap length is ∙ length-append ts (at_wing x w false ∷ []);
-            last = ap last_of is ∙ last_of-push ts (at_wing x w false);
-            set = subst (λ xs. has_wing xs x w ≡ true) (sym more) (now_has_wing (cached_by ts) x w);
-            some = some_wing x may_in;
-            was = tt;
-            before = λ here. tt;
-          })
+      won_wing_tells is = wing_exchange_tells (Ok tt) is (some_wing x may_in) tt (λ here. tt)

@@ -1,12 +1,12 @@
-use Rattle.std.proofs.Common.{◌≡◌, ◌<◌, true, [], length, slice_index_or, subst, ap, sym, ◌∙◌, arith}
+use Rattle.std.proofs.Common.{◌≡◌, ◌<◌, true, [], length, slice_index_or, subst, ap, sym, ◌∙◌, arith, false}
 use Rattle.std.specs.List.{slice_index}
 use Rattle.ulfm_model.specs.History.{has_arrived}
-use Rattle.ulfm_model.proofs.Lists.{prefix_trans}
-use Rattle.ulfm_words.proofs.Trails.{did_prefix, did_wait}
+use Rattle.ulfm_words.specs.Steps.{over, view_of}
+use Rattle.ulfm_words.proofs.Trails.{did_prefix}
 use Rattle.ulfm_steps.specs.Arriving.{IsAsked, asked_before, asks, rank_at, ranks_of}
-use Rattle.ulfm_steps.proofs.{Arriving.{arrivals_stay, arrived_on, asked_at, asked_end, asked_fewer, asked_member, asked_missing, count_on, rank_is, within_ranks}, Groups.{round_rises}, Reading.{member_within, round_stays}}
+use Rattle.ulfm_steps.proofs.{Arriving.{arrivals_stay, arrived_on, asked_at, asked_end, asked_fewer, asked_member, asked_missing, count_on, rank_is, within_ranks}, Going.{Went, went_most, went_on}, Groups.{round_rises}, Reading.{member_within, round_stays}}
 use Rattle.ulfm_steps.proofs.arrivals.arrived_from.Goals as goal
-use Rattle.ulfm_steps.proofs.arrivals.arrived_from.Goals.{Joined-others, After-is_asked-asked, then-others, else-others}
+use Rattle.ulfm_steps.proofs.arrivals.arrived_from.Goals.{Joined-others, After-is_asked-asked, After-is_there, then-others, else-others}
 
 -- the ranks that the loop goes through
 ranks_are : (g : _) (c : Joined-others g) → c.if-others.ranks.now ≡ ranks_of c.args.group.now c.args.declared.now c.args.others
@@ -29,6 +29,10 @@ it_is g c = ap (λ xs. slice_index xs c.loop-at.at) (ranks_are g (goal.at.After-
 here : (g : _) (c : After-is_asked-asked g) → c.is_asked-asked.result ≡ true → IsAsked c.args.group.now c.args.declared.now c.args.others c.loop-at.at
 here g c is = asked_at c.args.group.now c.args.declared.now c.args.others c.loop-at.at (below g c) (sym (asks_it g c) ∙ is)
 
+-- the steps that were made, and this one
+went : (g : _) (c : After-is_there g) → Went g.P.Meld.meld g.W.Words.alone false (view_of g.P.Packed.pack (g.W.Words.name c.args.words.now) (g.W.Words.sight c.args.pass.now)) (view_of g.P.Packed.pack (g.W.Words.name c.args.words.now) (g.W.Words.sight c.is_there.new.pass))
+went g c = went_on g.P.Meld.meld g.W.Words.alone false (over g.P.Packed.pack (g.W.Words.name c.args.words.now)) _ (g.W.Words.sight c.args.pass.now) (g.W.Words.sight c.loop-at.pass) (g.W.Words.sight c.is_there.new.pass) c.loop-at.invariant.went c.is_there.ensures.goes
+
 pub is_asked-asked-requires : goal.is_asked-asked-requires
 is_asked-asked-requires g c = round_rises (g.W.Words.name c.args.words.now).limits (g.W.Words.sight c.loop-at.pass).seen c.args.comm c.args.round c.args.group.now c.loop-at.invariant.round_of
 
@@ -39,23 +43,15 @@ is_there-requires-clause-within g c asked =
     let group = c.args.group.now in
     let declared = c.args.declared.now in
     rw (it_is g before)
-    (member_within (g.W.Words.name c.args.words.now).limits g.P.Meld.meld (g.W.Words.sight c.loop-at.pass).seen c.args.comm c.args.round (rank_at group declared c.args.others c.loop-at.at) group i.of.legal i.of.may_open i.round_of
+    (member_within (g.W.Words.name c.args.words.now).limits g.P.Meld.meld (g.W.Words.sight c.loop-at.pass).seen c.args.comm c.args.round (rank_at group declared c.args.others c.loop-at.at) group i.went.of.legal i.went.of.may_open i.round_of
     (asked_member group declared c.args.others c.loop-at.at (here g before asked)))
 
 pub returns-then-not-is_there-clause-goes : goal.returns-then-not-is_there-clause-goes
 returns-then-not-is_there-clause-goes g c =
     let before = (goal.at.returns-then-not-is_there-clause-goes g c).After-is_asked-asked in
-    let i = c.loop-at.invariant in
-    let goes = c.is_there.ensures.goes in
     let fewer = asked_fewer c.args.group.now c.args.declared.now c.args.others c.loop-at.at (here g before c.if-not-is_there.ensures.arrived.0) in
-    record {
-      of = goes.of;
-      did = did_wait g.W.Words.alone [] (g.W.Words.sight c.args.pass.now).seen (g.W.Words.sight c.loop-at.pass).seen (g.W.Words.sight c.is_there.new.pass).seen i.did goes.did;
-      cached = prefix_trans _ _ _ i.cached goes.cached;
-      caches = goes.caches ∙ i.caches;
-      onward = omega (arith, i.onward, goes.onward);
-      steps = omega (arith, i.steps, goes.steps, fewer);
-    }
+    went_most g.P.Meld.meld g.W.Words.alone false (over g.P.Packed.pack (g.W.Words.name c.args.words.now)) _ (g.W.Words.sight c.args.pass.now) (g.W.Words.sight c.is_there.new.pass) (went g (goal.at.returns-then-not-is_there-clause-goes g c).After-is_there)
+    (omega (arith, c.loop-at.invariant.steps, c.is_there.ensures.goes.steps, fewer))
 
 pub returns-then-not-is_there-clause-arrived : goal.returns-then-not-is_there-clause-arrived
 returns-then-not-is_there-clause-arrived g c =
@@ -79,12 +75,8 @@ loop-at-preserved g c =
     let asked = c.is_asked-asked.result in
     let counted = count_on group declared others at (below g before) asked (asks_it g before) in
     record {
-      of = e.goes.of;
-      did = did_wait g.W.Words.alone [] (g.W.Words.sight c.args.pass.now).seen h later i.did e.goes.did;
+      went = went g (goal.at.loop-at-preserved g c).After-is_there;
       round_of = round_stays (g.W.Words.name c.args.words.now).limits h later c.args.comm c.args.round group begins i.round_of;
-      cached = prefix_trans _ _ _ i.cached e.goes.cached;
-      caches = e.goes.caches ∙ i.caches;
-      onward = omega (arith, i.onward, e.goes.onward);
       steps = omega (arith, i.steps, e.steps, counted);
       arrived = arrived_on group declared others at (below g before) (has_arrived later c.args.comm c.args.round) asked (asks_it g before) (arrivals_stay h later c.args.comm c.args.round (asked_before group declared others at) begins i.arrived)
           (λ is. ap (has_arrived later c.args.comm c.args.round) (sym (it_is g before)) ∙ c.if-not-is_there.ensures.arrived is);

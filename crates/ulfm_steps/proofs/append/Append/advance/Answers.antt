@@ -1,9 +1,9 @@
-use Rattle.std.proofs.Common.{◌≡◌, ◌*◌, not, false, None, [], subst, ap, sym, ◌∙◌, arith}
-use Rattle.ulfm_model.proofs.Lists.{none_of, prefix_trans}
+use Rattle.std.proofs.Common.{◌≡◌, ◌*◌, not, false, None, subst, ap, sym, ◌∙◌, arith}
+use Rattle.ulfm_model.proofs.Lists.{none_of}
 use Rattle.ulfm_words.specs.Steps.{over, view_at, Goes}
-use Rattle.ulfm_words.proofs.Trails.{did_prefix, did_wait}
+use Rattle.ulfm_words.proofs.Trails.{did_prefix}
 use Rattle.ulfm_steps.specs.{Appends.{place_at, room, turns_left}, Turns.{TakesFirst, left_without}, declared.append.Append.{Append}}
-use Rattle.ulfm_steps.proofs.{Appending.{append_stays, appends_next, turns_most, turns_some}, Turning.{takes_on}}
+use Rattle.ulfm_steps.proofs.{Appending.{append_stays, appends_next, turns_most, turns_some}, Going.{went_on}, Turning.{takes_on}}
 use Rattle.ulfm_steps.proofs.append.Append.advance.Goals as goal
 use Rattle.ulfm_steps.proofs.append.Append.advance.Goals.{After-step-end}
 
@@ -15,7 +15,7 @@ returns-then-not-whole-clause-goes g c =
     let some = turns_some (room c.loop-end.self.item name.limits) c.loop-end.self inv.within in
     let few = turns_most places c.args.self.now in
     appends_next g.P.Meld.meld g.W.Words.alone name c.args.self.now.item c.args.self.now.by (2 * places) c.step-end.result (g.W.Words.sight c.args.pass.now) (g.W.Words.sight c.loop-end.pass) (g.W.Words.sight c.step-end.new.pass)
-    inv.did inv.cached inv.caches inv.onward (omega (arith, some, few, inv.steps)) (rw (← inv.item, ← inv.by) c.step-end.ensures.goes)
+    inv.went (omega (arith, some, few, inv.steps)) (rw (← inv.item, ← inv.by) c.step-end.ensures.goes)
 
 pub returns-then-not-whole-clause-passed : goal.returns-then-not-whole-clause-passed
 returns-then-not-whole-clause-passed g c = rw (← c.loop-end.invariant.item) c.step-end.ensures.passed
@@ -23,7 +23,6 @@ returns-then-not-whole-clause-passed g c = rw (← c.loop-end.invariant.item) c.
 pub loop-end-preserved : goal.loop-end-preserved
 loop-end-preserved g c =
     let name = over g.P.Packed.pack (g.W.Words.name c.args.words.now) in
-    let first = (g.W.Words.sight c.args.pass.now).seen in
     let now = (g.W.Words.sight c.loop-end.pass).seen in
     let after = (g.W.Words.sight c.step-end.new.pass).seen in
     let inv = c.loop-end.invariant in
@@ -37,16 +36,12 @@ loop-end-preserved g c =
     record {
       item = same.0 ∙ inv.item;
       by = same.1 ∙ inv.by;
-      of = went.of;
-      did = did_wait g.W.Words.alone [] first now after inv.did went.did;
-      cached = prefix_trans _ _ _ inv.cached went.cached;
-      caches = went.caches ∙ inv.caches;
+      went = went_on g.P.Meld.meld g.W.Words.alone false name _ (g.W.Words.sight c.args.pass.now) (g.W.Words.sight c.loop-end.pass) (g.W.Words.sight c.step-end.new.pass) inv.went went;
       may = rw same.0 (append_stays g.P.Meld.meld name.limits now after c.loop-end.self.item (did_prefix g.W.Words.alone _ now after went.did) inv.may);
       passed = rw same.0 passed;
       within = rw same.0 within;
       first = λ not. absurd (cc (not, c.if-not-whole.false));
       turn = λ not. absurd (cc (not, c.if-not-whole.false));
-      onward = omega (arith, inv.onward, went.onward);
       steps = rw same.0 (omega (arith, inv.steps, turns));
     }
 
@@ -58,5 +53,5 @@ returns-then-not-whole-clause-takes g c =
     let first = c.args.self.now in
     takes_on c.args.whole (place_at first.item first.index) (place_at a.item a.index) (not first.empty) (not a.empty) (turns_left (room first.item limits) first) (turns_left (room a.item limits) a)
     (left_without c.step-end.result (turns_left (room first.item limits) c.step-end.new.self)) (g.W.Words.sight c.args.pass.now) (g.W.Words.sight c.loop-end.pass) (g.W.Words.sight c.step-end.new.pass)
-    (λ single. let same = inv.turn single in (sym (inv.first single), ap (λ (x : Append). place_at x.item x.index) same, ap (λ (x : Append). not x.empty) same)) inv.onward inv.steps
+    (λ single. let same = inv.turn single in (sym (inv.first single), ap (λ (x : Append). place_at x.item x.index) same, ap (λ (x : Append). not x.empty) same)) inv.went.onward inv.steps
     (subst (λ i. TakesFirst false (place_at a.item a.index) (not a.empty) (turns_left (room a.item limits) a) (left_without c.step-end.result (turns_left (room i limits) c.step-end.new.self)) (g.W.Words.sight c.loop-end.pass) (g.W.Words.sight c.step-end.new.pass)) inv.item c.step-end.ensures.takes)

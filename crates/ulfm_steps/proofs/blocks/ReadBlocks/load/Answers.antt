@@ -4,7 +4,7 @@ use Rattle.ulfm_model.specs.{Laws.{summary_of}, History.{slot}, declared.{block.
 use Rattle.ulfm_words.specs.{Blocks.{IsFirstOf}, Steps.{over, view_of, Goes}, declared.step.Site.{Site}}
 use Rattle.ulfm_words.proofs.{Trails.{did_prefix}, Tried.{tries_none}}
 use Rattle.ulfm_steps.specs.{Blocks.{block_at, blocks_left, next_in_block, reads_most, site_of}, Turns.{TakesAt}}
-use Rattle.ulfm_steps.proofs.{InBlocks.{are_later, at_block_later, few_members, rank_is, rank_within, takes_member, takes_member_wing}, KnownBlocks.{no_first, set_later, spread_later}, OneMore.{one_more}, Reading.{has_at, member_within, missing_at}, Turning.{takes_load}}
+use Rattle.ulfm_steps.proofs.{InBlocks.{are_later, at_block_later, few_members, rank_is, rank_within, takes_member, takes_member_wing}, KnownBlocks.{no_first, set_later, spread_later}, OneMore.{reads_one}, Reading.{has_at, member_within, missing_at}, Turning.{takes_load}}
 use Rattle.ulfm_steps.proofs.blocks.ReadBlocks.load.Goals as goal
 use Rattle.ulfm_steps.proofs.blocks.ReadBlocks.load.Goals.{After-load_slot}
 
@@ -62,38 +62,10 @@ returns-in-Nothing g c =
 
 pub returns-in-Marked : goal.returns-in-Marked
 returns-in-Marked g c =
-    let meld = g.P.Meld.meld in
-    let r = c.args.self.now in
-    let group = c.args.group.now in
-    let at = c.requires.may.at in
-    let old = (g.W.Words.sight c.args.pass.now).seen in
-    let new = (g.W.Words.sight c.load_slot.new.pass).seen in
-    let loads = c.load_slot.ensures.loads in
-    let begins = did_prefix g.W.Words.alone _ old new loads.did in
+    let here = (goal.at.returns-in-Marked g c).After-load_slot in
     let found = c.in-Marked.ensures.found in
-    record {
-      goes = went g (goal.at.returns-in-Marked g c).After-load_slot;
-      takes = takes g (goal.at.returns-in-Marked g c).After-load_slot _ (rw c.requires.none (omega (arith, c.requires.more)));
-      comm = search rules;
-      round = search rules;
-      tells = record {
-        are = are_later meld old new r.comm r.round group r.blocks begins at.are;
-        unknown = at.unknown;
-        side = at.side;
-        front = at.front;
-        wide = at.wide;
-        begins = at.begins;
-        within = omega (arith, c.requires.more);
-        read = one_more meld g.met.P.Meld.lawful old new group r begins at c.requires.more _ found.1 _ found.2 _ c.meld-self.ensures;
-      };
-      half = λ _. record {
-        first = rw c.requires.none tt;
-        more = λ some. absurd (no_first r.first c.requires.none some);
-        winged = λ set. spread_later (view_of g.P.Packed.pack (g.W.Words.name c.args.words.now) (g.W.Words.sight c.args.pass.now)) (view_of g.P.Packed.pack (g.W.Words.name c.args.words.now) (g.W.Words.sight c.load_slot.new.pass)) (block_at r.comm r.round r.side) loads.cached (c.requires.may.half.winged set);
-      };
-      sets = λ are. set_later (g.W.Words.sight c.args.pass.now).cached (g.W.Words.sight c.load_slot.new.pass).cached r.comm r.round r.blocks loads.cached are;
-      ends = search rules;
-    }
+    reads_one g.P.Meld.meld g.met.P.Meld.lawful g.W.Words.alone (over g.P.Packed.pack (g.W.Words.name c.args.words.now)) (g.W.Words.sight c.args.pass.now) (g.W.Words.sight c.load_slot.new.pass) c.args.group.now c.args.self.now c.args.self.now.first c.requires.none c.requires.may c.requires.more
+    _ found.1 _ found.2 _ c.meld-self.ensures (went g here) (takes g here _ (rw c.requires.none (omega (arith, c.requires.more))))
 
 pub returns-in-First : goal.returns-in-First
 returns-in-First g c =

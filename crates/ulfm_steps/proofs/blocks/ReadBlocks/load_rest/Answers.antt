@@ -4,7 +4,7 @@ use Rattle.ulfm_model.specs.{Laws.{summary_of}, History.{slot}, declared.{block.
 use Rattle.ulfm_words.specs.{Blocks.{IsFirstOf}, Steps.{over, view_of, Goes}, declared.step.Site.{Site}}
 use Rattle.ulfm_words.proofs.{Trails.{did_prefix}, Tried.{tries_none}}
 use Rattle.ulfm_steps.specs.{Blocks.{block_at, blocks_left, next_in_block, reads_most, site_of}, Turns.{TakesAt}}
-use Rattle.ulfm_steps.proofs.{InBlocks.{are_later, at_block_later, few_members, rank_is, rank_within, takes_member, takes_member_wing}, KnownBlocks.{set_later, spread_later}, OneMore.{one_more}, Reading.{has_at, member_within, missing_at}, Turning.{takes_load}}
+use Rattle.ulfm_steps.proofs.{InBlocks.{are_later, at_block_later, few_members, rank_is, rank_within, takes_member, takes_member_wing}, KnownBlocks.{set_later, spread_later}, OneMore.{reads_one}, Reading.{has_at, member_within, missing_at}, Turning.{takes_load}}
 use Rattle.ulfm_steps.proofs.blocks.ReadBlocks.load_rest.Goals as goal
 use Rattle.ulfm_steps.proofs.blocks.ReadBlocks.load_rest.Goals.{After-load_rest-said}
 
@@ -55,37 +55,9 @@ takes g c after fewer =
 
 pub returns : goal.returns
 returns g c =
-    let meld = g.P.Meld.meld in
-    let r = c.args.self.now in
-    let group = c.args.group.now in
-    let at = c.requires.may.at in
-    let before = g.W.Words.sight c.args.pass.now in
-    let after = g.W.Words.sight c.load_rest-said.new.pass in
-    let old = before.seen in
-    let new = after.seen in
     let l = c.load_rest-said.ensures.loads.1 in
-    let begins = did_prefix g.W.Words.alone _ old new l.did in
     let said = c.load_rest-said.ensures.summary in
-    record {
-      goes = record { of = l.of; did = l.did; cached = l.cached; caches = tries_none _ _ l.caches; onward = omega (arith, l.steps); steps = omega (arith, l.steps) };
-      takes = takes g (goal.at.returns g c).After-load_rest-said _ (rw c.requires.some (omega (arith, c.requires.more)));
-      comm = search rules;
-      round = search rules;
-      tells = record {
-        are = are_later meld old new r.comm r.round group r.blocks begins at.are;
-        unknown = at.unknown;
-        side = at.side;
-        front = at.front;
-        wide = at.wide;
-        begins = at.begins;
-        within = omega (arith, c.requires.more);
-        read = one_more meld g.met.P.Meld.lawful old new group r begins at c.requires.more _ said.1 _ said.2 _ c.meld-self.ensures;
-      };
-      half = λ _. record {
-        first = tt;
-        more = λ some. absurd (cc some);
-        winged = λ set. spread_later (view_of g.P.Packed.pack (g.W.Words.name c.args.words.now) (g.W.Words.sight c.args.pass.now)) (view_of g.P.Packed.pack (g.W.Words.name c.args.words.now) (g.W.Words.sight c.load_rest-said.new.pass)) (block_at r.comm r.round r.side) l.cached (c.requires.may.half.winged set);
-      };
-      sets = λ are. set_later before.cached after.cached r.comm r.round r.blocks l.cached are;
-      ends = search rules;
-    }
+    reads_one g.P.Meld.meld g.met.P.Meld.lawful g.W.Words.alone (over g.P.Packed.pack (g.W.Words.name c.args.words.now)) (g.W.Words.sight c.args.pass.now) (g.W.Words.sight c.load_rest-said.new.pass) c.args.group.now c.args.self.now None refl c.requires.may c.requires.more
+    _ said.1 _ said.2 _ c.meld-self.ensures
+    (record { of = l.of; did = l.did; cached = l.cached; caches = tries_none _ _ l.caches; onward = omega (arith, l.steps); steps = omega (arith, l.steps) })
+    (takes g (goal.at.returns g c).After-load_rest-said _ (rw c.requires.some (omega (arith, c.requires.more))))

@@ -1,5 +1,6 @@
 use Rattle.std.proofs.Common.{◌≡◌, ◌++◌, ◌∷◌, [], false, ap, subst, sym, vec_capacity, ◌∙◌}
-use Rattle.ulfm_words.proofs.{Caching.{lost_wing_stood, lost_wing_tells, won_wing_stood, won_wing_tells}, Standing.{at_wing}, Tried.{tried_same, tried_wing}}
+use Rattle.ulfm_words.specs.Pass.{entries}
+use Rattle.ulfm_words.proofs.{Caching.{lost_wing_stood, lost_wing_tells, still_holds, won_wing_stood, won_wing_tells}, Standing.{at_wing}, Tried.{tried_wing}}
 use Rattle.ulfm_words.proofs.plain.PlainPass.set_wing.Goals as goal
 use Rattle.ulfm_words.proofs.plain.PlainPass.set_wing.Goals.{Then-before-ne0, After-set_wing, then-before-eq0, else-before-eq0}
 
@@ -11,12 +12,9 @@ won : (g : _) (c : After-set_wing g) → c.if-before-eq0.stands ≡ c.args.word
 won g c = elim c.if-before-eq0.branch [ then-before-eq0 w ↦ w.stands-is | else-before-eq0 w ↦ absurd (w.if-before-eq0.false c.if-before-ne0.false) ]
 
 pub invariant_of-self : goal.invariant_of-self
-invariant_of-self g c = (
-  c.self.invariant.0,
-  c.self.invariant.1,
-  lost_wing_stood g.P.Meld.meld g.P.Packed.pack g.P.Packed.unpack c.self.inside.row.limits c.args.self.now c.self.inside.row.words c.self.inside.sides c.self.inside.journal.items (vec_capacity c.self.inside.journal) c.self.inside.trail.log.items c.and-self-inside.result.log.items c.self.view_is c.self.invariant.0 c.self.invariant.1 c.self.invariant.2 c.args.wing c.wing-before.result c.requires.within c.wing-before.ensures c.args.word c.requires.may c.if-before-ne0.true (c.and-self-inside.ensures ∙ ap (λ n. c.self.inside.trail.log.items ++ at_wing c.args.wing n false ∷ []) (lost g c)),
-  tried_same c.self.inside.sides c.self.inside.trail.log.items c.and-self-inside.result.log.items _ c.and-self-inside.ensures c.self.invariant.3,
-)
+invariant_of-self g c =
+    still_holds g.P.Meld.meld g.P.Packed.pack (entries g.P.Packed.unpack c.self.inside.row.limits c.self.inside.row.words c.self.inside.journal.items) c.self.inside.sides c.self.inside.trail.log.items c.and-self-inside.result.log.items _ c.and-self-inside.ensures c.self.invariant
+    (lost_wing_stood g.P.Meld.meld g.P.Packed.pack g.P.Packed.unpack c.self.inside.row.limits c.args.self.now c.self.inside.row.words c.self.inside.sides c.self.inside.journal.items (vec_capacity c.self.inside.journal) c.self.inside.trail.log.items c.and-self-inside.result.log.items c.self.view_is c.self.invariant.0 c.self.invariant.1 c.self.invariant.2 c.args.wing c.wing-before.result c.requires.within c.wing-before.ensures c.args.word c.requires.may c.if-before-ne0.true (c.and-self-inside.ensures ∙ ap (λ n. c.self.inside.trail.log.items ++ at_wing c.args.wing n false ∷ []) (lost g c)))
 
 pub returns-then-before-ne0 : goal.returns-then-before-ne0
 returns-then-before-ne0 g c = lost_wing_tells g.P.Meld.meld g.P.Packed.pack g.P.Packed.unpack c.self.inside.row.limits c.args.self.now c.self.inside.row.words c.self.inside.sides c.self.inside.journal.items (vec_capacity c.self.inside.journal) c.self.inside.trail.log.items c.and-self-inside.result.log.items c.self.view_is c.self.invariant.0 c.self.invariant.1 c.self.invariant.2 c.args.wing c.wing-before.result c.requires.within c.wing-before.ensures c.args.word c.requires.may c.if-before-ne0.true c.self.invariant.3 (c.and-self-inside.ensures ∙ ap (λ n. c.self.inside.trail.log.items ++ at_wing c.args.wing n false ∷ []) (lost g c))
