@@ -12,7 +12,7 @@ use Rattle.std.proofs.lemmas.List.Sums.{count_by-le-length, sum_by-set}
 use Rattle.std.proofs.lemmas.Nat.{div-mul-add, mod-mul-add, mul-add-lt}
 use Rattle.ulfm_model.specs.declared.{limits.Limits.{Limits}, place.Place.{Place}}
 use Rattle.ulfm_model.specs.Words.{MayOpen, size_of}
-use Rattle.ulfm_words.specs.declared.row.Seat.TheVariants.{Cell, Head}
+use Rattle.ulfm_words.specs.declared.plain.Seat.TheVariants.{Cell, Head}
 use Rattle.ulfm_words.specs.{Places.{key_in}, Rows.{AreLines, HasSeat, IsRow, cells_of, heads_of, is_made_line, lines_of, row_of, word_in}}
 use Rattle.ulfm_words.proofs.Keys.{row_size}
 

@@ -3,8 +3,8 @@ use Rattle.std.specs.Prelude.{◌≡◌, ◌≢◌, ℕ, ◌+◌, ◌*◌, ◌/�
 use Rattle.std.specs.List.{range_with_len}
 use Rattle.ulfm_model.specs.declared.{block.Block.{Block}, block.Side.{Side}, block.Side.TheVariants.{Front, Back}, block.Wing.{Wing}}
 use Rattle.ulfm_model.specs.{Words.{size_of}, declared.{limits.Limits.{Limits}, place.Place.{Place}}}
-use Rattle.ulfm_words.specs.declared.row.Seat.{Seat}
-use Rattle.ulfm_words.specs.declared.row.Seat.TheVariants.{Head, Cell}
+use Rattle.ulfm_words.specs.declared.plain.Seat.{Seat}
+use Rattle.ulfm_words.specs.declared.plain.Seat.TheVariants.{Head, Cell}
 use Rattle.ulfm_words.specs.Places.{key_in}
 
 -- the words that come first in a row: those of the lists and the revocations

@@ -4,7 +4,6 @@
 pub mod accesses;
 pub mod laws;
 pub mod plain;
-mod row;
 pub mod step;
 pub mod summaries;
 pub mod words;

@@ -2,8 +2,8 @@ use Rattle.std.proofs.Common.{◌≡◌, ◌++◌, arith, length, vec_capacity}
 use Rattle.std.proofs.Math.ListN.{length-set}
 use Rattle.std.specs.Prelude.{replicate}
 use Rattle.ulfm_words.proofs.Lines.{cells_kept, grown, made_some, more_room, lines_more, room_left}
-use Rattle.ulfm_words.proofs.row.make_line.Goals as goal
-use Rattle.ulfm_words.proofs.row.make_line.Goals.{After-resize}
+use Rattle.ulfm_words.proofs.plain.make_line.Goals as goal
+use Rattle.ulfm_words.proofs.plain.make_line.Goals.{After-resize}
 
 longer : (g : _) (c : After-resize g) → c.resize.new.self.items ≡ c.args.words.now.items ++ replicate c.args.ranks 0
 longer g c =

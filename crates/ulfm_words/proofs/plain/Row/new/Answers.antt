@@ -1,7 +1,7 @@
 use Rattle.std.proofs.Common.{◌+◌, ◌*◌, ◌≤◌, refl, arith, vec_capacity}
 use Rattle.ulfm_words.specs.Rows.{heads_of, lines_of}
 use Rattle.ulfm_words.proofs.{Lines.{few_lines, filled, lines_new, row_new}}
-use Rattle.ulfm_words.proofs.row.Row.new.Goals as goal
+use Rattle.ulfm_words.proofs.plain.Row.new.Goals as goal
 
 pub make_first-requires-clause-are : goal.make_first-requires-clause-are
 make_first-requires-clause-are g c =

@@ -2,7 +2,7 @@ use Rattle.std.proofs.Common.{sym, subst, ap, ◌∙◌, ◌*◌}
 use Rattle.ulfm_model.specs.Blocks.{IsBlockWithin}
 use Rattle.ulfm_words.specs.Rows.{SideWords, block_key}
 use Rattle.ulfm_words.proofs.SideRows.{other_block}
-use Rattle.ulfm_words.proofs.row.SideRow.set_block.Goals as goal
+use Rattle.ulfm_words.proofs.plain.SideRow.set_block.Goals as goal
 
 pub returns-clause-others : goal.returns-clause-others
 returns-clause-others g c =

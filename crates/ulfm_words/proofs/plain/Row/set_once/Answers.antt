@@ -1,6 +1,6 @@
 use Rattle.std.proofs.Common.{vec_capacity}
 use Rattle.ulfm_words.proofs.Lines.{cell_put, cell_read, cell_stays, head_put, head_read, head_stays}
-use Rattle.ulfm_words.proofs.row.Row.set_once.Goals as goal
+use Rattle.ulfm_words.proofs.plain.Row.set_once.Goals as goal
 
 pub returns-then-stood-eq0-2-clause-stood : goal.returns-then-stood-eq0-2-clause-stood
 returns-then-stood-eq0-2-clause-stood g c =

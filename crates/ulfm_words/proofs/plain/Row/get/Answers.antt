@@ -1,6 +1,6 @@
 use Rattle.std.proofs.Common.{vec_capacity}
 use Rattle.ulfm_words.proofs.Lines.{cell_read}
-use Rattle.ulfm_words.proofs.row.Row.get.Goals as goal
+use Rattle.ulfm_words.proofs.plain.Row.get.Goals as goal
 
 pub returns-in-Cell : goal.returns-in-Cell
 returns-in-Cell g c =

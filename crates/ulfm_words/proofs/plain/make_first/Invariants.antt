@@ -1,6 +1,6 @@
 use Rattle.std.proofs.Common.{◌≡◌, length, vec_capacity}
 use Rattle.ulfm_words.specs.Rows.{AreLines, cells_of}
-use Rattle.ulfm_words.proofs.row.make_first.Given as goal
+use Rattle.ulfm_words.proofs.plain.make_first.Given as goal
 
 abbrev pub invariant-loop-line : goal.invariant-loop-line
 invariant-loop-line g l = record {

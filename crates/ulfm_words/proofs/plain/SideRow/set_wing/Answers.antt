@@ -4,8 +4,8 @@ use Rattle.ulfm_model.specs.declared.{block.Block.{Block}, block.Wing.{Wing}, pl
 use Rattle.ulfm_model.specs.Blocks.{IsBlockWithin}
 use Rattle.ulfm_words.specs.{Places.{IsCell, IsWingWithin, key_in}, Rows.{SideWords, block_key, wing_in}}
 use Rattle.ulfm_words.proofs.SideRows.{block_wing_set, slot_set}
-use Rattle.ulfm_words.proofs.row.SideRow.set_wing.Goals as goal
-use Rattle.ulfm_words.proofs.row.SideRow.set_wing.Goals.{After-set_once}
+use Rattle.ulfm_words.proofs.plain.SideRow.set_wing.Goals as goal
+use Rattle.ulfm_words.proofs.plain.SideRow.set_wing.Goals.{After-set_once}
 
 -- the words before and after a slot's wing is set
 before : (g : _) (c : After-set_once g) → SideWords
