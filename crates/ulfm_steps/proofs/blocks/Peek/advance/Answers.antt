@@ -1,4 +1,4 @@
-use Rattle.std.proofs.Common.{◌≡◌, [], refl, ap, sym, ◌∙◌, arith, true, false, rules, length}
+use Rattle.std.proofs.Common.{◌≡◌, refl, ap, sym, ◌∙◌, arith, true, false, rules, length}
 use Rattle.ulfm_model.specs.declared.block.Side.TheVariants.{Back, Front}
 use Rattle.ulfm_model.proofs.Blocks.{has_block_stays}
 use Rattle.ulfm_words.specs.Steps.{over, view_of}

@@ -1,4 +1,4 @@
-use Rattle.std.proofs.Common.{◌≡◌, None, [], true, length, ap, sym, ◌∙◌, arith, nat_lt, rules}
+use Rattle.std.proofs.Common.{◌≡◌, None, true, length, ap, sym, ◌∙◌, arith, nat_lt, rules}
 use Rattle.ulfm_model.proofs.Lists.{none_of}
 use Rattle.ulfm_words.specs.Steps.{over, view_of}
 use Rattle.ulfm_steps.specs.Blocks.{blocks_left, site_of}

@@ -4,7 +4,7 @@ use Rattle.ulfm_model.specs.{Laws.{summary_of}, History.{slot}, declared.{block.
 use Rattle.ulfm_words.specs.{Blocks.{IsFirstOf}, Steps.{over, view_of, Goes}, declared.step.Site.{Site}}
 use Rattle.ulfm_words.proofs.{Trails.{did_prefix}, Tried.{tries_none}}
 use Rattle.ulfm_steps.specs.{Blocks.{block_at, blocks_left, next_in_block, reads_most, site_of}, Turns.{TakesAt}}
-use Rattle.ulfm_steps.proofs.{InBlocks.{are_later, at_block_later, few_members, rank_is, rank_within, takes_member, takes_member_wing}, KnownBlocks.{no_first, set_later, spread_later}, OneMore.{reads_one}, Reading.{has_at, member_within, missing_at}, Turning.{takes_load}}
+use Rattle.ulfm_steps.proofs.{InBlocks.{are_later, at_block_later, few_members, rank_is, rank_within, takes_member, takes_member_wing}, KnownBlocks.{set_later, spread_later}, OneMore.{reads_one}, Reading.{has_at, member_within, missing_at}, Turning.{takes_load}}
 use Rattle.ulfm_steps.proofs.blocks.ReadBlocks.load.Goals as goal
 use Rattle.ulfm_steps.proofs.blocks.ReadBlocks.load.Goals.{After-load_slot}
 
