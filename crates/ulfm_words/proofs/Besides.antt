@@ -1,12 +1,11 @@
 -- The words that no event sets, as a history grows and more of them are set.
-use Rattle.std.proofs.Common.{◌≡◌, ◌≢◌, ◌⊎◌, inl, inr, ℕ, ◌<◌, ◌||◌, ◌&&◌, ◌==◌, Bool, true, false, List, [], ◌∷◌, ◌++◌, Option, Some, None, refl, ap, sym, ◌∙◌, subst, arith, append-nil, if◌then◌else◌}
-use mathlib.Core.List.{IsPrefix}
+use Rattle.std.proofs.Common.{◌≡◌, ◌≢◌, ◌⊎◌, inl, inr, ℕ, ◌<◌, ◌||◌, ◌&&◌, ◌==◌, Bool, true, false, List, [], ◌∷◌, ◌++◌, Option, Some, None, refl, ap, sym, ◌∙◌, subst, arith, if◌then◌else◌}
 use Rattle.ulfm_model.specs.declared.{block.Beside.{Beside}, block.Block.{Block}, block.Wing.{Wing}, contribution.Contribution.{Contribution}, contribution.Slot.{Slot}, contribution.Slot.TheVariants.{Given, Mark as Marked}}
 use Rattle.ulfm_model.specs.declared.{event.Entry.{Entry}, event.Event.{Event}, event.Event.TheVariants.{Fail, Settle, Mark, Arrive, Revoke, Spawn}, limits.Limits.{Limits}}
 use Rattle.ulfm_model.specs.{Blocks.{IsBlock, IsBlockWithin, IsCached, IsWing, has_block, has_wing, is_block, is_wing, same_block, same_wing}, History.{History, same_place, slot}, Words.{slot_wing}}
-use Rattle.ulfm_model.proofs.{Blocks.{block_self, block_some, cached_stays, has_block_push, has_wing_push, is_wing_parts, one_wing, same_block_is, same_wing_is, wing_self, wing_some, wing_stays}, Histories.{slot_kept, slot_push, slot_stays}, OneEvent.{put_by}}
+use Rattle.ulfm_model.proofs.{Blocks.{block_self, block_some, cached_stays, has_block_push, has_wing_push, is_wing_parts, same_block_is, same_wing_is, wing_self, wing_stays}, Histories.{slot_push, slot_stays}, OneEvent.{put_by}}
 use Rattle.std.proofs.lemmas.Bool.{and_parts, eqb-true}
-use Rattle.ulfm_words.specs.{Besides.{AreBeside, Written, written}, Places.{IsCell, IsWingWithin}, Steps.{IsWinged}}
+use Rattle.ulfm_words.specs.{Besides.{AreBeside, written}, Places.{IsCell, IsWingWithin}, Steps.{IsWinged}}
 
 not_both : (b : Bool) → b ≡ true → b ≡ false → ⊥
 not_both true e f = absurd (cc f)

@@ -3,12 +3,12 @@ use Rattle.std.proofs.Common.{◌≡◌, ◌≢◌, ◌⊎◌, inl, inr, ℕ, ze
 use Rattle.std.specs.List.{Contains}
 use Rattle.std.specs.Prelude.{MatchResult, Result, ⊤}
 use mathlib.Core.List.{IsPrefix}
-use Rattle.ulfm_model.specs.declared.{block.Beside.{Beside}, block.Block.{Block}, block.Wing.{Wing}, contribution.Contribution.{Contribution}, contribution.Slot.TheVariants.{Given}, limits.Limits.{Limits}}
-use Rattle.ulfm_model.specs.{Blocks.{IsBlock, IsBlockWithin, IsCached, IsWing, has_block, has_wing}, History.{History, IsPlace, slot}, Words.{slot_wing}}
+use Rattle.ulfm_model.specs.declared.{block.Beside.{Beside}, block.Block.{Block}, block.Wing.{Wing}, limits.Limits.{Limits}}
+use Rattle.ulfm_model.specs.{Blocks.{IsBlock, IsBlockWithin, IsCached, IsWing, has_block, has_wing}, History.{History}}
 use Rattle.ulfm_model.proofs.Blocks.{now_has_wing, one_block, one_wing, wing_some}
 use Rattle.ulfm_words.specs.declared.{plain.Setting.{Setting}, step.Last.{Last}, step.Site.{Site}}
-use Rattle.ulfm_words.specs.{Besides.{AreBeside, written}, Blocks.{Caches, IsSpread, IsSpreadBlock, LoadsBlock, LoadsWing, MaySetWing, SetsWing, WasWing, standing}, Pass.{AreStood, AreTried, IsTied, cached_by, caches_in, entries, last_of, sight_of}, Places.{IsCell, IsWingWithin}, Rows.{SideWords, block_in, wing_in}, Slots.{is_wing_word}, Steps.{Sight, found as found_by, view_of}}
-use Rattle.ulfm_words.proofs.{Besides.{beside_block, beside_found, beside_stood, beside_wing}, Growing.{prefix_self}, Pairs.{wing_small}, Standing.{at_block, at_wing, cached_found, cached_nothing, cached_set, cached_wing_load, cached_wing_set, caches_loaded, caches_set, caches_wing_load, caches_wing_set, now_has}, Telling.{last_of-push}, Trails.{did_none}, Tried.{tried_same}}
+use Rattle.ulfm_words.specs.{Besides.{AreBeside, written}, Blocks.{Caches, IsSpread, IsSpreadBlock, LoadsBlock, LoadsWing, MaySetWing, SetsWing, WasWing, standing}, Pass.{AreStood, AreTried, IsTied, cached_by, caches_in, entries, last_of, sight_of}, Places.{IsWingWithin}, Rows.{SideWords, block_in, wing_in}, Steps.{Sight, found as found_by, view_of}}
+use Rattle.ulfm_words.proofs.{Besides.{beside_block, beside_found, beside_stood, beside_wing}, Pairs.{wing_small}, Standing.{at_block, at_wing, cached_found, cached_nothing, cached_set, cached_wing_load, cached_wing_set, caches_loaded, caches_set, caches_wing_load, caches_wing_set, now_has}, Telling.{last_of-push}, Trails.{did_none}, Tried.{tried_same}}
 
 pub nothing_more : (xs : List Beside) → IsPrefix xs xs
 nothing_more xs = ([], append-nil xs)

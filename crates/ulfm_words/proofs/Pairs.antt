@@ -1,14 +1,13 @@
 -- The two words of a slot or a block: a number's lowest bits, and a wing with the others.
-use Rattle.std.proofs.Common.{◌≡◌, ◌↔◌, ℕ, ◌+◌, ◌*◌, ◌/◌, ◌%◌, ◌^◌, ◌<◌, ◌==◌, ◌&&◌, Bool, true, false, cond, Option, Some, None, IsSome, IfSome, is_some, refl, ap, ap₂, sym, ◌∙◌, subst, arith, mod-eq_of_lt}
-use Rattle.std.proofs.lemmas.Bool.{and_parts, and_from, eqb-true, eq-eqb}
+use Rattle.std.proofs.Common.{◌≡◌, ◌↔◌, ℕ, ◌+◌, ◌*◌, ◌%◌, ◌^◌, ◌<◌, Bool, true, false, cond, Option, Some, None, IsSome, IfSome, is_some, refl, ap, ap₂, sym, ◌∙◌, subst, arith, mod-eq_of_lt}
 use Rattle.std.proofs.lemmas.Bool.Decides.{nat_tests}
 use Rattle.ulfm_laws.specs.{declared.summary.CtxMask.{CtxMask}, Counts.{acked_le}, Masks.{same_mask}, Ranges.{payload_bits}}
 use Rattle.ulfm_laws.specs.declared.summary.Summary.{Summary}
 use Rattle.ulfm_model.specs.declared.{contribution.Contribution.{Contribution}, contribution.Offer.{Offer}, contribution.Offer.TheVariants.{Flag, Ctx}, contribution.Slot.{Slot}, contribution.Slot.TheVariants.{Given, Mark as Marked}}
 use Rattle.ulfm_model.specs.{Blocks.{block_number, block_wing, block_word}, Words.{first_word, half_bits, offer_number, packed, slot_half, slot_number, slot_wing, slot_word, upper_half, wing_word, word_bits}}
-use Rattle.ulfm_words.specs.{Blocks.{BlocksAreRead, BlocksHaveOneWord, IsFlagBody, IsNumberOf, IsOfSome, IsPairOf}, Slots.{HasPair, HaveOneWord, IsExact, IsFlag, IsSlotNumber, IsSlotPair, acked_in, flag_offer, given_of, half_in, is_mark_word, is_pair, is_wing_word, known_in, mark_if, mask_of, number_bits, offer_wing, number_in, payload_in, slot_in, slot_of, tag_in}}
+use Rattle.ulfm_words.specs.{Blocks.{BlocksAreRead, BlocksHaveOneWord, IsNumberOf}, Slots.{HasPair, HaveOneWord, IsExact, IsFlag, IsSlotPair, acked_in, flag_offer, given_of, half_in, is_mark_word, is_pair, is_wing_word, known_in, mark_if, mask_of, number_bits, offer_wing, number_in, payload_in, slot_in, slot_of, tag_in}}
 use Rattle.ulfm_words.proofs.BlockWords.{is_number, number_below, one_number, one_summary}
-use Rattle.ulfm_words.proofs.SlotWords.{OfferIn, Reads, acked_back, below, known_back, one_word, read_at, slot_back, slot_exactly, sound, tag_back}
+use Rattle.ulfm_words.proofs.SlotWords.{OfferIn, one_word, read_at, slot_back, slot_exactly, sound, tag_back}
 
 -- both words have the whole number
 pub number_back : (n : ℕ) → number_in (first_word n) (upper_half n) ≡ n

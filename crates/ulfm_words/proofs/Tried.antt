@@ -2,9 +2,9 @@
 use Rattle.std.proofs.Common.{◌≡◌, ◌≢◌, ◌⊎◌, inl, inr, ℕ, zero, suc, Bool, true, false, List, [], ◌∷◌, ◌++◌, Option, Some, None, refl, ap, sym, ◌∙◌, subst, arith, append-nil, append_assoc}
 use Rattle.std.specs.List.{All, Contains}
 use Rattle.std.proofs.lemmas.List.Elements.{All-append, All-contains, Contains-append_cases, Contains-append_left, Contains-append_right, filter_map-append}
-use Rattle.ulfm_model.specs.declared.{block.Block.{Block}, block.Wing.{Wing}}
+use Rattle.ulfm_model.specs.declared.{block.Wing.{Wing}}
 use Rattle.ulfm_words.specs.declared.{step.Last.{Last}, step.Site.{Site}}
-use Rattle.ulfm_words.specs.{Pass.{AreTried, caches_in, tried_at}, Places.{IsWingWithin}, Rows.{SideWords, wing_in}, Steps.{TriesBlocks, TriesFurther, IsOfBlock}}
+use Rattle.ulfm_words.specs.{Pass.{AreTried, caches_in, tried_at}, Places.{IsWingWithin}, Rows.{SideWords, wing_in}, Steps.{TriesBlocks, TriesFurther}}
 use Rattle.ulfm_words.proofs.Besides.{wing_or_not}
 
 -- what holds of one holds of a list of it alone
