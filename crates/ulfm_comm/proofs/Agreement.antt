@@ -29,8 +29,8 @@ use Rattle.ulfm_steps.specs.Among.{among}
 use Rattle.ulfm_comm.specs.{Polls.{PollHasMarked}, Requests.{agreement}, Phase.{Answered, Stands, StandsAt, next_step, under_way}, StepsLeft.{MakesStep}}
 use Rattle.ulfm_comm.specs.Agreement.{HasReadAll, IsMarking, IsReading, agreed_reply}
 use Rattle.ulfm_comm.specs.declared.phases.phase.{Phase.{Phase}, Phase.TheVariants.{Marking, Reading}}
-use Rattle.ulfm_comm.proofs.{CallRuns.{calls_is}, Stands.{marked_lasts}, Holding.{exists_is, group_is, holds, same_held}, AmongOthers.{did_loosely, marks_loosely}}
-use Rattle.ulfm_comm.proofs.Polls.{held_first, later, not_found, not_marked, open_round, poll_agreed, poll_mismatch, poll_pending}
+use Rattle.ulfm_comm.proofs.{CallRuns.{calls_is}, Stands.{marked_lasts}, Holding.{holds, same_held}, AmongOthers.{did_loosely, marks_loosely}}
+use Rattle.ulfm_comm.proofs.Polls.{held_first, later, not_found, not_marked, open_members, poll_agreed, poll_mismatch, poll_pending}
 use Rattle.ulfm_comm.specs.Local.{Local, frame, local}
 use Rattle.ulfm_comm.specs.Requests.{polled_round}
 use Rattle.ulfm_comm.specs.Prepared.{Prepared}
@@ -99,12 +99,7 @@ module _ {P : Type 0} (meld : P → P → P) (limits : Limits) (alone : Bool) (c
   -- the next one may be made
   marking_may : MayMarkAll limits now marks.comm marks.round p.x.group own.seen
   marking_may =
-      let round : IsRoundOf limits now c marks.round p.x.group =
-      record {
-        exists = exists_is meld limits now own c p.x marking_fits p.held;
-        group_is = group_is meld limits now own c p.x marking_fits p.held;
-        in_rounds = open_round meld limits now own c marks.round shrinks p.x legal marking_fits p.held p.open_is;
-      } in
+      let round = open_members meld limits now own c marks.round shrinks p.x legal marking_fits p.held p.open_is in
       record { round = subst (λ w. IsRoundOf limits now w marks.round p.x.group) (sym p.there) round; begins = marking_fits.seen }
 
   -- after more of them
@@ -236,17 +231,12 @@ module _ {P : Type 0} (meld : P → P → P) (name : Over P) (asked : Call P) (m
     marking_goes more =
         let on = marking_on meld name.limits alone (comm_of asked) shrinks marks blocks old before.seen own now.seen of.legal marking quiet only after.seen
         next.next marked.between members_next marked.marks.marks next refl rank comm round at_next in
-        record {
-          fits = st.fits;
-          mine = st.mine;
-          onward = omega (arith, st.onward, marked.marks.onward);
-          at = (
-            st.at.0,
-            on,
-            subst (λ s. next.next < length s) (declared_are ∙ marking_seen meld name.limits alone
-                (comm_of asked) shrinks marks blocks old before.seen own now.seen of.legal marking) more,
-          );
-        }
+        polls_stand st.fits st.at.0 (omega (arith, st.onward, marked.marks.onward)) (
+          st.at.0,
+          on,
+          subst (λ s. next.next < length s) (declared_are ∙ marking_seen meld name.limits alone
+              (comm_of asked) shrinks marks blocks old before.seen own now.seen of.legal marking) more,
+        )
 
     -- none is left
     pub marking_reads : (reading : ReadBlocks P) (size : ℕ) → reading ≡ starts_at next.comm next.round blocks size → size ≡ length members
@@ -258,18 +248,13 @@ module _ {P : Type 0} (meld : P → P → P) (name : Over P) (asked : Call P) (m
         (subst (λ s. length s ≤ next.next) declared_are past) marked.marks.of.legal in
         let are = marks_blocks meld name.limits alone (comm_of asked) shrinks marks blocks old before.seen own now.seen of.legal marking quiet only after.seen
         next.next marked.between members_next marked.marks.marks next comm round in
-        record {
-          fits = st.fits;
-          mine = st.mine;
-          onward = omega (arith, st.onward, marked.marks.onward);
-          at = (
-            st.at.0,
-            reading_begins meld name.limits alone (comm_of asked) shrinks marks.round marking.x old before.seen own after.seen ended blocks next.comm next.round
-                size are marking.unknown reading is (comm ∙ marking.there) round
-                (size_is ∙ ap length group_same),
-            starts_half (view_at name after) _ reading next.comm next.round blocks size is,
-          );
-        }
+        polls_stand st.fits st.at.0 (omega (arith, st.onward, marked.marks.onward)) (
+          st.at.0,
+          reading_begins meld name.limits alone (comm_of asked) shrinks marks.round marking.x old before.seen own after.seen ended blocks next.comm next.round
+              size are marking.unknown reading is (comm ∙ marking.there) round
+              (size_is ∙ ap length group_same),
+          starts_half (view_at name after) _ reading next.comm next.round blocks size is,
+        )
 
 -- one step of the reading
 module _ {P : Type 0} (meld : P → P → P) (limits : Limits) (alone : Bool) (c : ℕ) (shrinks : Bool) (reading : ReadBlocks P) (old : Record) (before : History P)
@@ -278,12 +263,7 @@ module _ {P : Type 0} (meld : P → P → P) (limits : Limits) (alone : Bool) (c
   reading_round : IsRoundOf limits now reading.comm reading.round p.x.group
   reading_round =
       let fits = later meld limits alone before old own c shrinks reading.round p.x now p.marked in
-      let round : IsRoundOf limits now c reading.round p.x.group =
-      record {
-        exists = exists_is meld limits now own c p.x fits p.marked.held;
-        group_is = group_is meld limits now own c p.x fits p.marked.held;
-        in_rounds = open_round meld limits now own c reading.round shrinks p.x p.marked.legal fits p.marked.held p.marked.open_is;
-      } in
+      let round = open_members meld limits now own c reading.round shrinks p.x p.marked.legal fits p.marked.held p.marked.open_is in
       subst (λ w. IsRoundOf limits now w reading.round p.x.group) (sym p.there) round
 
   module _ (quiet : Bool) (only : IsTrue alone → IsTrue quiet) (after : History P) (did : Did quiet [] now after) (legal : IsLegal meld limits after) where

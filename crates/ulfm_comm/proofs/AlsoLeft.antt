@@ -40,19 +40,9 @@ module _ {P : Type 0} (limits : Limits) (own new : Record) (seen : List ℕ) (as
       same c = ap (λ (w : Record). held_at w c) kept
 
       go : (asked : Call P) → BlocksStand own asked cached → BlocksStand new asked longer
-      go (call.Fail rank) stand = tt
-      go (call.GetFailed rank c) stand = tt
-      go (call.FailureGetAcked rank c) stand = tt
-      go (call.Ack rank c count) stand = tt
-      go (call.FailureAck rank c) stand = tt
-      go (call.Agree rank c value) stand = tt
-      go (call.Shrink rank c) stand = tt
-      go (call.Barrier rank c) stand = tt
       go (call.Poll rank c) stand = λ x shrinks k held open_is side is. has_block_stays cached longer (block_at c k side) begins
           (stand x shrinks k (sym (same c) ∙ held) open_is side is)
-      go (call.Revoke rank c) stand = tt
-      go (call.IsRevoked rank c) stand = tt
-      go (call.Free rank c) stand = tt
+      go _ stand = tt
 
   -- a look that goes on makes as many loads as it finds
   pub also_looks_on : (now after : Sight P) → length own.seen < limits.ranks → length new.seen < limits.ranks

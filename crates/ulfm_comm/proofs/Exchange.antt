@@ -58,11 +58,6 @@ pub record IsStarting {P : Type 0} (meld : P → P → P) (limits : Limits) (ask
 pub is_starting : {P : Type 0} (meld : P → P → P) (limits : Limits) (asked : Call P) (old : Record) (x : Held) (request : Request) (offer : Offer P)
     → first_refusal (tests_of old x asked) ≡ None → StartsWith asked old x request offer
     → IsStarting meld limits asked old x request offer
-is_starting meld limits (call.Fail rank) old x request offer passes starts = absurd starts
-is_starting meld limits (call.GetFailed rank c) old x request offer passes starts = absurd starts
-is_starting meld limits (call.FailureGetAcked rank c) old x request offer passes starts = absurd starts
-is_starting meld limits (call.Ack rank c count) old x request offer passes starts = absurd starts
-is_starting meld limits (call.FailureAck rank c) old x request offer passes starts = absurd starts
 is_starting meld limits (call.Agree rank c value) old x request offer passes starts =
     let late : Bool = nat_le old.limits.rounds (x.next_agreement + 1) in
     let others = passes_first (is_some x.request) Busy ((late, RoundsUsedUp) ∷ []) passes in
@@ -91,11 +86,7 @@ is_starting meld limits (call.Shrink rank c) old x request offer passes starts =
       room = room;
       next = λ few. subst HasNext (sym starts.0) (omega (arith, room, few));
     }
-is_starting meld limits (call.Barrier rank c) old x request offer passes starts = absurd starts
-is_starting meld limits (call.Poll rank c) old x request offer passes starts = absurd starts
-is_starting meld limits (call.Revoke rank c) old x request offer passes starts = absurd starts
-is_starting meld limits (call.IsRevoked rank c) old x request offer passes starts = absurd starts
-is_starting meld limits (call.Free rank c) old x request offer passes starts = absurd starts
+is_starting meld limits _ old x request offer passes starts = absurd starts
 
 -- what is known of a call after its look, where others may have stepped since
 module _ {P : Type 0} (meld : P → P → P) (limits : Limits) (alone : Bool) (asked : Call P) (old : Record) (before : History P) (own : Record) (now : History P)

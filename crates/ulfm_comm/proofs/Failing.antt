@@ -1,9 +1,8 @@
 -- A declaration, by how its appending ended.
-use Rattle.std.proofs.Common.{◌≡◌, ℕ, zero, suc, ◌+◌, ◌*◌, ◌<◌, ◌≤◌, Bool, List, [], ◌∷◌, length, map, Some, slice_get, refl, ap, sym, subst, arith, append-nil}
+use Rattle.std.proofs.Common.{◌≡◌, ℕ, zero, suc, ◌*◌, ◌<◌, ◌≤◌, Bool, List, [], ◌∷◌, length, map, Some, slice_get, refl, ap, sym, subst, arith, append-nil}
 use Rattle.std.proofs.Common.{false}
 use Rattle.std.proofs.Common.{inl, inr}
 use Rattle.std.proofs.lemmas.List.{length-map}
-use mathlib.Core.List.{IsPrefix}
 use Rattle.ulfm_model.specs.declared.{event.Caller.TheVariants.{Outside}, event.Event.{Event}, event.Event.TheVariants.{Fail}}
 use Rattle.ulfm_model.specs.declared.{refusal.Refusal.TheVariants.{NoSuchRank}, reply.Reply.{Reply}, reply.Reply.TheVariants.{AlreadyFailed, Declared, Refused}}
 use Rattle.ulfm_model.specs.{Answers.{AnswersFail}, History.{entries_by, failures}, Runs.{Did}}
@@ -11,7 +10,7 @@ use Rattle.ulfm_model.proofs.Lists.{has_at, in_list}
 use Rattle.ulfm_words.specs.{Steps.{IsView, Over, Sight}}
 use Rattle.ulfm_words.proofs.{Ranks.{full_has}, Trails.{did_added, did_none}}
 use Rattle.ulfm_words.specs.Steps.{view_at}
-use Rattle.ulfm_steps.specs.{Appends.{Appends}, declared.append.Appended.TheVariants.{Won, Found, Full}, declared.item.Item.{Item}}
+use Rattle.ulfm_steps.specs.{Appends.{Appends}, declared.append.Appended.{Appended}, declared.append.Appended.TheVariants.{Won, Found, Full}, declared.item.Item.{Item}}
 use Rattle.ulfm_steps.specs.declared.item.Item.TheVariants.{Failure}
 use Rattle.ulfm_steps.specs.Appends.{wanted}
 use Rattle.ulfm_comm.specs.Fails.{Fails}
@@ -29,33 +28,35 @@ long_enough fs zero all = omega arith
 long_enough fs (suc n) all = let last = all n (omega arith) in omega (arith, in_list (map (λ y. Failure y) fs) n last.0 last.1, length-map fs (λ y. Failure y))
 
 module _ {P : Type 0} (meld : P → P → P) (alone : Bool) (name : Over P) (rank : ℕ) (before after : Sight P) where
-  -- a declaration with these own events
-  fails_with : (own : List (Event P)) (reply : Reply P) → before.steps ≤ after.steps → after.steps ≤ before.steps + 2 * name.limits.ranks
-      → (name.limits.ranks ≤ rank → after ≡ before) → IsPrefix before.cached after.cached → after.caches ≡ before.caches → IsView meld (view_at name after)
+  abbrev Declares : Appended → Type 0
+  Declares result = Appends meld alone (wanted (Failure rank) Outside) (2 * name.limits.ranks) (view_at name before) result (view_at name after)
+
+  -- a declaration whose appending added these own events
+  fails_with : {result : Appended} → Declares result → rank < name.limits.ranks → (own : List (Event P)) (reply : Reply P)
       → Did alone (entries_by Outside own) before.seen after.seen
       → AnswersFail name.limits (record { look = failures before.seen; history = after.seen; own = own; spread = false }) rank reply
       → Fails meld alone rank (view_at name before) reply (view_at name after)
-  fails_with own reply onward steps no_step cached caches of did answer = record {
+  fails_with appends below own reply did answer = record {
     words = refl;
-    of = of;
+    of = appends.of;
     run = record {
-      span = span_ends Outside own false (did_none alone before.seen) did of.legal;
+      span = span_ends Outside own false (did_none alone before.seen) did appends.of.legal;
       no_look = refl;
       answer = answer;
     };
     at_end = refl;
-    steps = steps;
-    no_step = no_step;
-    onward = onward;
-    cached = cached;
-    caches = caches;
+    steps = appends.steps;
+    no_step = λ above. absurd (omega (arith, below, above));
+    onward = appends.onward;
+    cached = appends.cached;
+    caches = appends.caches;
   }
 
   -- this call declared it
   pub fail_won : (i : ℕ) → rank < name.limits.ranks → Appends meld alone (wanted (Failure rank) Outside) (2 * name.limits.ranks) (view_at name before) (Won i) (view_at name after)
       → Fails meld alone rank (view_at name before) Declared (view_at name after)
   fail_won i below appends =
-      fails_with (Fail rank ∷ []) Declared appends.onward appends.steps (λ above. absurd (omega (arith, below, above))) appends.cached appends.caches appends.of
+      fails_with appends below (Fail rank ∷ []) Declared
       (did_added alone (record { by = Outside; event = Fail rank }) before.seen after.seen appends.outcome.0)
       (inl (refl, refl, has_at (failures after.seen) i rank (failure_at (failures after.seen) i rank appends.outcome.1)))
 
@@ -63,8 +64,8 @@ module _ {P : Type 0} (meld : P → P → P) (alone : Bool) (name : Over P) (ran
   pub fail_found : (i : ℕ) → rank < name.limits.ranks → Appends meld alone (wanted (Failure rank) Outside) (2 * name.limits.ranks) (view_at name before) (Found i) (view_at name after)
       → Fails meld alone rank (view_at name before) AlreadyFailed (view_at name after)
   fail_found i below appends =
-      fails_with [] AlreadyFailed appends.onward appends.steps (λ above. absurd (omega (arith, below, above))) appends.cached appends.caches appends.of
-      appends.outcome.0 (inr (inl (refl, refl, has_at (failures after.seen) i rank (failure_at (failures after.seen) i rank appends.outcome.1))))
+      fails_with appends below [] AlreadyFailed appends.outcome.0
+      (inr (inl (refl, refl, has_at (failures after.seen) i rank (failure_at (failures after.seen) i rank appends.outcome.1))))
 
   -- all ranks have been
   pub fail_full : rank < name.limits.ranks → Appends meld alone (wanted (Failure rank) Outside) (2 * name.limits.ranks) (view_at name before) Full (view_at name after)
@@ -72,14 +73,23 @@ module _ {P : Type 0} (meld : P → P → P) (alone : Bool) (name : Over P) (ran
   fail_full below appends =
       let passed = appends.outcome.1 in
       let full = long_enough (failures after.seen) name.limits.ranks (λ j lt. let at = passed j lt in (at.0, at.1)) in
-      fails_with [] AlreadyFailed appends.onward appends.steps (λ above. absurd (omega (arith, below, above))) appends.cached appends.caches appends.of
-      appends.outcome.0 (inr (inl (refl, refl, full_has meld name.limits after.seen rank appends.of.legal below full)))
+      fails_with appends below [] AlreadyFailed appends.outcome.0 (inr (inl (refl, refl, full_has meld name.limits after.seen rank appends.of.legal below full)))
 
   -- the world doesn't have it
   pub fail_missing : IsView meld (view_at name before) → name.limits.ranks ≤ rank → after ≡ before → Fails meld alone rank (view_at name before) (Refused NoSuchRank) (view_at name after)
   fail_missing of above same =
-      fails_with [] (Refused NoSuchRank) (subst (λ (w : Sight P). before.steps ≤ w.steps) (sym same) (omega arith))
-      (subst (λ (w : Sight P). w.steps ≤ before.steps + 2 * name.limits.ranks) (sym same) (omega arith)) (λ above. same)
-      (subst (λ (w : Sight P). IsPrefix before.cached w.cached) (sym same) ([], append-nil before.cached)) (ap (λ (w : Sight P). w.caches) same)
-      (subst (λ (w : Sight P). IsView meld (view_at name w)) (sym same) of) (subst (λ (w : Sight P). Did alone [] before.seen w.seen) (sym same) (did_none alone before.seen))
-      (inr (inr (refl, refl, above)))
+      subst (λ (w : Sight P). Fails meld alone rank (view_at name before) (Refused NoSuchRank) (view_at name w)) (sym same) (record {
+        words = refl;
+        of = of;
+        run = record {
+          span = span_ends Outside [] false (did_none alone before.seen) (did_none alone before.seen) of.legal;
+          no_look = refl;
+          answer = inr (inr (refl, refl, above));
+        };
+        at_end = refl;
+        steps = omega arith;
+        no_step = λ above. refl;
+        onward = omega arith;
+        cached = ([], append-nil before.cached);
+        caches = refl;
+      })

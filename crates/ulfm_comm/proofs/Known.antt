@@ -35,19 +35,9 @@ one_round true false j k is = absurd (cc is)
 -- what a record holds that has seen more is as it was, and blocks that are set stay so
 pub blocks_of : {P : Type 0} (own new : Record) (asked : Call P) (cached longer : List Beside) → ((c : ℕ) → held_at new c ≡ held_at own c)
     → IsPrefix cached longer → BlocksStand own asked cached → BlocksStand new asked longer
-blocks_of own new (call.Fail rank) cached longer same begins stand = tt
-blocks_of own new (call.GetFailed rank c) cached longer same begins stand = tt
-blocks_of own new (call.FailureGetAcked rank c) cached longer same begins stand = tt
-blocks_of own new (call.Ack rank c count) cached longer same begins stand = tt
-blocks_of own new (call.FailureAck rank c) cached longer same begins stand = tt
-blocks_of own new (call.Agree rank c value) cached longer same begins stand = tt
-blocks_of own new (call.Shrink rank c) cached longer same begins stand = tt
-blocks_of own new (call.Barrier rank c) cached longer same begins stand = tt
 blocks_of own new (call.Poll rank c) cached longer same begins stand = λ x shrinks k held open_is side is. has_block_stays cached longer
     (block_at c k side) begins (stand x shrinks k (sym (same c) ∙ held) open_is side is)
-blocks_of own new (call.Revoke rank c) cached longer same begins stand = tt
-blocks_of own new (call.IsRevoked rank c) cached longer same begins stand = tt
-blocks_of own new (call.Free rank c) cached longer same begins stand = tt
+blocks_of own new _ cached longer same begins stand = tt
 
 pub blocks_later : {P : Type 0} (own : Record) (asked : Call P) (cached longer : List Beside) → IsPrefix cached longer → BlocksStand own asked cached
     → BlocksStand own asked longer
@@ -129,17 +119,7 @@ refused_stand {P} own x (call.Poll rank c) refusal cached held is = λ y shrinks
     let same : x ≡ y = cc both in
     let other : None ≡ Some (agreement shrinks k) = sym none ∙ (ap (λ (z : Held). z.request) same ∙ open_is) in
     absurd (cc other)
-refused_stand own x (call.Fail rank) refusal cached held is = tt
-refused_stand own x (call.GetFailed rank c) refusal cached held is = tt
-refused_stand own x (call.FailureGetAcked rank c) refusal cached held is = tt
-refused_stand own x (call.Ack rank c count) refusal cached held is = tt
-refused_stand own x (call.FailureAck rank c) refusal cached held is = tt
-refused_stand own x (call.Agree rank c value) refusal cached held is = tt
-refused_stand own x (call.Shrink rank c) refusal cached held is = tt
-refused_stand own x (call.Barrier rank c) refusal cached held is = tt
-refused_stand own x (call.Revoke rank c) refusal cached held is = tt
-refused_stand own x (call.IsRevoked rank c) refusal cached held is = tt
-refused_stand own x (call.Free rank c) refusal cached held is = tt
+refused_stand own x _ refusal cached held is = tt
 
 -- what a start or a revocation answers tells of no round
 pub start_of_none : (P : Type 0) (settled : Result (Unit {0}) Settled) → is_of_round {P = P} (reply_of (λ _. Started) (start_result settled)) ≡ false

@@ -79,17 +79,7 @@ idle_poll own x (call.Poll rank c) refusal polls is = by_request x.request is
     by_request : (request : Option Request) → first_refusal ((not (is_some request), Idle) ∷ []) ≡ Some refusal → request ≡ None
     by_request None is = refl
     by_request (Some request) is = absurd (cc is)
-idle_poll own x (call.Fail rank) refusal polls is = absurd (cc polls)
-idle_poll own x (call.GetFailed rank c) refusal polls is = absurd (cc polls)
-idle_poll own x (call.FailureGetAcked rank c) refusal polls is = absurd (cc polls)
-idle_poll own x (call.Ack rank c count) refusal polls is = absurd (cc polls)
-idle_poll own x (call.FailureAck rank c) refusal polls is = absurd (cc polls)
-idle_poll own x (call.Agree rank c value) refusal polls is = absurd (cc polls)
-idle_poll own x (call.Shrink rank c) refusal polls is = absurd (cc polls)
-idle_poll own x (call.Barrier rank c) refusal polls is = absurd (cc polls)
-idle_poll own x (call.Revoke rank c) refusal polls is = absurd (cc polls)
-idle_poll own x (call.IsRevoked rank c) refusal polls is = absurd (cc polls)
-idle_poll own x (call.Free rank c) refusal polls is = absurd (cc polls)
+idle_poll own x _ refusal polls is = absurd (cc polls)
 
 module _ {P : Type 0} (meld : P → P → P) (alone : Bool) (name : Over P) (asked : Call P) (old : Record) (before : Sight P) (new : Record) (after : Sight P) where
   -- a reply that isn't pending, and isn't for want of memory

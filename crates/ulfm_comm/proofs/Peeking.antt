@@ -25,8 +25,8 @@ use Rattle.ulfm_steps.specs.Turns.{running}
 use Rattle.ulfm_comm.specs.{Polls.{PollHasMarked}, Requests.{agreement}, Phase.{Stands, next_step}, StepsLeft.{MakesStep}}
 use Rattle.ulfm_comm.specs.Agreement.{HasPeeked, HasReadAll, IsMarking, IsPeeking}
 use Rattle.ulfm_comm.specs.declared.phases.phase.Phase.TheVariants.{Marking, Peeking, Reading}
-use Rattle.ulfm_comm.proofs.{Agreement.{all_in, polls_stand, reading_begins, some_member}, AmongOthers.{did_loosely}, Holding.{exists_is, group_is, holds, same_held}}
-use Rattle.ulfm_comm.proofs.Polls.{open_round}
+use Rattle.ulfm_comm.proofs.{Agreement.{all_in, polls_stand, reading_begins, some_member}, AmongOthers.{did_loosely}, Holding.{holds, same_held}}
+use Rattle.ulfm_comm.proofs.Polls.{open_members}
 use Rattle.ulfm_comm.specs.Local.{frame, local}
 use Rattle.ulfm_comm.specs.Requests.{polled_round}
 use Rattle.ulfm_comm.specs.Prepared.{Prepared}
@@ -66,13 +66,8 @@ module _ {P : Type 0} (meld : P → P → P) (limits : Limits) (alone : Bool) (c
   peeking_round : IsLegal meld limits now → IsRoundOf limits now peek.comm peek.round p.x.group
   peeking_round legal =
       let fits : Fits meld limits now own = fits_stays meld limits p.look now own (did_prefix alone [] p.look now p.waited) legal p.fits in
-      let round : IsRoundOf limits now c peek.round p.x.group =
-      record {
-        exists = exists_is meld limits now own c p.x fits p.held;
-        group_is = group_is meld limits now own c p.x fits p.held;
-        in_rounds = open_round meld limits now own c peek.round shrinks p.x legal fits p.held p.open_is;
-      } in
-      subst (λ w. IsRoundOf limits now w peek.round p.x.group) (sym p.there) round
+      subst (λ w. IsRoundOf limits now w peek.round p.x.group) (sym p.there)
+      (open_members meld limits now own c peek.round shrinks p.x legal fits p.held p.open_is)
 
   -- after a further load
   peeking_on : (quiet : Bool) → (IsTrue alone → IsTrue quiet) → (after : History P) → Did quiet [] now after → (next : Peek P) → next.comm ≡ peek.comm

@@ -25,9 +25,9 @@ use Rattle.ulfm_model.proofs.{Stable.{decision_is, fits_stays}, StepsRounds.{IsF
 use Rattle.ulfm_words.proofs.Trails.{did_prefix, did_quiet, did_wait}
 use Rattle.ulfm_model.specs.Blocks.{IsSummed}
 use Rattle.ulfm_model.specs.Records.{moment}
-use Rattle.ulfm_steps.specs.Marks.{IsMarkOf}
+use Rattle.ulfm_steps.specs.{Marks.{IsMarkOf}, Rounds.{IsRoundOf}}
 use Rattle.ulfm_comm.specs.{Ends.{IsEndRun}, Polls.{PollHasMarked}, Requests.{agreement}}
-use Rattle.ulfm_comm.proofs.{Holding.{comm_is, failed_is, group_is, holds}, WholeCall.{held_before, replied}}
+use Rattle.ulfm_comm.proofs.{Holding.{comm_is, exists_is, failed_is, group_is, holds}, WholeCall.{held_before, replied}}
 use Rattle.ulfm_comm.specs.Local.{frame}
 use Rattle.ulfm_comm.specs.Requests.{polled_round}
 
@@ -82,6 +82,16 @@ open_round meld limits h own c k shrinks x legal fits held open_is =
     (holds meld limits h own c x fits held).request) in
     let stands = given_stands meld limits h legal x.comm k own.number mine.0 mine.1 in
     (slot_stands meld limits h legal x.comm k own.number (Given mine.0) stands).place.in_rounds
+
+-- that is one of the members' of its communicator
+pub open_members : {P : Type 0} (meld : P → P → P) (limits : Limits) (h : History P) (own : Record) (c k : ℕ) (shrinks : Bool) (x : Held) → IsLegal meld limits h
+    → Fits meld limits h own → held_at own c ≡ Some x → x.request ≡ Some (agreement shrinks k) → IsRoundOf limits h c k x.group
+open_members meld limits h own c k shrinks x legal fits held open_is =
+    record {
+      exists = exists_is meld limits h own c x fits held;
+      group_is = group_is meld limits h own c x fits held;
+      in_rounds = open_round meld limits h own c k shrinks x legal fits held open_is;
+    }
 
 -- what was read of all members of a round is its decision
 module _ {P : Type 0} (meld : P → P → P) (limits : Limits) (h : History P) (own : Record) (c k : ℕ) (x : Held) (legal : IsLegal meld limits h)

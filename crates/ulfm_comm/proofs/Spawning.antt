@@ -31,7 +31,7 @@ use Rattle.ulfm_comm.specs.{Spawning.{Holds, IsFullBy, IsMadeBy, MayHold, MayGoS
 use Rattle.ulfm_comm.specs.{Phase.{Answered, Stands}, Agreement.{HasReadAll}}
 use Rattle.ulfm_steps.proofs.ReadingOn.{passing_grow}
 use Rattle.ulfm_steps.specs.Rounds.{round_on}
-use Rattle.ulfm_comm.proofs.{StepAdds.{adds_none}, Stands.{decided_on}}
+use Rattle.ulfm_comm.proofs.{StepAdds.{adds_none}, Stands.{decided_on, reads_stay}}
 use Rattle.ulfm_comm.proofs.{CallRuns.{calls_is, runs_out_after}, Children.{passed_parent}, Holding.{comm_is, exists_is, failed_is, group_is, group_rises}, AmongOthers.{did_loosely}}
 use Rattle.ulfm_comm.proofs.{Polls.{body_read, enough_read, later, not_refused, open_round, read_decided, read_fresh, polls_it}}
 use Rattle.ulfm_comm.proofs.Shrinks.{all_did, marks_make_none, may_own, sees_on, shrink_decided, shrink_mismatch, shrink_no_context, shrink_no_room}
@@ -48,12 +48,6 @@ reads_of group count on old new whole at enough goes begins =
     let few = at.few in
     let same : on.found ≡ count = omega (arith, few, enough) in
     record { goes_on = goes; begins = begins; within = at.within; counted = sym at.counted ∙ same }
-
--- they do so while the list grows
-pub reads_stay : (group : List ℕ) (count : ℕ) (old new whole longer : List ℕ) (reach : ℕ) → ReadsOn group count old new whole reach → IsPrefix whole longer
-    → ReadsOn group count old new longer reach
-reads_stay group count old new whole longer reach reads more =
-    record { goes_on = reads.goes_on; begins = prefix_trans new whole longer reads.begins more; within = reads.within; counted = reads.counted }
 
 -- the poll of a shrink is answered, with its point at its end
 pub answered_with : {P : Type 0} (meld : P → P → P) (alone : Bool) (name : Over P) (asked : Call P) (old : Record) (before : Sight P) (reply : Reply P)

@@ -8,7 +8,7 @@ use Rattle.ulfm_model.specs.{Answers.{polled_by}, History.{History, IsLegal, fai
 use Rattle.ulfm_model.specs.{Blocks.{has_block}, History.{slot}, declared.{block.Block.{Block}, block.Wing.{Wing}, contribution.Slot.{Slot}}}
 use Rattle.ulfm_model.proofs.{Blocks.{block_stays, has_block_stays, has_wing_stays}, Histories.{failures_begin, slot_stays}, Lists.{prefix_trans}}
 use Rattle.ulfm_words.specs.{Blocks.{IsBlockIn, IsFirstOf}, Slots.{offer_wing}}
-use Rattle.ulfm_steps.specs.Blocks.{HoldsFirst, HoldsHalf, block_at, next_in_block}
+use Rattle.ulfm_steps.specs.{Blocks.{HoldsFirst, HoldsHalf, block_at, next_in_block}, ReadsOn.{ReadsOn}}
 use Rattle.ulfm_steps.proofs.KnownBlocks.{spread_later}
 use Rattle.ulfm_model.specs.Terms.{comm_of}
 use Rattle.ulfm_model.specs.Records.{moment}
@@ -28,6 +28,12 @@ use Rattle.ulfm_comm.specs.Local.{frame, local}
 use Rattle.ulfm_comm.specs.Requests.{polled_round}
 use Rattle.ulfm_comm.specs.Spawning.{decided_as, sought}
 use Rattle.ulfm_comm.specs.Prepared.{Prepared}
+
+-- a decision's failed group is read as far as before, while the list of failures grows
+pub reads_stay : (group : List ℕ) (count : ℕ) (old new whole longer : List ℕ) (reach : ℕ) → ReadsOn group count old new whole reach → IsPrefix whole longer
+    → ReadsOn group count old new longer reach
+reads_stay group count old new whole longer reach reads more =
+    record { goes_on = reads.goes_on; begins = prefix_trans new whole longer reads.begins more; within = reads.within; counted = reads.counted }
 
 -- A shrink's round is decided: so it stays when others' events come, and a longer beginning of the list of failures is seen.
 module _ {P : Type 0} (meld : P → P → P) (limits : Limits) (alone : Bool) (c k : ℕ) (mask : CtxMask) (x : Held) (count : ℕ) (old : Record) (before : History P)
@@ -149,12 +155,7 @@ module _ {P : Type 0} (meld : P → P → P) (limits : Limits) (alone : Bool) (o
         count = p.count;
         decided = decided_lasts c p.round p.mask p.x p.count p.decided;
         lowest = p.lowest;
-        reads = record {
-          goes_on = p.reads.goes_on;
-          begins = prefix_trans own.seen (failures now) (failures later) p.reads.begins more_failures;
-          within = p.reads.within;
-          counted = p.reads.counted;
-        };
+        reads = reads_stay p.x.group p.count p.decided.mid.seen own.seen (failures now) (failures later) reach p.reads more_failures;
         stays = p.stays;
         left = p.left;
         item = p.item;
@@ -300,17 +301,4 @@ module _ {P : Type 0} (meld : P → P → P) (alone : Bool) (name : Named P) (as
       let same : polled_by {P = P} own asked ≡ polled_by {P = P} old (call.Poll old.number (comm_of asked)) = ap (λ (w : Record). polled_by {P = P} w asked)
       (by_looked d.mid d.marked.look d.marked.looked d.own_is) ∙ ap (λ (a : Call P). polled_by {P = P} old a) p.0 in
       ap is_shrink same ∙ shrinking
-  stands_shrinks Over reads p = absurd (cc reads)
-  stands_shrinks Begun reads p = absurd (cc reads)
-  stands_shrinks Looking reads p = absurd (cc reads)
-  stands_shrinks (Spreading request offer) reads p = absurd (cc reads)
-  stands_shrinks (Settling request offer) reads p = absurd (cc reads)
-  stands_shrinks (Arriving round) reads p = absurd (cc reads)
-  stands_shrinks Revoking reads p = absurd (cc reads)
-  stands_shrinks Asking reads p = absurd (cc reads)
-  stands_shrinks (Peeking peek shrinks) reads p = absurd (cc reads)
-  stands_shrinks (Marking marks blocks shrinks) reads p = absurd (cc reads)
-  stands_shrinks (Reading reading shrinks) reads p = absurd (cc reads)
-  stands_shrinks (Spawning append context reach) reads p = absurd (cc reads)
-  stands_shrinks (Waiting arrivals) reads p = absurd (cc reads)
-  stands_shrinks (Checking missing) reads p = absurd (cc reads)
+  stands_shrinks _ reads p = absurd (cc reads)

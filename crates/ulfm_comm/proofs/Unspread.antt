@@ -33,16 +33,7 @@ reply_unspread : {P : Type 0} (meld : P → P → P) (limits : Limits) (view : A
     → Replies meld limits view old x asked reply → Replies meld limits (with_none view) old x asked reply
 reply_unspread meld limits view old x (call.Agree rank c value) reply starts finds is = start_unspread view old x (Flag value) reply finds is
 reply_unspread meld limits view old x (call.Shrink rank c) reply starts finds is = start_unspread view old x (Ctx (free_ids old.held)) reply finds is
-reply_unspread meld limits view old x (call.Fail rank) reply starts finds is = absurd (cc starts)
-reply_unspread meld limits view old x (call.GetFailed rank c) reply starts finds is = absurd (cc starts)
-reply_unspread meld limits view old x (call.FailureGetAcked rank c) reply starts finds is = absurd (cc starts)
-reply_unspread meld limits view old x (call.Ack rank c count) reply starts finds is = absurd (cc starts)
-reply_unspread meld limits view old x (call.FailureAck rank c) reply starts finds is = absurd (cc starts)
-reply_unspread meld limits view old x (call.Barrier rank c) reply starts finds is = absurd (cc starts)
-reply_unspread meld limits view old x (call.Poll rank c) reply starts finds is = absurd (cc starts)
-reply_unspread meld limits view old x (call.Revoke rank c) reply starts finds is = absurd (cc starts)
-reply_unspread meld limits view old x (call.IsRevoked rank c) reply starts finds is = absurd (cc starts)
-reply_unspread meld limits view old x (call.Free rank c) reply starts finds is = absurd (cc starts)
+reply_unspread meld limits view old x _ reply starts finds is = absurd (cc starts)
 
 by_record : {P : Type 0} (F G : Held → Type 0) (reply : Reply P) (held : Option Held) (refusal : Option Refusal) → ((x : Held) → held ≡ Some x → F x → G x) → RepliesBy F reply held refusal → RepliesBy G reply held refusal
 by_record F G reply held (Some refusal) turn is = is

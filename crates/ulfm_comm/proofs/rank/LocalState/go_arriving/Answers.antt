@@ -131,12 +131,8 @@ wins : (g : _) (c : After-set_arrival g) → IsTrue g.W.Words.alone → (event :
     → Comes g.P.Meld.meld (g.W.Words.name c.args.words.now).limits (Rank c.args.self.now.number) event (g.W.Words.sight c.args.pass.now).seen
     (g.W.Words.sight c.set_arrival.new.pass).seen
 wins g c here event is =
-    let limits = (g.W.Words.name c.args.words.now).limits in
-    let now = (g.W.Words.sight c.args.pass.now).seen in
-    let after = (g.W.Words.sight c.set_arrival.new.pass).seen in
-    let by = Rank c.args.self.now.number in
-    subst (λ e. Comes g.P.Meld.meld limits by e now after) (sym is)
-    (tried_comes g.P.Meld.meld limits by now after c.set_arrival.ensures.tries.of.legal g.W.Words.alone here
+    rw is (tried_comes g.P.Meld.meld (g.W.Words.name c.args.words.now).limits (Rank c.args.self.now.number) (g.W.Words.sight c.args.pass.now).seen
+    (g.W.Words.sight c.set_arrival.new.pass).seen c.set_arrival.ensures.tries.of.legal g.W.Words.alone here
     (Arrive (comm_of c.args.asked.now) c.args.round c.args.self.now.number) c.set_arrival.result (outcome g c)
     (λ same may.
     let clash = sym (arrived g c) ∙ (ap (λ w. has_arrived w (comm_of c.args.asked.now) c.args.round c.args.self.now.number) same ∙ may.1) in

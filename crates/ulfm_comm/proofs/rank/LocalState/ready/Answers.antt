@@ -1,7 +1,7 @@
-use Rattle.std.proofs.Common.{◌≡◌, ◌<◌, false, length, ap, sym, ◌∙◌, subst}
+use Rattle.std.proofs.Common.{◌≡◌, ◌<◌, Some, false, length, ap, sym, ◌∙◌, subst}
 use Rattle.ulfm_words.specs.Steps.{over}
 use Rattle.std.specs.List.Sorted.{IsStrictlyIncreasing}
-use Rattle.ulfm_model.specs.Records.{Fits, Held, held_at}
+use Rattle.ulfm_model.specs.{Records.{Fits, Held, held_at}, Terms.{comm_of}}
 use Rattle.ulfm_comm.proofs.{AlsoLeft.{follows_peeks, follows_waits}, Known.{knows_none}, StepsLeft.{passes_none, peeking_after, waiting_after}}
 use Rattle.ulfm_comm.proofs.{Holding.{group_rises, holds}, Ready.{just_fits, ready_peeking, ready_waiting}, Agreement.{some_member}}
 use Rattle.ulfm_comm.proofs.rank.LocalState.ready.Goals as goal
@@ -15,6 +15,15 @@ fits g c =
     just_fits g.P.Meld.meld false (over g.P.Packed.pack (g.W.Words.name c.args.words.now)) c.args.asked.now just.0 just.1 c.args.self.now
     (g.W.Words.sight c.args.pass.now) just.2 c.requires.of
 
+-- the communicator is held
+held : (g : _) (c : After-held_comm-x g) → held_at c.args.self.now (comm_of c.args.asked.now) ≡ Some c.held_comm-x.result.now
+held g c = ap (held_at c.args.self.now) (sym c.comm_of-comm.ensures) ∙ c.held_comm-x.ensures
+
+-- the rank is a member
+some : (g : _) (c : After-held_comm-x g) → 0 < length c.held_comm-x.result.now.group
+some g c = some_member _ _ (holds g.P.Meld.meld (g.W.Words.name c.args.words.now).limits (g.W.Words.sight c.args.pass.now).seen c.args.self.now
+    c.comm_of-comm.result _ (fits g c) c.held_comm-x.ensures).member
+
 -- the members that the code reads
 group : (g : _) (c : After-deref g) → c.deref.result.now ≡ c.held_comm-x.result.now.group
 group g c = c.deref.ensures.value ∙ ap (λ (y : Held). y.group) c.x.view_is
@@ -22,9 +31,7 @@ group g c = c.deref.ensures.value ∙ ap (λ (y : Held). y.group) c.x.view_is
 pub new-arrivals-requires-clause-some : goal.new-arrivals-requires-clause-some
 new-arrivals-requires-clause-some g c =
     let at = goal.at.new-arrivals-requires-clause-some g c in
-    let member = (holds g.P.Meld.meld (g.W.Words.name c.args.words.now).limits (g.W.Words.sight c.args.pass.now).seen c.args.self.now
-    c.comm_of-comm.result _ (fits g at.After-held_comm-x) c.held_comm-x.ensures).member in
-    subst (λ xs. 0 < length xs) (sym (group g at.After-deref)) (some_member _ _ member)
+    subst (λ xs. 0 < length xs) (sym (group g at.After-deref)) (some g at.After-held_comm-x)
 
 pub new-arrivals-requires-clause-rises : goal.new-arrivals-requires-clause-rises
 new-arrivals-requires-clause-rises g c =
@@ -54,50 +61,43 @@ returns-clause-turns g c = λ here alone old before just.
 
 pub returns-in-Some-clause-nearer : goal.returns-in-Some-clause-nearer
 returns-in-Some-clause-nearer g c =
-    let name = over g.P.Packed.pack (g.W.Words.name c.args.words.now) in
+    let at = (goal.at.returns-in-Some-clause-nearer g c).After-held_comm-x in
     let polls = c.requires.polls in
-    let held = ap (held_at c.args.self.now) (sym c.comm_of-comm.ensures) ∙ c.held_comm-x.ensures in
-    waiting_after name.limits c.args.self.now c.args.asked.now g.P.Meld.meld (g.W.Words.sight c.args.pass.now).seen c.requires.of.legal
-    (fits g (goal.at.returns-in-Some-clause-nearer g c).After-held_comm-x).seen c.requires.of.may_open.in_range.some_comms
+    waiting_after (g.W.Words.name c.args.words.now).limits c.args.self.now c.args.asked.now g.P.Meld.meld (g.W.Words.sight c.args.pass.now).seen
+    c.requires.of.legal (fits g at).seen c.requires.of.may_open.in_range.some_comms
     (passes_none c.args.self.now c.args.asked.now c.requires.passes)
-    polls.0 polls.1 c.held_comm-x.result.now polls.2 held c.in-Some.round c.new-arrivals.result
+    polls.0 polls.1 c.held_comm-x.result.now polls.2 (held g at) c.in-Some.round c.new-arrivals.result
     (sym (ap (λ (y : Held). y.request) c.x.view_is) ∙ c.in-Some.ensures)
 
 pub returns-clause-nearer : goal.returns-clause-nearer
 returns-clause-nearer g c =
-    let name = over g.P.Packed.pack (g.W.Words.name c.args.words.now) in
+    let at = (goal.at.returns-clause-nearer g c).After-held_comm-x in
     let polls = c.requires.polls in
-    let here = fits g (goal.at.returns-clause-nearer g c).After-held_comm-x in
-    let held = ap (held_at c.args.self.now) (sym c.comm_of-comm.ensures) ∙ c.held_comm-x.ensures in
-    let member = (holds g.P.Meld.meld name.limits (g.W.Words.sight c.args.pass.now).seen c.args.self.now c.comm_of-comm.result _ here
-    c.held_comm-x.ensures).member in
-    peeking_after name.limits c.args.self.now c.args.asked.now g.P.Meld.meld (g.W.Words.sight c.args.pass.now).seen c.requires.of.legal here.seen
+    peeking_after (g.W.Words.name c.args.words.now).limits c.args.self.now c.args.asked.now g.P.Meld.meld (g.W.Words.sight c.args.pass.now).seen
+    c.requires.of.legal (fits g at).seen
     c.requires.of.may_open.in_range.some_comms (passes_none c.args.self.now c.args.asked.now c.requires.passes)
-    polls.0 polls.1 c.held_comm-x.result.now polls.2 held c.in-Some-agreement.round c.in-Some-agreement.shrinks c.new-peek.result
-    (sym (ap (λ (y : Held). y.request) c.x.view_is) ∙ c.in-Some-agreement.ensures) (some_member _ _ member)
+    polls.0 polls.1 c.held_comm-x.result.now polls.2 (held g at) c.in-Some-agreement.round c.in-Some-agreement.shrinks c.new-peek.result
+    (sym (ap (λ (y : Held). y.request) c.x.view_is) ∙ c.in-Some-agreement.ensures) (some g at)
 
 pub returns-in-Some-clause-also : goal.returns-in-Some-clause-also
 returns-in-Some-clause-also g c =
-    let name = over g.P.Packed.pack (g.W.Words.name c.args.words.now) in
+    let at = (goal.at.returns-in-Some-clause-also g c).After-held_comm-x in
     let polls = c.requires.polls in
-    let held = ap (held_at c.args.self.now) (sym c.comm_of-comm.ensures) ∙ c.held_comm-x.ensures in
-    follows_waits name.limits c.args.self.now c.args.asked.now polls.0 polls.1 polls.2 (passes_none c.args.self.now c.args.asked.now c.requires.passes)
-    c.held_comm-x.result.now held
-    g.P.Meld.meld (g.W.Words.sight c.args.pass.now).seen c.requires.of.legal (fits g (goal.at.returns-in-Some-clause-also g c).After-held_comm-x).seen
+    follows_waits (g.W.Words.name c.args.words.now).limits c.args.self.now c.args.asked.now polls.0 polls.1 polls.2
+    (passes_none c.args.self.now c.args.asked.now c.requires.passes)
+    c.held_comm-x.result.now (held g at)
+    g.P.Meld.meld (g.W.Words.sight c.args.pass.now).seen c.requires.of.legal (fits g at).seen
     c.in-Some.round c.new-arrivals.result (sym (ap (λ (y : Held). y.request) c.x.view_is) ∙ c.in-Some.ensures)
 
 pub returns-clause-also : goal.returns-clause-also
 returns-clause-also g c =
-    let name = over g.P.Packed.pack (g.W.Words.name c.args.words.now) in
+    let at = (goal.at.returns-clause-also g c).After-held_comm-x in
     let polls = c.requires.polls in
-    let here = fits g (goal.at.returns-clause-also g c).After-held_comm-x in
-    let held = ap (held_at c.args.self.now) (sym c.comm_of-comm.ensures) ∙ c.held_comm-x.ensures in
-    let member = (holds g.P.Meld.meld name.limits (g.W.Words.sight c.args.pass.now).seen c.args.self.now c.comm_of-comm.result _ here
-    c.held_comm-x.ensures).member in
-    follows_peeks name.limits c.args.self.now c.args.asked.now polls.0 polls.1 polls.2 (passes_none c.args.self.now c.args.asked.now c.requires.passes)
-    c.held_comm-x.result.now held
+    follows_peeks (g.W.Words.name c.args.words.now).limits c.args.self.now c.args.asked.now polls.0 polls.1 polls.2
+    (passes_none c.args.self.now c.args.asked.now c.requires.passes)
+    c.held_comm-x.result.now (held g at)
     c.in-Some-agreement.round c.in-Some-agreement.shrinks c.new-peek.result (sym (ap (λ (y : Held). y.request) c.x.view_is) ∙ c.in-Some-agreement.ensures)
-    (c.new-peek.ensures.comm ∙ c.comm_of-comm.ensures) c.new-peek.ensures.round c.new-peek.ensures.side (some_member _ _ member)
+    (c.new-peek.ensures.comm ∙ c.comm_of-comm.ensures) c.new-peek.ensures.round c.new-peek.ensures.side (some g at)
 
 pub returns-clause-knows : goal.returns-clause-knows
 returns-clause-knows g c = λ cached. knows_none cached c.new-peek.result.comm c.new-peek.result.round c.new-peek.result.blocks c.new-peek.ensures.none
