@@ -7,7 +7,7 @@ use Rattle.ulfm_model.specs.declared.reply.Reply.TheVariants as reply
 use Rattle.ulfm_script.specs.declared.line_kind.LineKind.{LineKind}
 use Rattle.ulfm_script.specs.declared.line_kind.LineKind.TheVariants.{Words}
 use Rattle.ulfm_script.specs.{Printed.{reply_text}, Steps.{◌>>=◌}, Words.{first_word, next_word}}
-use Rattle.ulfm_script.proofs.WordLemmas.{done, joined, joined_word, next_before}
+use Rattle.ulfm_script.proofs.WordLemmas.{done, joined, joined_word, next_before, word_before}
 use Rattle.ulfm_lines.specs.EventReading.{arrive_event, event_from, event_of, read_fail, mark_event, revoke_event, settle_event, spawn_event}
 use Rattle.ulfm_lines.specs.Fields.{Field, comm_field, caller_field, flag_field, is_word_text, label_field, number_field, over, place_field, rank_field}
 use Rattle.ulfm_lines.specs.LineReading.{SomeReply, acked_reply, alone, called_line, failed_reply, happened_line, line_from, line_head, looked_line, read_agreed, read_plain, read_shrunk, refusal_field, refused_reply, replied_line, reply_from, some_reply_of}
@@ -46,21 +46,10 @@ no_word false x f e = e
 
 -- lines
 
-pub called_ahead : (text rest : List ℕ) → text ≡ codes "call " ++ rest → line_head text ≡ called_line (Some rest)
+-- a text that begins with a verb and a space is the line that is read of the verb and what stands behind it
+pub line_ahead : (verb text rest : List ℕ) → is_word_text verb ≡ true → text ≡ verb ++ 32 ∷ rest → line_from (verb, Some rest) ≡ line_head text
 unfolding line_head
-called_ahead text rest e = rw e refl
-
-pub looked_ahead : (text rest : List ℕ) → text ≡ codes "look " ++ rest → line_head text ≡ looked_line (Some rest)
-unfolding line_head
-looked_ahead text rest e = rw e refl
-
-pub replied_ahead : (text rest : List ℕ) → text ≡ codes "reply " ++ rest → line_head text ≡ replied_line (Some rest)
-unfolding line_head
-replied_ahead text rest e = rw e refl
-
-pub happened_ahead : (text rest : List ℕ) → text ≡ codes "event " ++ rest → line_head text ≡ happened_line (Some rest)
-unfolding line_head
-happened_ahead text rest e = rw e refl
+line_ahead verb text rest word e = sym (ap (λ (t : List ℕ). line_from (first_word t)) e ∙ ap line_from (word_before [] verb rest (literal verb word).free))
 
 lineless : (w : List ℕ) → line_from (w, None) ≡ Err Words
 unfolding called_line looked_line happened_line replied_line caller_field rank_field next_word
@@ -83,29 +72,10 @@ no_line text call look answer event = line_by text (first_word text).1 refl call
 
 -- events
 
-pub settle_ahead : (text rest : List ℕ) → text ≡ codes "settle " ++ rest → event_of (Some text) ≡ settle_event (Some rest)
-unfolding event_of next_word
-settle_ahead text rest e = rw e refl
-
-pub arrive_ahead : (text rest : List ℕ) → text ≡ codes "arrive " ++ rest → event_of (Some text) ≡ arrive_event (Some rest)
-unfolding event_of next_word
-arrive_ahead text rest e = rw e refl
-
-pub mark_ahead : (text rest : List ℕ) → text ≡ codes "mark " ++ rest → event_of (Some text) ≡ mark_event (Some rest)
-unfolding event_of next_word
-mark_ahead text rest e = rw e refl
-
-pub fail_ahead : (text rest : List ℕ) → text ≡ codes "fail " ++ rest → event_of (Some text) ≡ read_fail (Some rest)
-unfolding event_of next_word
-fail_ahead text rest e = rw e refl
-
-pub revoke_ahead : (text rest : List ℕ) → text ≡ codes "revoke " ++ rest → event_of (Some text) ≡ revoke_event (Some rest)
-unfolding event_of next_word
-revoke_ahead text rest e = rw e refl
-
-pub spawn_ahead : (text rest : List ℕ) → text ≡ codes "spawn " ++ rest → event_of (Some text) ≡ spawn_event (Some rest)
-unfolding event_of next_word
-spawn_ahead text rest e = rw e refl
+-- so is an event
+pub event_ahead : (verb text rest : List ℕ) → is_word_text verb ≡ true → text ≡ verb ++ 32 ∷ rest → event_from (verb, Some rest) ≡ event_of (Some text)
+unfolding event_of
+event_ahead verb text rest word e = rw (e, next_before verb rest (literal verb word)) refl
 
 eventless : (w : List ℕ) → event_from (w, None) ≡ Err Words
 unfolding read_fail settle_event mark_event arrive_event revoke_event spawn_event place_field comm_field rank_field next_word
@@ -136,25 +106,10 @@ event_nowhere = refl
 
 -- replies
 
-pub agreed_ahead : (text rest : List ℕ) → text ≡ codes "agreed " ++ rest → some_reply_of (Some text) ≡ read_agreed (Some rest)
-unfolding some_reply_of next_word
-agreed_ahead text rest e = rw e refl
-
-pub shrunk_ahead : (text rest : List ℕ) → text ≡ codes "shrunk " ++ rest → some_reply_of (Some text) ≡ read_shrunk (Some rest)
-unfolding some_reply_of next_word
-shrunk_ahead text rest e = rw e refl
-
-pub failed_ahead : (text rest : List ℕ) → text ≡ codes "failed " ++ rest → some_reply_of (Some text) ≡ failed_reply (Some rest)
-unfolding some_reply_of next_word
-failed_ahead text rest e = rw e refl
-
-pub acked_ahead : (text rest : List ℕ) → text ≡ codes "acked " ++ rest → some_reply_of (Some text) ≡ acked_reply (Some rest)
-unfolding some_reply_of next_word
-acked_ahead text rest e = rw e refl
-
-pub refused_ahead : (text rest : List ℕ) → text ≡ codes "refused " ++ rest → some_reply_of (Some text) ≡ refused_reply (Some rest)
-unfolding some_reply_of next_word
-refused_ahead text rest e = rw e refl
+-- so is a reply
+pub reply_ahead : (verb text rest : List ℕ) → is_word_text verb ≡ true → text ≡ verb ++ 32 ∷ rest → reply_from (verb, Some rest) ≡ some_reply_of (Some text)
+unfolding some_reply_of
+reply_ahead verb text rest word e = rw (e, next_before verb rest (literal verb word)) refl
 
 pub reply_nowhere : some_reply_of None ≡ Err Words
 unfolding some_reply_of next_word

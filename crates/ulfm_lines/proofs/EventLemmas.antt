@@ -1,7 +1,7 @@
 -- An event that a line tells is read from it, and one that is read is told by it.
 use Rattle.std.proofs.Common.{◌≡◌, ℕ, ◌<◌, ◌≤◌, List, ◌∷◌, ◌++◌, Option, Some, None, Result, Ok, Err, refl, sym, ap, subst, ◌∙◌, inl, inr, arith}
 use Rattle.std.specs.{Prelude.{⊤, codes, min}, Coded.{le_prop}, Fmt.{decimal}}
-use Rattle.std.proofs.lemmas.{Bool.{cases_lt, lt-leb, le-leb, lt-ltb, le-ltb}}
+use Rattle.std.proofs.lemmas.Bool.{cases_lt, lt-leb, le-leb, lt-ltb, le-ltb}
 use Rattle.ulfm_laws.specs.{Counts.{same_acked, same_known}, declared.{summary.Acked.{Acked}, flag_and.FlagAnd.{FlagAnd}, summary.Known.{Known}}}
 use Rattle.ulfm_model.specs.declared.{contribution.Contribution.{Contribution}, contribution.MarkCount.{MarkCount}, contribution.Offer.{Offer}, event.Event.TheVariants.{Fail, Settle, Mark, Arrive, Revoke, Spawn}}
 use Rattle.ulfm_model.specs.Computed.{given_at, mark_at}

@@ -1,4 +1,5 @@
 pub mod Beginnings
+pub mod Bystanders
 pub mod Calls
 pub mod EventLemmas
 pub mod FieldLemmas

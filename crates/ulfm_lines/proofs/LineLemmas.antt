@@ -8,7 +8,7 @@ use Rattle.ulfm_script.specs.{Calls.{ScriptCall, call_of}, Spelling.{is_padded},
 use Rattle.ulfm_script.proofs.{Spelled.{read_is_spelled, spelled_again, verb_found}, WordLemmas.{joined, joined_word, step_found}}
 use Rattle.ulfm_lines.specs.{EventReading.{ReadEvent, event_of}, Fields.{Field, both, caller_field, number_field, point_field, rank_field, whole}, LineReading.{SomeReply, called_line, happened_line, line_from, line_head, line_listing, looked_line, replied_line, some_reply_of}, LineTexts.{TraceLine, caller_text, two_text}, Telling.{AreRanks, CallerFits, TellsLine, behind_ranks}}
 use Rattle.ulfm_model.specs.declared.line.Line.TheVariants.{Called, Looked, Happened, Replied}
-use Rattle.ulfm_lines.proofs.{EventLemmas.{event_again, event_found}, FieldLemmas.{IsField, both_fields, is_caller, is_number, is_point, is_rank, same_field, whole_again, whole_found}, RankLemmas.{nobody}, ReplyLemmas.{reply_again, reply_found}}
+use Rattle.ulfm_lines.proofs.{EventLemmas.{event_again, event_found}, FieldLemmas.{IsField, both_fields, is_caller, is_number, is_point, is_rank, same_field, whole_again, whole_found}, RankLemmas.{nobody}, ReplyLemmas.{IsReadAs, reply_again, reply_found}}
 
 abbrev with_rest : {A : Type 0} → A → Option (List ℕ) → Field A
 with_rest x rest = Ok (x, rest)
@@ -92,13 +92,8 @@ unfolding line_head
 line_found text line rest e = subst (λ (t : List ℕ). LineListed t line rest) (joined_word text) (read_from (first_word text).0 (first_word text).1 line rest e)
 
 -- a line that tells something is read so
-pub record IsLineRead (text group : List ℕ) (told : TraceLine) : Type 0 where
-  pub head : TraceLine
-  pub rest : Option (List ℕ)
-  pub ranks : AreRanks group
-  pub behind : behind_ranks group ≡ rest
-  pub listed : line_listing (length group) head ≡ told
-  pub read : line_head text ≡ Ok (head, rest)
+abbrev pub IsLineRead : List ℕ → List ℕ → TraceLine → Type 0
+IsLineRead text group told = IsReadAs line_listing (line_head text) group told
 
 -- what is told is read
 

@@ -20,14 +20,18 @@ use Rattle.ulfm_lines.proofs.Literals.{and_true, literal}
 abbrev pub Listed : List ℕ → SomeReply → Option (List ℕ) → Type 0
 Listed text told rest = (g : List ℕ) → AreRanks g → behind_ranks g ≡ rest → TellsReply text g (told_listing (length g) told)
 
--- a text that is told is read so
-pub record IsReadBack (text group : List ℕ) (told : SomeReply) : Type 0 where
-  pub head : SomeReply
+-- what was read, once its ranks are read, is what is told
+pub record IsReadAs {A : Type 0} (listing : ℕ → A → A) (reading : Field A) (group : List ℕ) (told : A) : Type 0 where
+  pub head : A
   pub rest : Option (List ℕ)
   pub ranks : AreRanks group
   pub behind : behind_ranks group ≡ rest
-  pub listed : told_listing (length group) head ≡ told
-  pub read : some_reply_of (Some text) ≡ Ok (head, rest)
+  pub listed : listing (length group) head ≡ told
+  pub read : reading ≡ Ok (head, rest)
+
+-- a text that is told is read so
+abbrev pub IsReadBack : List ℕ → List ℕ → SomeReply → Type 0
+IsReadBack text group told = IsReadAs told_listing (some_reply_of (Some text)) group told
 
 -- the replies of one word
 

@@ -8,8 +8,8 @@ use Rattle.ulfm_model.specs.declared.step_name.StepName.TheVariants as name
 use Rattle.ulfm_model.specs.declared.step_line.StepLine.TheVariants.{Called, Stepped, Before, Finished, Failed}
 use Rattle.ulfm_script.specs.declared.line_kind.LineKind.{LineKind}
 use Rattle.ulfm_script.specs.declared.line_kind.LineKind.TheVariants.{Number, Step, Verb, Words}
-use Rattle.ulfm_script.specs.{Calls.{ScriptCall, call_of}, Digits.{read_number, read_rank}, Spelling.{Spells, SpellsAs, is_padded}, Steps.{◌>>=◌}, Words.{one_of, two_of, first_word}}
-use Rattle.ulfm_script.proofs.{Numerals.{number_again, number_found, number_to_found}, Spelled.{chosen, number_is_word, rank_again, read_is_spelled, spelled_again, verb_found}, WordLemmas.{IsWord, joined, joined_word, one_again, one_found, same_done, step_found, two_again, two_found}}
+use Rattle.ulfm_script.specs.{Calls.{ScriptCall, call_of, rank_alone}, Digits.{read_number, read_rank}, Spelling.{Spells, SpellsAs, is_padded}, Steps.{◌>>=◌}, Words.{two_of, first_word}}
+use Rattle.ulfm_script.proofs.{Numerals.{number_again, number_found, number_to_found}, Spelled.{chosen, number_is_word, rank_again, rank_alone_again, rank_found, read_is_spelled, spelled_again, verb_found}, WordLemmas.{IsWord, joined, joined_word, same_done, step_found, two_again, two_found}}
 use Rattle.ulfm_lines.specs.{StepLines.{IsByRank, ScriptStep, SpellsStep, read_asked, before_of, read_failed, finished_of, step_from, step_line_of, stepped_of}, StepNames.{read_step_name, or_name, step_text}}
 use Rattle.ulfm_lines.proofs.Literals.{literal}
 
@@ -108,11 +108,11 @@ before_again rank name h =
 
 finished_again : (rank : ℕ) → rank < 1024 → finished_of (Some (decimal rank)) ≡ Ok (Finished rank)
 unfolding finished_of
-finished_again rank h = rw (one_again (decimal rank) (number_is_word rank (omega (arith, h))), rank_again rank h) refl
+finished_again rank h = rank_alone_again Finished rank h
 
 failed_again : (rank : ℕ) → rank < 1024 → read_failed (Some (decimal rank)) ≡ Ok (Failed rank)
 unfolding read_failed
-failed_again rank h = rw (one_again (decimal rank) (number_is_word rank (omega (arith, h))), rank_again rank h) refl
+failed_again rank h = rank_alone_again Failed rank h
 
 -- what is spelled so is read
 pub step_again : (line : List ℕ) (step : ScriptStep) → SpellsStep line step → step_line_of line ≡ Ok step
@@ -186,23 +186,18 @@ before_found fields step e =
           ∙ ap (λ (t : List ℕ). codes "before" ++ 32 ∷ (decimal r.0 ++ 32 ∷ t)) (name_found w.0.1 n.0 n.1),
     )
 
+-- a verb with a rank alone behind it
+alone_found : (verb : List ℕ) (made : ℕ → ScriptStep) → ((rank : ℕ) → rank < 1024 → SpellsStep (verb ++ 32 ∷ decimal rank) (made rank)) → Reads verb (rank_alone made)
+alone_found verb made spells fields step e =
+    let r = rank_found made fields step e in rw r.3 (subst (SpellsStep (verb ++ 32 ∷ decimal r.0)) r.1 (spells r.0 r.2))
+
 finished_found : Reads (codes "finish") finished_of
 unfolding finished_of
-finished_found fields step e =
-    let w = step_found (one_of fields) (λ w. read_rank w >>= λ rank. Ok (Finished rank)) step e in
-    let r = step_found (read_rank w.0) (λ rank. Ok (Finished rank)) step w.2 in
-    let rank = number_to_found 1023 r.0 w.0 r.1 in
-    subst (SpellsStep (joined (codes "finish") fields)) (same_done (Finished r.0) step r.2)
-    (omega (arith, rank.0), ap (joined (codes "finish")) (one_found fields w.0 w.1) ∙ ap (λ (t : List ℕ). codes "finish" ++ 32 ∷ t) rank.1)
+finished_found = alone_found (codes "finish") Finished (λ rank h. (h, refl))
 
 failed_found : Reads (codes "fail") read_failed
 unfolding read_failed
-failed_found fields step e =
-    let w = step_found (one_of fields) (λ w. read_rank w >>= λ rank. Ok (Failed rank)) step e in
-    let r = step_found (read_rank w.0) (λ rank. Ok (Failed rank)) step w.2 in
-    let rank = number_to_found 1023 r.0 w.0 r.1 in
-    subst (SpellsStep (joined (codes "fail") fields)) (same_done (Failed r.0) step r.2)
-    (omega (arith, rank.0), ap (joined (codes "fail")) (one_found fields w.0 w.1) ∙ ap (λ (t : List ℕ). codes "fail" ++ 32 ∷ t) rank.1)
+failed_found = alone_found (codes "fail") Failed (λ rank h. (h, refl))
 
 no_verb : (line : List ℕ) (step : ScriptStep) → (let r : Result ScriptStep LineKind = Err Verb in r) ≡ Ok step → SpellsStep line step
 no_verb line step e = absurd cc

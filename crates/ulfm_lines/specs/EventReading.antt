@@ -1,12 +1,11 @@
 -- What the text of an event tells.
-use Rattle.std.specs.Prelude.{ℕ, nat_le, nat_lt, ◌&&◌, List, codes, Option, Some, None, Result, Ok, Err, if◌then◌else◌}
-use Rattle.std.specs.Str.{bytes_eq}
+use Rattle.std.specs.Prelude.{ℕ, nat_le, nat_lt, ◌&&◌, List, [], ◌∷◌, codes, Option, Some, None, Result, Ok, Err, if◌then◌else◌}
 use Rattle.ulfm_laws.specs.declared.flag_and.FlagAnd.{FlagAnd}
 use Rattle.ulfm_model.specs.declared.{contribution.Offer.{Offer}, event.Event.TheVariants.{Fail, Settle, Mark, Arrive, Revoke, Spawn}}
 use Rattle.ulfm_model.specs.Computed.{given_at, mark_at}
 use Rattle.ulfm_script.specs.declared.line_kind.LineKind.{LineKind}
 use Rattle.ulfm_script.specs.declared.line_kind.LineKind.TheVariants.{Words}
-use Rattle.ulfm_script.specs.{Steps.{◌>>=◌}, Words.{next_word}}
+use Rattle.ulfm_script.specs.{Steps.{◌>>=◌}, Words.{by_verb, next_word}}
 use Rattle.ulfm_lines.specs.{Fields.{both, comm_field, labelled, number_field, offer_field, place_field, rank_field, whole}, LineTexts.{TraceEvent}}
 
 -- what is read of an event; none where no contribution and no mark has its counts
@@ -46,13 +45,8 @@ spawn_event text = whole (both comm_field (both comm_field number_field)) text >
 -- a verb, and the text behind it
 abbrev pub event_from : List ℕ × Option (List ℕ) → ReadEvent
 event_from first =
-    if bytes_eq first.0 (codes "fail") then read_fail first.1
-    else (if bytes_eq first.0 (codes "settle") then settle_event first.1
-    else (if bytes_eq first.0 (codes "mark") then mark_event first.1
-    else (if bytes_eq first.0 (codes "arrive") then arrive_event first.1
-    else (if bytes_eq first.0 (codes "revoke") then revoke_event first.1
-    else (if bytes_eq first.0 (codes "spawn") then spawn_event first.1
-    else Err Words)))))
+    by_verb ((codes "fail", read_fail) ∷ (codes "settle", settle_event) ∷ (codes "mark", mark_event)
+    ∷ (codes "arrive", arrive_event) ∷ (codes "revoke", revoke_event) ∷ (codes "spawn", spawn_event) ∷ []) (Err Words) first
 
 -- an event
 unfoldable pub event_of : Option (List ℕ) → ReadEvent

@@ -1,3 +1,4 @@
+pub mod Callers
 pub mod EventReading
 pub mod Fields
 pub mod LineReading

@@ -1,5 +1,5 @@
 -- What the text of a trace's line tells. Where it lists ranks, they stand behind what is read here.
-use Rattle.std.specs.Prelude.{ℕ, nat_lt, ◌&&◌, ◌==◌, true, false, List, [], codes, Option, Some, None, Result, Ok, Err, if◌then◌else◌}
+use Rattle.std.specs.Prelude.{ℕ, nat_lt, ◌&&◌, ◌==◌, true, false, List, [], ◌∷◌, codes, Option, Some, None, Result, Ok, Err, if◌then◌else◌}
 use Rattle.std.specs.Str.{bytes_eq}
 use Rattle.ulfm_laws.specs.declared.flag_and.FlagAnd.{FlagAnd}
 use Rattle.ulfm_model.specs.declared.{refusal.Refusal.{Refusal}, reply.Reply.{Reply}}
@@ -8,7 +8,7 @@ use Rattle.ulfm_model.specs.declared.reply.Reply.TheVariants as reply
 use Rattle.ulfm_model.specs.Answers.{printed}
 use Rattle.ulfm_script.specs.declared.line_kind.LineKind.{LineKind}
 use Rattle.ulfm_script.specs.declared.line_kind.LineKind.TheVariants.{Words}
-use Rattle.ulfm_script.specs.{Calls.{call_of}, Printed.{reply_text}, Spelling.{is_padded}, Steps.{◌>>=◌}, Words.{next_word, first_word}}
+use Rattle.ulfm_script.specs.{Calls.{call_of}, Printed.{reply_text}, Spelling.{is_padded}, Steps.{◌>>=◌}, Words.{by_verb, next_word, first_word}}
 use Rattle.ulfm_lines.specs.EventReading.{event_of}
 use Rattle.ulfm_lines.specs.Fields.{Field, both, caller_field, comm_field, error_field, flag_field, label_field, labelled, number_field, over}
 use Rattle.ulfm_lines.specs.Fields.{point_field, rank_field, whole}
@@ -90,12 +90,8 @@ word_reply word fields = over fields >>= λ last. alone (λ one. one) (read_plai
 -- a reply's first word, and the text behind it
 abbrev pub reply_from : List ℕ × Option (List ℕ) → Field SomeReply
 reply_from first =
-    if bytes_eq first.0 (codes "agreed") then read_agreed first.1
-    else (if bytes_eq first.0 (codes "shrunk") then read_shrunk first.1
-    else (if bytes_eq first.0 (codes "failed") then failed_reply first.1
-    else (if bytes_eq first.0 (codes "acked") then acked_reply first.1
-    else (if bytes_eq first.0 (codes "refused") then refused_reply first.1
-    else word_reply first.0 first.1))))
+    by_verb ((codes "agreed", read_agreed) ∷ (codes "shrunk", read_shrunk) ∷ (codes "failed", failed_reply)
+    ∷ (codes "acked", acked_reply) ∷ (codes "refused", refused_reply) ∷ []) (word_reply first.0 first.1) first
 
 -- a reply
 unfoldable pub some_reply_of : Option (List ℕ) → Field SomeReply
@@ -121,11 +117,7 @@ replied_line text = both caller_field point_field text >>= λ x. some_reply_of x
 -- a line's first word, and the text behind it
 abbrev pub line_from : List ℕ × Option (List ℕ) → Field TraceLine
 line_from first =
-    if bytes_eq first.0 (codes "call") then called_line first.1
-    else (if bytes_eq first.0 (codes "look") then looked_line first.1
-    else (if bytes_eq first.0 (codes "event") then happened_line first.1
-    else (if bytes_eq first.0 (codes "reply") then replied_line first.1
-    else Err Words)))
+    by_verb ((codes "call", called_line) ∷ (codes "look", looked_line) ∷ (codes "event", happened_line) ∷ (codes "reply", replied_line) ∷ []) (Err Words) first
 
 -- a line, but for the ranks that it lists
 unfoldable pub line_head : List ℕ → Field TraceLine

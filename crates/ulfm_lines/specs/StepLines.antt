@@ -1,5 +1,5 @@
 -- What a line of a step script asks for, or the first fault in it from the left; and the lines that spell it.
-use Rattle.std.specs.Prelude.{◌≡◌, ◌≢◌, ℕ, ◌<◌, List, ◌∷◌, ◌++◌, codes, length, Option, Some, None, Result, Ok, Err, ◌==◌, if◌then◌else◌}
+use Rattle.std.specs.Prelude.{◌≡◌, ◌≢◌, ℕ, ◌<◌, List, [], ◌∷◌, ◌++◌, codes, length, Option, Some, None, Result, Ok, Err, ◌==◌, if◌then◌else◌}
 use Rattle.std.specs.{Fmt.{decimal}, Str.{bytes_eq}}
 use Rattle.ulfm_laws.specs.declared.flag_and.FlagAnd.{FlagAnd}
 use Rattle.ulfm_model.specs.declared.call.Call.TheVariants as call
@@ -7,8 +7,8 @@ use Rattle.ulfm_model.specs.declared.step_line.StepLine.{StepLine}
 use Rattle.ulfm_model.specs.declared.step_line.StepLine.TheVariants.{Called, Stepped, Before, Finished, Failed}
 use Rattle.ulfm_script.specs.declared.line_kind.LineKind.{LineKind}
 use Rattle.ulfm_script.specs.declared.line_kind.LineKind.TheVariants.{Number, Verb, Words}
-use Rattle.ulfm_script.specs.{Calls.{ScriptCall, call_of}, Digits.{read_number, read_rank}, Spelling.{SpellsAs, is_padded}, Steps.{◌>>=◌}}
-use Rattle.ulfm_script.specs.Words.{one_of, two_of, first_word}
+use Rattle.ulfm_script.specs.{Calls.{ScriptCall, call_of, rank_alone}, Digits.{read_number, read_rank}, Spelling.{SpellsAs, is_padded}, Steps.{◌>>=◌}}
+use Rattle.ulfm_script.specs.Words.{by_verb, two_of, first_word}
 use Rattle.ulfm_lines.specs.StepNames.{read_step_name, step_text}
 
 -- a line of a step script
@@ -44,26 +44,16 @@ before_of fields = do
 
 -- a rank alone
 unfoldable pub finished_of : Option (List ℕ) → Result ScriptStep LineKind
-finished_of fields = do
-  word ← one_of fields
-  rank ← read_rank word
-  Ok (Finished rank)
+finished_of fields = rank_alone Finished fields
 
 unfoldable pub read_failed : Option (List ℕ) → Result ScriptStep LineKind
-read_failed fields = do
-  word ← one_of fields
-  rank ← read_rank word
-  Ok (Failed rank)
+read_failed fields = rank_alone Failed fields
 
 -- a verb, and the text behind it
 abbrev pub step_from : List ℕ × Option (List ℕ) → Result ScriptStep LineKind
 step_from first =
-    if bytes_eq first.0 (codes "call") then read_asked first.1
-    else (if bytes_eq first.0 (codes "step") then stepped_of first.1
-    else (if bytes_eq first.0 (codes "before") then before_of first.1
-    else (if bytes_eq first.0 (codes "finish") then finished_of first.1
-    else (if bytes_eq first.0 (codes "fail") then read_failed first.1
-    else Err Verb))))
+    by_verb ((codes "call", read_asked) ∷ (codes "step", stepped_of) ∷ (codes "before", before_of)
+    ∷ (codes "finish", finished_of) ∷ (codes "fail", read_failed) ∷ []) (Err Verb) first
 
 -- what a line asks for
 unfoldable pub step_line_of : List ℕ → Result ScriptStep LineKind

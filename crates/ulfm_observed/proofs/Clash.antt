@@ -11,6 +11,7 @@ use Rattle.ulfm_model.specs.declared.line.Line.{Line}
 use Rattle.ulfm_model.specs.declared.line.Line.TheVariants as line
 use Rattle.ulfm_model.specs.Traces.{IsLegalTrace, Told, nothing, said_by}
 use Rattle.ulfm_model.proofs.Kept.{kept_along, kept_nothing, limits_stay}
+use Rattle.ulfm_lines.proofs.Bystanders.{new_found}
 use Rattle.ulfm_observed.specs.declared.log.{Item.{Item}, Log.{Log}, Order.{Order}, Order.TheVariants.{Time, Ranks}, Seen.{Seen}, Seen.TheVariants.{Agreed, Shrunk, Whole}}
 use Rattle.ulfm_observed.specs.declared.log.Item.TheVariants as item
 use Rattle.ulfm_observed.specs.declared.{shows.Whose.TheVariants.{Everyone, Of}, step.Step.{Step}}
@@ -20,7 +21,7 @@ use Rattle.ulfm_observed.specs.{LogTexts.{Heard, heard_in}, Stages.{Shown, may_s
 use Rattle.ulfm_observed.specs.declared.walk.Walk.{Walk}
 use Rattle.ulfm_observed.specs.Refuted.{clash_in, counts_differ, decisions_differ, errors_differ, flags_differ, is_whole, new_walk, told_exceeds, walk_of, walks_clash}
 use Rattle.ulfm_observed.specs.Tells.{IsSaid}
-use Rattle.ulfm_observed.proofs.{Bounded.{decided_within}, Others.{new_found}, Walked.{along}}
+use Rattle.ulfm_observed.proofs.{Bounded.{decided_within}, Walked.{along}}
 use Rattle.ulfm_model.specs.Rounds.{Gave, IsDecision}
 
 -- where all lines are the log's in its order, a rank's own are
@@ -220,6 +221,17 @@ within_one limits r k h legal (Agreed None n e) reply seen decided flag gave = r
 within_one limits r k h legal (Shrunk comm context) reply seen decided flag gave = refl
 within_one limits r k h legal (Whole g) reply seen decided flag gave = refl
 
+-- what one walk was told hasn't a bit that another walk's flag lacks
+told_within : (limits : Limits) (r s k : ℕ) (h : History FlagAnd) → IsLegal flag_meld limits h → (one other : Walk) → IsSaid limits r k h one → IsSaid limits s k h other
+    → (x : Option Seen) (y : Option FlagAnd) → one.told ≡ x → other.gave ≡ y → told_exceeds x y ≡ false
+told_within limits r s k h legal one other a b (Some x) (Some flag) is it =
+    let tells = a.told x is in within_one limits s k h legal x tells.reply tells.seen_is tells.decided flag (b.gave flag it)
+told_within limits r s k h legal one other a b None y is it = refl
+told_within limits r s k h legal one other a b (Some (Agreed (Some v) n e)) None is it = refl
+told_within limits r s k h legal one other a b (Some (Agreed None n e)) None is it = refl
+told_within limits r s k h legal one other a b (Some (Shrunk comm context)) None is it = refl
+told_within limits r s k h legal one other a b (Some (Whole g)) None is it = refl
+
 module _ (limits : Limits) (r s k : ℕ) (h : History FlagAnd) (legal : IsLegal flag_meld limits h) (one other : Walk) (a : IsSaid limits r k h one) (b : IsSaid limits s k h other) where
   decisions_one : (x y : Option Seen) → one.told ≡ x → other.told ≡ y → decisions_differ x y ≡ false
   decisions_one (Some x) (Some y) is it =
@@ -231,26 +243,11 @@ module _ (limits : Limits) (r s k : ℕ) (h : History FlagAnd) (legal : IsLegal 
   decisions_one (Some (Shrunk comm context)) None is it = refl
   decisions_one (Some (Whole g)) None is it = refl
 
-  left_within : (x : Option Seen) (y : Option FlagAnd) → one.told ≡ x → other.gave ≡ y → told_exceeds x y ≡ false
-  left_within (Some x) (Some flag) is it = let tells = a.told x is in within_one limits s k h legal x tells.reply tells.seen_is tells.decided flag (b.gave flag it)
-  left_within None y is it = refl
-  left_within (Some (Agreed (Some v) n e)) None is it = refl
-  left_within (Some (Agreed None n e)) None is it = refl
-  left_within (Some (Shrunk comm context)) None is it = refl
-  left_within (Some (Whole g)) None is it = refl
-
-  right_within : (x : Option Seen) (y : Option FlagAnd) → other.told ≡ x → one.gave ≡ y → told_exceeds x y ≡ false
-  right_within (Some x) (Some flag) is it = let tells = b.told x is in within_one limits r k h legal x tells.reply tells.seen_is tells.decided flag (a.gave flag it)
-  right_within None y is it = refl
-  right_within (Some (Agreed (Some v) n e)) None is it = refl
-  right_within (Some (Agreed None n e)) None is it = refl
-  right_within (Some (Shrunk comm context)) None is it = refl
-  right_within (Some (Whole g)) None is it = refl
-
   no_clash : walks_clash one other ≡ false
   no_clash =
       all_one (decisions_differ one.told other.told) (told_exceeds one.told other.gave) (told_exceeds other.told one.gave)
-      (decisions_one one.told other.told refl refl) (left_within one.told other.gave refl refl) (right_within other.told one.gave refl refl)
+      (decisions_one one.told other.told refl refl) (told_within limits r s k h legal one other a b one.told other.gave refl refl)
+      (told_within limits s r k h legal other one b a other.told one.gave refl refl)
 
 below_is : (m n : ℕ) → nat_lt m n ≡ true → m < n
 below_is m n is = grind (arith, is)

@@ -6,7 +6,7 @@ use Rattle.ulfm_model.specs.declared.reply.Reply.TheVariants.{Started, Pending, 
 use Rattle.ulfm_model.specs.{Answers.{Effect, closed, comm_of, left_by, left_with, opened, printed, traits_of}, Answers.Effect.{Ends, ForGood, Keeps}}
 use Rattle.ulfm_model.specs.{History.{History, members}, Records.{Held, Record, change_at, held_at, new_held}}
 use Rattle.ulfm_model.proofs.Telling.{find_change}
-use Rattle.ulfm_observed.proofs.Others.{find_append}
+use Rattle.ulfm_lines.proofs.Bystanders.{find_append}
 
 abbrev is_worlds : Held → Bool
 is_worlds y = y.comm == 0

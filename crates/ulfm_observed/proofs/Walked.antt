@@ -1,7 +1,7 @@
 -- What a rank's own lines tell holds in every legal trace that has them.
 use Rattle.std.proofs.Common.{◌≡◌, ◌⊎◌, ℕ, ◌&&◌, Bool, true, false, List, [], ◌∷◌, filter, find, map, Option, Some, None, inl, inr, refl, ap, sym, ◌∙◌, subst, append-nil, IsTrue, if◌then◌else◌}
-use Rattle.std.specs.{Prelude.{⊤}}
-use Rattle.std.proofs.lemmas.{Bool.{eqb-true}}
+use Rattle.std.specs.Prelude.{⊤}
+use Rattle.std.proofs.lemmas.Bool.{eqb-true}
 use Rattle.std.specs.Option.{option_map_or}
 use mathlib.Core.List.{IsPrefix}
 use Rattle.ulfm_laws.specs.{Flags.{flag_meld}, declared.flag_and.FlagAnd.{FlagAnd}}
@@ -14,18 +14,19 @@ use Rattle.ulfm_model.specs.declared.line.Line.{Line}
 use Rattle.ulfm_model.specs.declared.line.Line.TheVariants as line
 use Rattle.ulfm_model.specs.Traces.{Told, AnswersRank, AreLegalAfter, MayCome, MayReply, Traced, Under, after, after_reply, call_by, caller_of, change_by, record_in, said_by, same_caller, taken_in, with_event}
 use Rattle.ulfm_model.proofs.{Callers.{find_change, same_is, same_rank}, Kept.{IsKept, kept_after, kept_along, limits_stay}}
+use Rattle.ulfm_lines.specs.Callers.{line_by}
 use Rattle.ulfm_observed.specs.declared.log.{Item.{Item}, Seen.{Seen}}
 use Rattle.ulfm_observed.specs.declared.log.Item.TheVariants as item
 use Rattle.ulfm_observed.specs.declared.{shows.Whose.TheVariants.{Of}, stages.Stage.{Stage}}
 use Rattle.ulfm_observed.specs.declared.stages.Stage.TheVariants as stage
 use Rattle.ulfm_observed.specs.{Explains.{AreHeard, IsHeard, IsSeen, is_shown_by, is_told_by}, LogTexts.{Heard}}
-use Rattle.ulfm_observed.specs.Stages.{Shown, acted_stage, called_stage, ends, hidden_call, hidden_reply, line_by, may_stop, next_stage, own_stage, polls, replied_stage, says_started, stage_after, starts}
+use Rattle.ulfm_observed.specs.Stages.{Shown, acted_stage, called_stage, ends, hidden_call, hidden_reply, may_stop, next_stage, own_stage, polls, replied_stage, says_started, stage_after, starts}
 use Rattle.ulfm_observed.specs.declared.walk.Walk.{Walk}
 use Rattle.ulfm_observed.specs.Refuted.{answered, begun, called, is_started, passed, polled, replied, walked}
 use Rattle.ulfm_observed.specs.Tells.{IsSaid, MayReach, Reaches}
 use Rattle.ulfm_observed.proofs.Answered.{answered_left, polled_left, seen_started, started_left}
 use Rattle.ulfm_observed.proofs.Kept.{IsFree, answered_free, answered_late, begun_free, polled_free, reaches_call, reaches_last, said_lasts}
-use Rattle.ulfm_observed.proofs.Others.{by_of, find_push, keeps_asked, own_record, stays_after}
+use Rattle.ulfm_lines.proofs.{Bystanders.{find_push, line_call, line_entries, line_history, line_record, own_record}, Calls.{keeps_asked}}
 
 module _ (limits : Limits) (r k : ℕ) where
   abbrev me : Caller
@@ -424,12 +425,6 @@ module _ (limits : Limits) (r k : ℕ) where
             (replied_goes point reply (subst (λ c. MayReply flag_meld now c point group reply) by_is may) logged)
 
         -- and another's
-        same_by : (l : Line FlagAnd) → by_of r l ≡ line_by l
-        same_by (line.Called asked padded) = refl
-        same_by (line.Looked n count) = refl
-        same_by (line.Happened by event) = refl
-        same_by (line.Replied by point told) = refl
-
         not_told : (l : Line FlagAnd) → same_caller (line_by l) me ≡ false → is_told_by (Of me) l ≡ false
         not_told (line.Called asked padded) other = other
         not_told (line.Looked n count) other = refl
@@ -438,14 +433,13 @@ module _ (limits : Limits) (r k : ℕ) where
 
         pub other_line : (l : Line FlagAnd) → same_caller (line_by l) me ≡ false → IsKept flag_meld (after now l) → Goes (after now l) (shows l) walk at
         other_line l other kept_then =
-            let stays = stays_after r now l (ap (λ c. same_caller c me) (same_by l) ∙ other) in
             inr (inl (
               and_false logged (is_told_by (Of me) l) (not_told l other),
               record {
                 own = own;
-                has_record = stays.record_is ∙ at_r;
-                stands = stands_then now (after now l) kept_then (limits_stay flag_meld now (record { line = l; group = group } ∷ []) ∙ limits_is) stays.grown own walk
-                    (λ a calls. record { u = calls.u; is_open = stays.call ∙ calls.is_open; asked = calls.asked }) at s;
+                has_record = line_record now l r other ∙ at_r;
+                stands = stands_then now (after now l) kept_then (limits_stay flag_meld now (record { line = l; group = group } ∷ []) ∙ limits_is) (line_entries l, sym (line_history now l)) own walk
+                    (λ a calls. record { u = calls.u; is_open = line_call now l me other ∙ calls.is_open; asked = calls.asked }) at s;
               },
             ))
 

@@ -3,7 +3,6 @@ use Rattle.std.specs.Prelude.{ℕ, ◌==◌, ◌&&◌, Bool, true, false, List, 
 use Rattle.ulfm_laws.specs.declared.flag_and.FlagAnd.{FlagAnd}
 use Rattle.ulfm_model.specs.declared.call.Call.{Call}
 use Rattle.ulfm_model.specs.declared.call.Call.TheVariants as call
-use Rattle.ulfm_model.specs.declared.event.Caller.{Caller}
 use Rattle.ulfm_model.specs.declared.event.Caller.TheVariants.{Outside, Rank}
 use Rattle.ulfm_model.specs.declared.event.Event.{Event}
 use Rattle.ulfm_model.specs.declared.event.Event.TheVariants as event
@@ -11,9 +10,9 @@ use Rattle.ulfm_model.specs.declared.refusal.Refusal.{Refusal}
 use Rattle.ulfm_model.specs.declared.refusal.Refusal.TheVariants as refusal
 use Rattle.ulfm_model.specs.declared.reply.Reply.{Reply}
 use Rattle.ulfm_model.specs.declared.reply.Reply.TheVariants as reply
-use Rattle.ulfm_model.specs.Answers.{traits_of}
 use Rattle.ulfm_model.specs.declared.line.{Line.{Line}, Line.TheVariants.{Called, Looked, Happened, Replied}}
 use Rattle.ulfm_model.specs.Traces.{Told, same_caller}
+use Rattle.ulfm_lines.specs.Callers.{line_by}
 use Rattle.ulfm_observed.specs.declared.{stages.Aid.{Aid}, stages.Stage.{Stage}, step.Step.{Step}}
 use Rattle.ulfm_observed.specs.declared.stages.Stage.TheVariants.{Idle, Under, Acted, Begun, Ending, Gone, Wrong}
 
@@ -106,13 +105,6 @@ own_stage lost stage logged (Called asked padded) = if logged then called_stage 
 own_stage lost stage logged (Looked r count) = stage
 own_stage lost stage logged (Happened by event) = acted_stage stage
 own_stage lost stage logged (Replied by point told) = if logged then replied_stage stage told else hidden_reply lost stage told
-
--- whose line it is
-abbrev pub line_by : Line FlagAnd → Caller
-line_by (Called asked padded) = (traits_of asked).by
-line_by (Looked r count) = Rank r
-line_by (Happened by event) = by
-line_by (Replied by point told) = by
 
 -- A rank after a line.
 abbrev pub next_stage : ℕ → Bool → Stage → Shown → Stage

@@ -4,13 +4,15 @@ ghost use Rattle.std.specs.Prelude.{◌≡◌, None, map, true};
 ghost use Rattle.ulfm_model.specs.Answers.{traits_of};
 ghost use Rattle.ulfm_model.specs.Traces.{same_caller};
 ghost use Rattle.ulfm_observed.specs.Stages.{acted_stage, aid_after, asks_for, begun_or_gone, called_stage, declares};
-ghost use Rattle.ulfm_observed.specs.Stages.{ends, ends_refused, gone_or_wrong, hidden_call, hidden_reply, line_by};
+ghost use Rattle.ulfm_lines.specs.Callers.{line_by};
+ghost use Rattle.ulfm_observed.specs.Stages.{ends, ends_refused, gone_or_wrong, hidden_call, hidden_reply};
 ghost use Rattle.ulfm_observed.specs.Stages.{may_help, may_stop, own_aid, own_stage, polls, replied_stage};
 ghost use Rattle.ulfm_observed.specs.Stages.{says_started, shown_of, starts};
 
 use crate::step::Step;
 use std::alloc::Allocator;
 use ulfm_laws::FlagAnd;
+use ulfm_model::call::rank_of;
 use ulfm_model::{Call, Caller, Event, Line, Refusal, Reply};
 
 /// How far a rank has come.
@@ -59,17 +61,7 @@ pub fn caller_of(asked: &Call<FlagAnd>) -> Caller
 {
     match *asked {
         Call::Fail { .. } => Caller::Outside,
-        Call::GetFailed { rank, .. }
-        | Call::Ack { rank, .. }
-        | Call::FailureAck { rank, .. }
-        | Call::FailureGetAcked { rank, .. }
-        | Call::Agree { rank, .. }
-        | Call::Shrink { rank, .. }
-        | Call::Barrier { rank, .. }
-        | Call::Poll { rank, .. }
-        | Call::Revoke { rank, .. }
-        | Call::IsRevoked { rank, .. }
-        | Call::Free { rank, .. } => Caller::Rank(rank),
+        _ => Caller::Rank(rank_of(asked)),
     }
 }
 

@@ -8,7 +8,7 @@ use Rattle.ulfm_script.specs.declared.line_kind.LineKind.{LineKind}
 use Rattle.ulfm_script.specs.declared.line_kind.LineKind.TheVariants.{Verb}
 use Rattle.ulfm_script.specs.declared.version.Version.{Version}
 use Rattle.ulfm_script.specs.declared.version.Version.TheVariants.{First, Second}
-use Rattle.ulfm_script.specs.{Calls.{ScriptCall, read_rank_comm, fail_of, ack_of, agree_of, of_second, read_plain_call, call_from, call_in, call_of}, Digits.{MayPadIn, read_rank, read_comm, read_number, read_flag_in, spelled_flag}, Spelling.{IsOnComm, Spells, SpellsIn, SpellsAs, is_padded, spelled_text}, Steps.{◌>>=◌}, Words.{first_word, one_of, two_of, three_of}}
+use Rattle.ulfm_script.specs.{Calls.{ScriptCall, read_rank_comm, fail_of, ack_of, agree_of, of_second, rank_alone, read_plain_call, call_from, call_in, call_of}, Digits.{MayPadIn, read_rank, read_comm, read_number, read_flag_in, spelled_flag}, Spelling.{IsOnComm, Spells, SpellsIn, SpellsAs, is_padded, spelled_text}, Steps.{◌>>=◌}, Words.{first_word, one_of, two_of, three_of}}
 use Rattle.ulfm_script.proofs.{Hexadecimal.{flag_in_again, flag_in_found, padded_told}, Numerals.{number_again, number_found, number_to_again, number_to_found}, WordLemmas.{IsWord, decimal_is_word, joined, joined_word, one_again, one_found, same_done, spelled_is_word, step_found, three_again, three_found, two_again, two_found}}
 
 -- a rank that was printed is read
@@ -23,9 +23,13 @@ comm_again comm h = number_to_again 255 comm (omega arith) (omega (arith, h))
 pub number_is_word : (n : ℕ) → n < 10000 → IsWord (decimal n)
 number_is_word n h = decimal_is_word n (omega (arith, h))
 
+-- a rank is read that stands alone
+pub rank_alone_again : {A : Type 0} (made : ℕ → A) (rank : ℕ) → rank < 1024 → rank_alone made (Some (decimal rank)) ≡ Ok (made rank)
+rank_alone_again made rank h = rw (one_again (decimal rank) (number_is_word rank (omega (arith, h))), rank_again rank h) refl
+
 fail_again : (version : Version) (rank : ℕ) → rank < 1024 → call_in version (codes "fail " ++ decimal rank) ≡ Ok (Fail rank)
 unfolding call_in fail_of
-fail_again version rank h = rw (one_again (decimal rank) (number_is_word rank (omega (arith, h))), rank_again rank h) refl
+fail_again version rank h = rank_alone_again Fail rank h
 
 -- two words, as a rank and a communicator are written
 abbrev place_text : ℕ → ℕ → List ℕ
@@ -78,14 +82,17 @@ spelled_again line call h = spelled_in_again First line call h
 abbrev Reads : Version → (verb : List ℕ) → (Option (List ℕ) → Result ScriptCall LineKind) → Type 0
 Reads version verb fields_of = (fields : Option (List ℕ)) (call : ScriptCall) → fields_of fields ≡ Ok call → SpellsIn version (joined verb fields) call
 
+-- a rank that was read alone is all that stands there
+pub rank_found : {A : Type 0} (made : ℕ → A) (fields : Option (List ℕ)) (x : A) → rank_alone made fields ≡ Ok x → (rank : ℕ) × (made rank ≡ x) × (rank < 1024) × (fields ≡ Some (decimal rank))
+rank_found made fields x e =
+    let a = step_found (one_of fields) (λ word. read_rank word >>= λ rank. Ok (made rank)) x e in
+    let b = step_found (read_rank a.0) (λ rank. Ok (made rank)) x a.2 in
+    let r = number_to_found 1023 b.0 a.0 b.1 in (b.0, same_done (made b.0) x b.2, omega (arith, r.0), one_found fields a.0 a.1 ∙ ap (λ (t : List ℕ). Some t) r.1)
+
 fail_found : (version : Version) → Reads version (codes "fail") fail_of
 unfolding fail_of
 fail_found version fields call e =
-    let a = step_found (one_of fields) (λ word. read_rank word >>= λ rank. Ok (Fail rank)) call e in
-    let b = step_found (read_rank a.0) (λ rank. Ok (Fail rank)) call a.2 in
-    let r = number_to_found 1023 b.0 a.0 b.1 in
-    let line : joined (codes "fail") fields ≡ codes "fail " ++ decimal b.0 = ap (joined (codes "fail")) (one_found fields a.0 a.1) ∙ ap (λ (t : List ℕ). codes "fail " ++ t) r.1 in
-    subst (SpellsIn version (joined (codes "fail") fields)) (same_done (Fail b.0) call b.2) (omega (arith, r.0), line)
+    let r = rank_found Fail fields call e in subst (SpellsIn version (joined (codes "fail") fields)) r.1 (r.2, ap (joined (codes "fail")) r.3)
 
 -- the rank and the communicator of two words
 abbrev on_comm : {A : Type 0} → (ℕ → ℕ → Result A LineKind) → List ℕ → List ℕ → Result A LineKind

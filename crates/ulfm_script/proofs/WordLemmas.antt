@@ -31,7 +31,7 @@ flag_is_word flag = spelled_is_word false flag
 abbrev parts : List ℕ → Option (List ℕ) → List ℕ × Option (List ℕ)
 parts word rest = (word, rest)
 
-word_before : (front word rest : List ℕ) → AllByRecursion (λ x. x ≢ 32) word → word_from front (word ++ 32 ∷ rest) ≡ (front ++ word, Some rest)
+pub word_before : (front word rest : List ℕ) → AllByRecursion (λ x. x ≢ 32) word → word_from front (word ++ 32 ∷ rest) ≡ (front ++ word, Some rest)
 word_before front [] rest h = ap (λ (t : List ℕ). parts t (Some rest)) (sym (append-nil front))
 word_before front (x ∷ xs) rest h = rw (ne_eqb x 32 h.0) (word_before (front ++ x ∷ []) xs rest h.1 ∙ ap (λ (t : List ℕ). parts t (Some rest)) (append_assoc front (x ∷ []) xs))
 

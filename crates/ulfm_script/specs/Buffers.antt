@@ -3,10 +3,10 @@ use Rattle.std.specs.Prelude.{◌≡◌, ◌≢◌, ℕ, ◌<◌, Bool, true, fa
 use Rattle.std.specs.List.{AllByRecursion}
 use Rattle.std.specs.Io.KnownBytes.{Keeps, Appends, Consumes, IsAtEnd, prepend_known}
 use Rattle.ulfm_script.specs.Written.{IsBeginning, Outgoing, WritesPart}
-use Rattle.ulfm_script.specs.declared.engine.Input.{Input}
-use Rattle.ulfm_script.specs.declared.engine.LineEnd.{LineEnd}
-use Rattle.ulfm_script.specs.declared.engine.LineEnd.TheVariants.{Newline, Cut, Done}
-use Rattle.ulfm_script.specs.declared.engine.Output.{Output}
+use Rattle.ulfm_script.specs.declared.buffers.Input.{Input}
+use Rattle.ulfm_script.specs.declared.buffers.LineEnd.{LineEnd}
+use Rattle.ulfm_script.specs.declared.buffers.LineEnd.TheVariants.{Newline, Cut, Done}
+use Rattle.ulfm_script.specs.declared.buffers.Output.{Output}
 use Rattle.ulfm_script.specs.declared.fault.RunFault.{RunFault}
 use Rattle.ulfm_script.specs.declared.fault.RunFault.TheVariants.{Line, Memory, Read, Write}
 

@@ -34,12 +34,16 @@ pub record StandAhead (fields : Option (List ℕ)) (rank comm : ℕ) (behind : O
   pub rank_is : read_rank one ≡ Ok rank
   pub comm_is : read_comm two ≡ Ok comm
 
--- the fields of each verb
-unfoldable pub fail_of : Option (List ℕ) → Result ScriptCall LineKind
-fail_of fields = do
+-- what is made of a rank, and nothing behind it
+abbrev pub rank_alone : {A : Type 0} → (ℕ → A) → Option (List ℕ) → Result A LineKind
+rank_alone made fields = do
   word ← one_of fields
   rank ← read_rank word
-  Ok (Fail rank)
+  Ok (made rank)
+
+-- the fields of each verb
+unfoldable pub fail_of : Option (List ℕ) → Result ScriptCall LineKind
+fail_of fields = rank_alone Fail fields
 
 unfoldable pub ack_of : Option (List ℕ) → Result ScriptCall LineKind
 ack_of fields = do

@@ -1,6 +1,7 @@
 -- The words of a line: between two of them stands one space.
 use denote.Ref.{Bor}
 use Rattle.std.specs.Prelude.{◌≡◌, ℕ, List, [], ◌∷◌, ◌++◌, length, Option, Some, None, option_map, Result, Ok, Err, ◌==◌, if◌then◌else◌}
+use Rattle.std.specs.Str.{bytes_eq}
 use Rattle.ulfm_script.specs.declared.line_kind.LineKind.{LineKind}
 use Rattle.ulfm_script.specs.declared.line_kind.LineKind.TheVariants.{Words}
 use Rattle.ulfm_script.specs.{Digits.{number_in}, Steps.{◌>>=◌}}
@@ -13,6 +14,11 @@ word_from front (x ∷ xs) = if x == 32 then (front, Some xs) else word_from (fr
 -- the first word of a text, and the text behind it
 abbrev pub first_word : List ℕ → List ℕ × Option (List ℕ)
 first_word text = word_from [] text
+
+-- what the first word of a text has read behind it, where it is one of these verbs, or else this
+abbrev pub by_verb : {A : Type 0} → List (List ℕ × (Option (List ℕ) → A)) → A → List ℕ × Option (List ℕ) → A
+by_verb [] other first = other
+by_verb (verb ∷ verbs) other first = if bytes_eq first.0 verb.0 then verb.1 first.1 else by_verb verbs other first
 
 -- one more word, which must not be empty, and the text behind it
 unfoldable pub next_word : Option (List ℕ) → Result (List ℕ × Option (List ℕ)) LineKind

@@ -5,8 +5,9 @@ ghost use Rattle.ulfm_script.specs.Buffers.{pending, unread};
 ghost use Rattle.ulfm_script.specs.Runs.{HasAnswered, PrintsReply, RunsBuffered, RunsThrough, call_scripts};
 ghost use Rattle.ulfm_script.specs.Spelling.{IsSpelled};
 
+use crate::buffers::Input;
 use crate::calls::read_call_of;
-use crate::engine::{Input, end_of, run_text, run_text_through};
+use crate::engine::{end_of, run_text, run_text_through};
 use crate::fault::RunFault;
 use crate::header::read_call_heading;
 use crate::heading::Heading;

@@ -1,6 +1,7 @@
 //! Scripts: the text of calls, the engine that runs scripts of any kind, and scripts of calls on it.
 #![tactic(auto)]
 
+pub mod buffers;
 pub mod call_script;
 pub mod calls;
 pub mod engine;
@@ -18,9 +19,10 @@ pub mod printing;
 pub mod version;
 pub mod words;
 
+pub use buffers::{Input, LineEnd, write_out};
 pub use call_script::{run_script, run_script_through};
 pub use calls::{is_padded, read_call, read_call_of};
-pub use engine::{Input, LineEnd, end_of, run_text, run_text_through, write_out};
+pub use engine::{end_of, run_text, run_text_through};
 pub use fault::RunFault;
 pub use flag_places::FlagDigits;
 pub use header::{print_header, read_call_heading, read_header, read_heading};

@@ -4,7 +4,7 @@ use Rattle.std.specs.Io.KnownBytes.{Consumes, IsAtEnd, prepend_known}
 use Rattle.ulfm_laws.specs.{Flags.{flag_meld}, declared.flag_and.FlagAnd.{FlagAnd}}
 use Rattle.ulfm_model.specs.declared.limits.Limits.{Limits}
 use Rattle.ulfm_script.specs.declared.fault.RunFault.TheVariants as fault
-use Rattle.ulfm_script.specs.declared.engine.LineEnd.{LineEnd}
+use Rattle.ulfm_script.specs.declared.buffers.LineEnd.{LineEnd}
 use Rattle.ulfm_script.specs.{Buffers.{HasNoNewline, IsOfLine, TakesLine}, Ends.{Claim, IsTextOf, KnownText, TakesUpTo}, Scripts.{lines_from}}
 use Rattle.ulfm_lines.specs.Stepped.{TraceState}
 use Rattle.ulfm_model.specs.declared.line.Why.{Why}

@@ -1,7 +1,7 @@
 use Rattle.std.proofs.Common.{arith, refl, ◌-◌, length, drop}
 use Rattle.std.proofs.lemmas.List.{length-take, length-drop}
 use Rattle.ulfm_script.proofs.ByteLemmas.{appends_more, writes_part, writes_more}
-use Rattle.ulfm_script.proofs.engine.write_out.Goals as goal
+use Rattle.ulfm_script.proofs.buffers.write_out.Goals as goal
 
 pub returns-in-Ok-eq0 : goal.returns-in-Ok-eq0
 returns-in-Ok-eq0 g c =

@@ -3,7 +3,7 @@ use Rattle.std.proofs.lemmas.Bool.{eqb-true}
 use Rattle.std.specs.Prelude.{slice_range}
 use Rattle.ulfm_script.specs.Buffers.{pending}
 use Rattle.ulfm_script.proofs.LineParts.{kept_range, none_before, part_taken, split_at}
-use Rattle.ulfm_script.proofs.engine.Input.next_line.Goals as goal
+use Rattle.ulfm_script.proofs.buffers.Input.next_line.Goals as goal
 
 pub returns-in-Some : goal.returns-in-Some
 returns-in-Some g c =

@@ -3,7 +3,7 @@ use Rattle.std.proofs.lemmas.Bool.{eqb-true}
 use Rattle.ulfm_script.specs.Buffers.{pending}
 use Rattle.ulfm_script.proofs.ByteLemmas.{none_pending}
 use Rattle.ulfm_script.proofs.LineParts.{none_before, none_found, split_at}
-use Rattle.ulfm_script.proofs.engine.Input.take_part.Goals as goal
+use Rattle.ulfm_script.proofs.buffers.Input.take_part.Goals as goal
 
 pub returns-in_ok-keep_first-in-Some : goal.returns-in_ok-keep_first-in-Some
 returns-in_ok-keep_first-in-Some g c =

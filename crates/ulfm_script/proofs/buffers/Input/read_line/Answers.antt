@@ -4,7 +4,7 @@ use Rattle.std.specs.Io.KnownBytes.{Consumes}
 use Rattle.ulfm_script.specs.Buffers.{pending, unread}
 use Rattle.ulfm_script.proofs.ByteLemmas.{consumes_keeps, consumes_start, consumes_then, none_kept, none_pending, none_taken, no_items, some_kept, failed_line}
 use Rattle.ulfm_script.proofs.LineParts.{free_append, part_taken}
-use Rattle.ulfm_script.proofs.engine.Input.read_line.Goals as goal
+use Rattle.ulfm_script.proofs.buffers.Input.read_line.Goals as goal
 
 pub parts-init : goal.parts-init
 parts-init g c =

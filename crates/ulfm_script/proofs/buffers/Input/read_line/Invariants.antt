@@ -1,7 +1,7 @@
 use Rattle.std.proofs.Common.{◌≡◌, ℕ, List, take}
 use Rattle.std.specs.Io.KnownBytes.{Consumes}
 use Rattle.ulfm_script.specs.Buffers.{unread, HasNoNewline}
-use Rattle.ulfm_script.proofs.engine.Input.read_line.Given as goal
+use Rattle.ulfm_script.proofs.buffers.Input.read_line.Given as goal
 
 abbrev pub invariant-parts : goal.invariant-parts
 invariant-parts g l =

@@ -2,7 +2,7 @@ use Rattle.std.proofs.Common.{◌≡◌, ◌<◌, ◌≤◌, ap, arith, length, 
 use Rattle.std.proofs.lemmas.List.{with_items_is}
 use Rattle.std.specs.Vec.{with_items}
 use Rattle.ulfm_script.proofs.ByteLemmas.{already_filled, kept_empty, none_pending, read_into}
-use Rattle.ulfm_script.proofs.engine.Input.fill.Goals as goal
+use Rattle.ulfm_script.proofs.buffers.Input.fill.Goals as goal
 
 pub returns-then-self : goal.returns-then-self
 returns-then-self g c =
