@@ -15,7 +15,7 @@ HERE = os.path.dirname(os.path.abspath(__file__))
 SRC = HERE + "/../../crates"
 OUT = sys.argv[1] + "/src"
 CR='ulfm_laws ulfm_model ulfm_numbers ulfm_judge ulfm_script ulfm_lines ulfm_observed ulfm_graph ulfm_study ulfm_search'.split()
-SKIP={'ulfm_laws':{'meanings'},'ulfm_model':{'laws','trace_laws','rounds','says_'},'ulfm_script':{'laws','call_script','engine','interpreter','machine','header_kind_'},'ulfm_lines':{'laws','step_machine','teller'},'ulfm_search':{'observing'}}
+SKIP={'ulfm_laws':{'meanings'},'ulfm_model':{'laws','trace_laws','rounds','says_'},'ulfm_script':{'laws','call_script','engine','interpreter','machine','buffers','header_kind_'},'ulfm_lines':{'laws','step_machine','teller'},'ulfm_search':{'observing'}}
 OP='{([';CL='})]'
 def balanced(s,i):
     # i at opening brace; skip comments
