@@ -296,23 +296,7 @@ module _ {P : Type 0} (limits : Limits) (own : Record) (asked : Call P) (x : Hel
       let few = subst (λ n. after.steps ≤ now.steps + peeks_left n peek) size turns in
       record { few = omega (arith, few, rest, ap length sees); sets = sets_next new asked after.cached following below }
 
--- a call goes on from where it stood
-pub also_on : {P : Type 0} (most : ℕ) (limits : Limits) (asked : Call P) (own mid new : Record) (now between after : Sight P) (phase : Phase P) (next : Next P)
-    → AlsoSpends most limits asked (stance own now) (Goes phase) (stance mid between)
-    → (FindsSetIn mid asked between.cached phase → AlsoSpends (also_left limits mid asked phase) limits asked (stance mid between) next (stance new after))
-    → AlsoSpends most limits asked (stance own now) next (stance new after)
-also_on most limits asked own mid new now between after phase next stood turn =
-    let last = turn stood.sets in
-    let few = stood.few in
-    let more = last.few in
-    record { few = omega (arith, few, more); sets = last.sets }
-
--- a call that goes on behind its look
-pub also_first : {P : Type 0} (limits : Limits) (asked : Call P) (own : Record) (now : Sight P) (phase : Phase P) → FindsSetIn own asked now.cached phase
-    → AlsoSpends (also_left limits own asked phase) limits asked (stance own now) (Goes phase) (stance own now)
-also_first limits asked own now phase all = record { few = omega arith; sets = all }
-
--- what its turn spends
+-- what a turn of a call behind its look spends
 pub also_behind : {P : Type 0} (limits : Limits) (asked : Call P) (phase : Phase P) (own : Record) (now : Sight P) (next : Next P) (new : Record)
     (after : Sight P) → is_looking phase ≡ false → AlsoTurns limits asked phase (stance own now) next (stance new after)
     → FindsSetIn own asked now.cached phase → AlsoSpends (also_left limits own asked phase) limits asked (stance own now) next (stance new after)

@@ -1,13 +1,15 @@
 -- The end of a look's loads, however its call goes on.
-use Rattle.std.proofs.Common.{◌≡◌, ◌∙◌, ◌+◌, ◌-◌, ◌≤◌, ◌<◌, ℕ, Bool, false, [], length, IsTrue, IsFalse, arith, ap, ap₂, sym}
+use Rattle.std.proofs.Common.{◌≡◌, ◌∙◌, ◌+◌, ◌-◌, ◌≤◌, ◌<◌, ℕ, Bool, true, false, [], length, IsTrue, IsFalse, arith, ap, ap₂, subst, sym}
 use Rattle.ulfm_model.specs.declared.{call.Call.{Call}, refusal.Refusal.TheVariants.{SelfFailed}, reply.Reply.TheVariants.{Refused}, limits.Limits.{Limits}}
-use Rattle.ulfm_model.specs.{History.{failures, has}, Records.{Record}, Runs.{Did}}
+use Rattle.ulfm_model.specs.{History.{IsLegal, failures, has}, Records.{Record}, Runs.{Did}}
+use Rattle.ulfm_model.proofs.Marking.{failures_few}
 use Rattle.ulfm_words.specs.Steps.{Goes, Over, Sight, View, view_at}
-use Rattle.ulfm_words.proofs.Trails.{did_wait}
-use Rattle.ulfm_comm.specs.{AlsoLeft.{AlsoFollows, AlsoLooks, also_left}, Look.{JustLooked}, Phase.{Stands, under_way}, Prepared.{Prepared}}
-use Rattle.ulfm_comm.specs.{Local.{local, stance}, Step.{LooksOn, Walks}, StepsLeft.{FewerLeft, Spends, steps_left, with_look}}
+use Rattle.ulfm_words.proofs.Trails.{did_prefix, did_wait}
+use Rattle.ulfm_steps.specs.Looks.{LookTakes, looks_left}
+use Rattle.ulfm_comm.specs.{AlsoLeft.{AlsoFollows, AlsoLooks, also_left}, Known.{KnowsNext}, Look.{JustLooked}, Phase.{IsFurther, Stands, Turns, under_way}, Prepared.{Prepared}}
+use Rattle.ulfm_comm.specs.{Local.{local, stance}, Step.{LooksOn, TakesTurn, Walks, coming}, StepsLeft.{FewerLeft, Spends, steps_left, with_look}}
 use Rattle.ulfm_comm.specs.declared.phases.phase.{Next.{Next}, Next.TheVariants.{Ends}, Phase.TheVariants.{Looking}}
-use Rattle.ulfm_comm.proofs.{AlsoLeft.{also_looks_over}, AmongOthers.{did_loosely}, StepsLeft.{looks_over}}
+use Rattle.ulfm_comm.proofs.{AlsoLeft.{also_looks_over}, AmongOthers.{did_loosely}, StepsLeft.{looks_over}, Wings.{turn_same}}
 
 -- they have found all failures, and of the record only what was seen is new; the last load has found none, or was saved
 pub record LoadsEnd {P : Type 0} (limits : Limits) (own new : Record) (now after : Sight P) : Type 0 where
@@ -16,6 +18,20 @@ pub record LoadsEnd {P : Type 0} (limits : Limits) (own new : Record) (now after
   pub all : new.seen ≡ failures after.seen
   pub within : length new.seen ≤ limits.ranks
   pub turns : after.steps + (limits.ranks - length new.seen - 1) ≤ now.steps + (limits.ranks - length own.seen)
+
+-- so the loads of a look say that has come to its end
+pub loads_end : {P : Type 0} {own new : Record} {now after : Sight P} {whole done : Bool} (meld : P → P → P) (limits : Limits) → done ≡ true → new ≡ record own { seen = new.seen }
+    → length own.seen < limits.ranks → IsLegal meld limits after.seen → new.seen ≡ failures after.seen
+    → LookTakes whole limits own.seen done new.seen now after → LoadsEnd limits own new now after
+loads_end {own = own} {new = new} {now = now} {after = after} meld limits done kept more legal all takes =
+    let few = failures_few meld limits after.seen legal in
+    record {
+      kept = kept;
+      more = more;
+      all = all;
+      within = omega (arith, few, ap length all);
+      turns = subst (λ b. after.steps + looks_left limits b new.seen ≤ now.steps + looks_left limits false own.seen) done takes.turns;
+    }
 
 module _ {P : Type 0} {limits : Limits} {own new : Record} {now after : Sight P} (end : LoadsEnd limits own new now after) where
   -- the loads that were saved are left for what comes next
@@ -66,3 +82,28 @@ has_looked {alone = alone} {quiet = quiet} {old = old} {own = own} {new = new} {
 -- loads of a list are steps of the rank without an event
 pub walked : {P : Type 0} {meld : P → P → P} {quiet : Bool} {most rank : ℕ} {old new : View P} → Goes meld quiet false most old new → Walks meld quiet rank old new
 walked goes = record { of = goes.of; own = []; did = goes.did; onward = goes.onward; cached = goes.cached }
+
+-- the turn of a whole look that has come to its end, where this comes next
+pub look_turns : {P : Type 0} {meld : P → P → P} {name : Over P} {quiet : Bool} {most : ℕ} {own new : Record} {now after : Sight P}
+    → Goes meld quiet false most (view_at name now) (view_at name after) → LoadsEnd name.limits own new now after
+    → (asked : Call P) (prepared : Prepared) (left : Record) (next : Next P)
+    → FewerLeft (with_look name.limits new asked) name.limits left asked next → AlsoFollows name.limits asked new next left → left.seen ≡ new.seen
+    → (IsTrue (has left.seen own.number) → next ≡ Ends (Refused SelfFailed)) → IsFurther Looking next → KnowsNext own asked after.cached next
+    → Turns meld quiet (under_way asked Looking prepared) (local own (view_at name now)) next prepared (local left (view_at name after))
+    → TakesTurn meld quiet true (under_way asked Looking prepared) (local own (view_at name now)) (coming next prepared) (local left (view_at name after))
+look_turns {quiet = quiet} goes end asked prepared left next nearer also same declared further knows turns =
+    record {
+      walks = walked goes;
+      beside = turn_same _ _ _ _ _ (λ w. w) (did_prefix quiet _ _ _ goes.did) goes.caches;
+      named = λ single. absurd (cc single);
+      nearer = λ single. absurd (cc single);
+      spends = ends_look end asked left next nearer;
+      also = ends_also end asked left next also;
+      further = λ whole. further;
+      adds = λ single. absurd (cc single);
+      sees = tt;
+      looks = λ here. ends_loads end left same next declared;
+      knows = λ known. knows;
+      leads = tt;
+      turns = turns;
+    }

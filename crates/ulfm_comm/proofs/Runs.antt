@@ -20,13 +20,15 @@ seen_since : (old own mid : Record) → own ≡ record old { seen = own.seen } �
 seen_since old own mid first last = last ∙ sym (ap (λ (w : Record). record w { seen = mid.seen }) first)
 
 -- a call that stands in a phase behind its look
-module _ {P : Type 0} (meld : P → P → P) (alone whole : Bool) (name : Over P) (asked : Call P) (phase : Phase P) (prepared : Prepared) (own : Record) (start : Sight P)
-    (past : is_looking phase ≡ false) (still : StillStands meld (under_way asked phase prepared) (local own (view_at name start))) where
+module _ {P : Type 0} {meld : P → P → P} {alone whole : Bool} {name : Over P} {asked : Call P} {phase : Phase P} {prepared : Prepared} {own : Record} {start : Sight P}
+    (still : StillStands meld (under_way asked phase prepared) (local own (view_at name start))) (past : is_looking phase ≡ false) where
   -- it is answered by its turn there
-  pub turn_ends : (left : Prepared) (reply : Reply P) (new : Record) (after : Sight P)
-      → TakesTurn meld alone whole (under_way asked phase prepared) (local own (view_at name start)) (coming (Ends reply) left) (local new (view_at name after))
+  pub turn_ends : {next : Next P} {left : Prepared} {reply : Reply P} {new : Record} {after : Sight P} → next ≡ Ends reply
+      → TakesTurn meld alone whole (under_way asked phase prepared) (local own (view_at name start)) (coming next left) (local new (view_at name after))
       → RunsOn meld alone (under_way asked phase prepared) (local own (view_at name start)) reply (local new (view_at name after))
-  turn_ends left reply new after turn =
+  turn_ends {left = left} {reply = reply} {new = new} {after = after} is taken =
+      let turn = subst (λ next. TakesTurn meld alone whole (under_way asked phase prepared) (local own (view_at name start)) (coming next left)
+      (local new (view_at name after))) is taken in
       let spends = turn.spends in
       record {
         of = turn.walks.of;
@@ -42,13 +44,19 @@ module _ {P : Type 0} (meld : P → P → P) (alone whole : Bool) (name : Over P
         turns = λ old before u. turn.turns alone (λ here. here) old before u;
       }
 
-  -- it goes on by its turn there, and what comes next is run to the reply
-  module _ (next : Phase P) (left : Prepared) (mid : Record) (now : Sight P)
-      (turn : TakesTurn meld alone whole (under_way asked phase prepared) (local own (view_at name start)) (coming (Goes next) left) (local mid (view_at name now)))
-      (reply : Reply P) (new : Record) (after : Sight P)
-      (run : RunsOn meld alone (under_way asked next left) (local mid (view_at name now)) reply (local new (view_at name after))) where
+  -- it goes on by its turn there
+  module _ {comes : Next P} {next : Phase P} {left : Prepared} {mid : Record} {now : Sight P} (is : comes ≡ Goes next)
+      (taken : TakesTurn meld alone whole (under_way asked phase prepared) (local own (view_at name start)) (coming comes left) (local mid (view_at name now))) where
+    turn : TakesTurn meld alone whole (under_way asked phase prepared) (local own (view_at name start)) (coming (Goes next) left) (local mid (view_at name now))
+    turn = subst (λ next. TakesTurn meld alone whole (under_way asked phase prepared) (local own (view_at name start)) (coming next left)
+        (local mid (view_at name now))) is taken
+
     goes : Stands meld false (local still.0 (view_at name still.1)) (under_way asked next left) (local mid (view_at name now))
     goes = turn.turns false (λ here. absurd (false≢true here)) still.0 still.1 still.2
+
+    -- it stands there
+    pub turn_stands : StillStands meld (under_way asked next left) (local mid (view_at name now))
+    turn_stands = (still.0, still.1, goes)
 
     kept : mid ≡ record own { seen = mid.seen }
     kept = seen_since still.0 own mid (stands_own meld false name asked still.0 still.1 prepared own start phase still.2.at)
@@ -61,29 +69,32 @@ module _ {P : Type 0} (meld : P → P → P) (alone whole : Bool) (name : Over P
     knows known = knows_same own mid asked now.cached (λ comm. sym (held comm)) next (turn.knows known)
 
     -- what was seen by the turn, and behind it
-    sees : (mid.seen ≡ own.seen) ⊎ HasReadOn own asked own.seen mid.seen now.cached → (new.seen ≡ mid.seen) ⊎ HasReadOn mid asked mid.seen new.seen after.cached
-        → (new.seen ≡ own.seen) ⊎ HasReadOn own asked own.seen new.seen after.cached
-    sees (inl none) (inl same) = inl (same ∙ none)
-    sees (inr read) (inl same) = inr (record {
+    sees : (new : Record) (after : Sight P) → IsPrefix now.cached after.cached → (mid.seen ≡ own.seen) ⊎ HasReadOn own asked own.seen mid.seen now.cached
+        → (new.seen ≡ mid.seen) ⊎ HasReadOn mid asked mid.seen new.seen after.cached → (new.seen ≡ own.seen) ⊎ HasReadOn own asked own.seen new.seen after.cached
+    sees new after cached (inl none) (inl same) = inl (same ∙ none)
+    sees new after cached (inr read) (inl same) = inr (record {
       shrinks = read.shrinks;
       goes_on = subst (IsPrefix own.seen) (sym same) read.goes_on;
-      known = blocks_later own asked now.cached after.cached run.cached read.known;
+      known = blocks_later own asked now.cached after.cached cached read.known;
     })
-    sees (inl none) (inr read) =
+    sees new after cached (inl none) (inr read) =
         let polled : polled_by {P = P} mid asked ≡ polled_by own asked = ap (λ (w : Record). polled_by w asked) kept in
         inr (record {
           shrinks = ap is_shrink (sym polled) ∙ read.shrinks;
           goes_on = subst (λ xs. IsPrefix xs new.seen) none read.goes_on;
           known = blocks_of mid own asked after.cached after.cached held ([], append-nil after.cached) read.known;
         })
-    sees (inr first) (inr last) = inr (record {
+    sees new after cached (inr first) (inr last) = inr (record {
       shrinks = first.shrinks;
       goes_on = prefix_trans own.seen mid.seen new.seen first.goes_on last.goes_on;
       known = blocks_of mid own asked after.cached after.cached held ([], append-nil after.cached) last.known;
     })
 
-    pub turn_goes : RunsOn meld alone (under_way asked phase prepared) (local own (view_at name start)) reply (local new (view_at name after))
-    turn_goes =
+    -- what comes next is run to the reply
+    pub turn_goes : {reply : Reply P} {new : Record} {after : Sight P}
+        → RunsOn meld alone (under_way asked next left) (local mid (view_at name now)) reply (local new (view_at name after))
+        → RunsOn meld alone (under_way asked phase prepared) (local own (view_at name start)) reply (local new (view_at name after))
+    turn_goes {reply = reply} {new = new} {after = after} run =
         let spends = turn.spends in
         let more = run.spends in
         let first = turn.walks.onward in
@@ -101,7 +112,7 @@ module _ {P : Type 0} (meld : P → P → P) (alone whole : Bool) (name : Over P
               let rest = run.also then.sets in
               omega (arith, few, rest);
           sees = λ known.
-              sees (sees_next own asked start.cached now.cached turn.walks.cached own.seen own.seen mid.seen phase past turn.sees
+              sees new after run.cached (sees_next own asked start.cached now.cached turn.walks.cached own.seen own.seen mid.seen phase past turn.sees
               (λ reads. stands_shrinks meld false name asked still.0 still.1 prepared own start phase reads still.2.at) known (inl refl)) (run.sees (knows known));
           knows = λ known of. blocks_of mid own asked after.cached after.cached held ([], append-nil after.cached) (run.knows (knows known) of);
           turns = λ old before u. run.turns old before (turn.turns alone (λ here. here) old before u);

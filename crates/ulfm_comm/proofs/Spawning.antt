@@ -426,10 +426,12 @@ module _ {P : Type 0} (meld : P → P → P) (alone quiet : Bool) (only : IsTrue
     spawn_adds reply spawned.Full is = adds_none quiet [] own asked reply now.seen after.seen is.0.did
 
     -- it isn't found yet
-    pub spawn_goes_on : (others : Prepared) → others ≡ prepared → SpawnIs meld quiet (target comm s.at.1.round context prepared.members) (seeking append (local own (view_at name now))) spawned.Unknown (seeking next (local new (view_at name after)))
+    pub spawn_goes_on : (others : Prepared) → others ≡ prepared
+        → ((k : ℕ) → append.item ≡ OfComm comm k → SpawnIs meld quiet (target comm k context prepared.members) (seeking append (local own (view_at name now))) spawned.Unknown (seeking next (local new (view_at name after))))
         → Stands meld alone (local old (view_at name before)) (record { asked = asked; phase = Spawning next context reach; prepared = others }) (local new (view_at name after))
-    spawn_goes_on others kept is =
+    spawn_goes_on others kept spawns =
         let i = s.at.1 in
+        let is = spawns i.round item_is in
         let sought = is.0 in
         let did = did_loosely alone quiet only [] now.seen after.seen sought.did in
         let grown = failures_begin now.seen after.seen (did_prefix alone [] now.seen after.seen did) in
@@ -470,10 +472,12 @@ module _ {P : Type 0} (meld : P → P → P) (alone quiet : Bool) (only : IsTrue
         }))
 
     -- it is made, and held
-    pub spawn_makes : (j size : ℕ) → SpawnIs meld quiet (target comm s.at.1.round context prepared.members) (seeking append (local own (view_at name now))) (spawned.Made j size) (seeking next (local new (view_at name after)))
+    pub spawn_makes : (j size : ℕ)
+        → ((k : ℕ) → append.item ≡ OfComm comm k → SpawnIs meld quiet (target comm k context prepared.members) (seeking append (local own (view_at name now))) (spawned.Made j size) (seeking next (local new (view_at name after))))
         → Answered meld alone asked (local old (view_at name before)) (Shrunk j context size) (local new (view_at name after))
-    spawn_makes j size is =
+    spawn_makes j size spawns =
         let i = s.at.1 in
+        let is = spawns i.round item_is in
         let made = is.0 in
         let mine : IsMadeBy meld alone (Rank old.number) (round_on (comm_of asked) i.round) (view_at name now) j (view_at name after) =
         subst (λ n. IsMadeBy meld alone (Rank old.number) (round_on n i.round) (view_at name now) j (view_at name after)) there (record {
@@ -495,10 +499,12 @@ module _ {P : Type 0} (meld : P → P → P) (alone quiet : Bool) (only : IsTrue
         (subst (λ n. Holds n context prepared.members own j size new) there is.1) i.lowest i.left i.stays
 
     -- there is no room for it
-    pub spawn_full : (ended : Record) → SpawnIs meld quiet (target comm s.at.1.round context prepared.members) (seeking append (local own (view_at name now))) spawned.Full (seeking next (local new (view_at name after)))
+    pub spawn_full : (ended : Record)
+        → ((k : ℕ) → append.item ≡ OfComm comm k → SpawnIs meld quiet (target comm k context prepared.members) (seeking append (local own (view_at name now))) spawned.Full (seeking next (local new (view_at name after))))
         → ended ≡ closed new comm → Answered meld alone asked (local old (view_at name before)) (Refused NoRoom) (local ended (view_at name after))
-    spawn_full ended is closes =
+    spawn_full ended spawns closes =
         let i = s.at.1 in
+        let is = spawns i.round item_is in
         let full = is.0 in
         let loosely : IsFullBy meld alone (round_on (comm_of asked) i.round) (view_at name now) (view_at name after) =
         subst (λ n. IsFullBy meld alone (round_on n i.round) (view_at name now) (view_at name after)) there

@@ -4,14 +4,14 @@ use Rattle.ulfm_words.specs.Steps.{over}
 use Rattle.std.proofs.lemmas.Bool.{false≢true}
 use Rattle.ulfm_model.specs.{History.{failures, has}, Records.{Record, held_at}}
 use mathlib.Core.List.{IsPrefix}
-use Rattle.ulfm_model.proofs.{Histories.{failures_begin}, Lists.{length_prefix, prefix_trans}, Marking.{failures_few}}
+use Rattle.ulfm_model.proofs.{Histories.{failures_begin}, Lists.{length_prefix, prefix_trans}}
 use Rattle.ulfm_words.proofs.Trails.{did_prefix, did_wait}
 use Rattle.ulfm_steps.specs.Looks.{looks_left}
 use Rattle.ulfm_comm.specs.declared.{phases.phase.Next.TheVariants.{Ends}}
 use Rattle.ulfm_model.specs.declared.{refusal.Refusal.TheVariants.{SelfFailed}, reply.Reply.TheVariants.{Refused}}
 use Rattle.ulfm_comm.proofs.StepsLeft.{fewer_more, looks_on, looks_up}
 use Rattle.ulfm_comm.proofs.AlsoLeft.{also_looks_on, follows_ends}
-use Rattle.ulfm_comm.proofs.LookEnds.{LoadsEnd, ends_also, ends_loads, ends_look, has_looked, walked}
+use Rattle.ulfm_comm.proofs.LookEnds.{LoadsEnd, ends_also, ends_loads, ends_look, has_looked, loads_end, walked}
 use Rattle.ulfm_comm.proofs.{Known.{below_past, next_same}, Look.{just_declared}, AmongOthers.{did_loosely}}
 use Rattle.ulfm_comm.proofs.rank.LocalState.go_looking.Goals as goal
 use Rattle.ulfm_comm.proofs.rank.LocalState.go_looking.Goals.{After-look_on}
@@ -21,18 +21,8 @@ ended : (g : _) (c : After-look_on g) → c.look_on.result ≡ true → c.look_o
     → LoadsEnd (g.W.Words.name c.args.words.now).limits c.args.self.now c.look_on.new.self (g.W.Words.sight c.args.pass.now)
     (g.W.Words.sight c.look_on.new.pass)
 ended g c done all =
-    let limits = (g.W.Words.name c.args.words.now).limits in
-    let now = g.W.Words.sight c.args.pass.now in
-    let after = g.W.Words.sight c.look_on.new.pass in
-    let few = failures_few g.P.Meld.meld limits after.seen c.look_on.ensures.goes.of.legal in
-    record {
-      kept = c.look_on.ensures.kept;
-      more = c.requires.stands.1.2.at.3.1;
-      all = all;
-      within = omega (arith, few, ap length all);
-      turns = subst (λ b. after.steps + looks_left limits b c.look_on.new.self.seen ≤ now.steps + looks_left limits false c.args.self.now.seen) done
-          c.look_on.ensures.takes.turns;
-    }
+    loads_end g.P.Meld.meld (g.W.Words.name c.args.words.now).limits done c.look_on.ensures.kept c.requires.stands.1.2.at.3.1
+    c.look_on.ensures.goes.of.legal all c.look_on.ensures.takes
 
 pub returns-then-not-look_on-clause-turn : goal.returns-then-not-look_on-clause-turn
 returns-then-not-look_on-clause-turn g c =

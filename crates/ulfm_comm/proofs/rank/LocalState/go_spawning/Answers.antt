@@ -103,14 +103,11 @@ returns-in-Unknown-clause-turn g c =
     (λ all. also_spawns (g.W.Words.name c.args.words.now).limits c.args.asked.now c.args.self.now c.spawn.new.self (g.W.Words.sight c.args.pass.now)
     (g.W.Words.sight c.spawn.new.pass) c.args.append c.spawn.new.append c.args.context c.args.reach c.in-Unknown.ensures.takes.turns is.1)
     (λ alone only old before s.
-    let here = item_is g.P.Meld.meld alone g.W.Words.alone only (over g.P.Packed.pack (g.W.Words.name c.args.words.now)) c.args.asked.now c.args.append c.args.context
-    c.args.reach c.args.prepared.now old before c.args.self.now (g.W.Words.sight c.args.pass.now)
-    c.requires.of s c.comm_of-comm.result c.comm_of-comm.ensures in
     spawn_goes_on g.P.Meld.meld alone g.W.Words.alone only (over g.P.Packed.pack (g.W.Words.name c.args.words.now)) c.args.asked.now c.args.append c.args.context c.args.reach
     c.args.prepared.now old before c.args.self.now (g.W.Words.sight c.args.pass.now)
     c.requires.of s c.comm_of-comm.result c.comm_of-comm.ensures
     c.spawn.new.append c.spawn.new.self (g.W.Words.sight c.spawn.new.pass) c.spawn.new.prepared (c.spawn.ensures.kept c.in-Unknown.is)
-    (c.in-Unknown.ensures.spawns s.at.1.round here))
+    c.in-Unknown.ensures.spawns)
 
 pub returns-in-Made-clause-turn : goal.returns-in-Made-clause-turn
 returns-in-Made-clause-turn g c =
@@ -120,13 +117,10 @@ returns-in-Made-clause-turn g c =
     (λ all. also_ends _ (g.W.Words.name c.args.words.now).limits c.args.asked.now c.args.self.now c.spawn.new.self (g.W.Words.sight c.args.pass.now)
     (g.W.Words.sight c.spawn.new.pass) _ (omega (arith, c.in-Made.ensures.takes.turns)) (ap (λ (w : Record). w.seen) is.1.record_is))
     (λ alone only old before s.
-    let here = item_is g.P.Meld.meld alone g.W.Words.alone only (over g.P.Packed.pack (g.W.Words.name c.args.words.now)) c.args.asked.now c.args.append c.args.context
-    c.args.reach c.args.prepared.now old before c.args.self.now (g.W.Words.sight c.args.pass.now)
-    c.requires.of s c.comm_of-comm.result c.comm_of-comm.ensures in
     spawn_makes g.P.Meld.meld alone g.W.Words.alone only (over g.P.Packed.pack (g.W.Words.name c.args.words.now)) c.args.asked.now c.args.append c.args.context c.args.reach
     c.args.prepared.now old before c.args.self.now (g.W.Words.sight c.args.pass.now)
     c.requires.of s c.comm_of-comm.result c.comm_of-comm.ensures
-    c.spawn.new.append c.spawn.new.self (g.W.Words.sight c.spawn.new.pass) c.in-Made.comm c.in-Made.size (c.in-Made.ensures.spawns s.at.1.round here))
+    c.spawn.new.append c.spawn.new.self (g.W.Words.sight c.spawn.new.pass) c.in-Made.comm c.in-Made.size c.in-Made.ensures.spawns)
 
 pub returns-in-Full-clause-turn : goal.returns-in-Full-clause-turn
 returns-in-Full-clause-turn g c =
@@ -136,13 +130,10 @@ returns-in-Full-clause-turn g c =
     (λ all. also_ends _ (g.W.Words.name c.args.words.now).limits c.args.asked.now c.args.self.now c.close.new.self (g.W.Words.sight c.args.pass.now)
     (g.W.Words.sight c.spawn.new.pass) _ (omega (arith, c.in-Full.ensures.takes.turns))
     (ap (λ (w : Record). w.seen) c.close.ensures ∙ ap (λ (w : Record). w.seen) is.1)) (λ alone only old before s.
-    let here = item_is g.P.Meld.meld alone g.W.Words.alone only (over g.P.Packed.pack (g.W.Words.name c.args.words.now)) c.args.asked.now c.args.append c.args.context
-    c.args.reach c.args.prepared.now old before c.args.self.now (g.W.Words.sight c.args.pass.now)
-    c.requires.of s c.comm_of-comm.result c.comm_of-comm.ensures in
     spawn_full g.P.Meld.meld alone g.W.Words.alone only (over g.P.Packed.pack (g.W.Words.name c.args.words.now)) c.args.asked.now c.args.append c.args.context c.args.reach
     c.args.prepared.now old before c.args.self.now (g.W.Words.sight c.args.pass.now)
     c.requires.of s c.comm_of-comm.result c.comm_of-comm.ensures
-    c.spawn.new.append c.spawn.new.self (g.W.Words.sight c.spawn.new.pass) c.close.new.self (c.in-Full.ensures.spawns s.at.1.round here) c.close.ensures)
+    c.spawn.new.append c.spawn.new.self (g.W.Words.sight c.spawn.new.pass) c.close.new.self c.in-Full.ensures.spawns c.close.ensures)
 
 -- the communicator comes where it may
 wins : (g : _) (c : After-spawn g) → c.args.whole ≡ false → IsTrue g.W.Words.alone → c.args.append.empty ≡ true → (event : Event g.row.P.Denot)

@@ -2,7 +2,7 @@ use Rattle.std.proofs.Common.{Bool, false, true, ap, arith, refl, sym, ◌∙◌
 use Rattle.ulfm_words.specs.Steps.{over, view_of, Sight}
 use Rattle.ulfm_model.specs.{Records.{Held, Record, held_at}}
 use Rattle.ulfm_model.specs.declared.{call.Request.TheVariants.{Agree as OfAgree}, contribution.Offer.TheVariants.{Flag}, refusal.Refusal.TheVariants.{NoSuchComm}, reply.Reply.TheVariants.{Refused}}
-use Rattle.ulfm_comm.specs.{AlsoLeft.{also_behind_look}, Local.{local}, Look.{JustLooked, Passes}, Phase.{Stands, under_way}, StepsLeft.{behind_look}}
+use Rattle.ulfm_comm.specs.{AlsoLeft.{also_behind_look}, Local.{local}, Look.{JustLooked, Passes}, Phase.{Stands, StillStands, under_way}, StepsLeft.{behind_look}}
 use Rattle.ulfm_comm.specs.declared.phases.phase.Next.TheVariants.{Ends, Goes}
 use Rattle.ulfm_comm.specs.declared.phases.phase.Phase.TheVariants.{Asking, Spreading}
 use Rattle.ulfm_comm.proofs.{AlsoLeft.{follows_behind, follows_ends}, Known.{refused_stand}, Look.{just_missing, just_passed, just_refused, own_question, starts_agree}, StepsLeft.{behind_left}}
@@ -114,7 +114,6 @@ go_asking-requires-clause-stands g c =
 pub returns-in-IsRevoked : goal.returns-in-IsRevoked
 returns-in-IsRevoked g c =
     let at = (goal.at.returns-in-IsRevoked g c).In-IsRevoked in
-    let name = over g.P.Packed.pack (g.W.Words.name c.args.words.now) in
     let limits = (g.W.Words.name c.args.words.now).limits in
     let own = c.args.self.now in
     let just = c.requires.just in
@@ -123,6 +122,8 @@ returns-in-IsRevoked g c =
       held = ap (held_at own) (sym c.comm_of.ensures) ∙ c.in-Some.ensures.held;
       passed = sym c.refusal.ensures ∙ c.in_default-refusal.is;
     } in
+    let still : StillStands g.P.Meld.meld (under_way c.args.asked.now Asking unprepared) (local own (view_of g.P.Packed.pack (g.W.Words.name c.args.words.now) (g.W.Words.sight c.args.pass.now))) =
+    (just.0, just.1, asks g at unprepared false just.0 just.1 just.2) in
     record {
       next = Goes Asking;
       mid = own;
@@ -131,7 +132,5 @@ returns-in-IsRevoked g c =
       also = follows_behind limits own c.args.asked.now _ _ refl (λ cached. tt) may (ap (also_behind_look limits own) c.in-IsRevoked.is);
       knows = λ cached. tt;
       turns = asks g at;
-      runs = turn_ends g.P.Meld.meld g.W.Words.alone true name c.args.asked.now Asking unprepared own (g.W.Words.sight c.args.pass.now) refl
-          (just.0, just.1, asks g at unprepared false just.0 just.1 just.2) unprepared c.go_asking.result own (g.W.Words.sight c.go_asking.new.pass)
-          (c.go_asking.ensures unprepared true);
+      runs = turn_ends still refl refl (c.go_asking.ensures unprepared true);
     }

@@ -1,9 +1,8 @@
-use Rattle.std.proofs.Common.{false, true, refl, subst}
-use Rattle.std.proofs.lemmas.Bool.{false≢true}
+use Rattle.std.proofs.Common.{true, refl, subst}
 use Rattle.ulfm_words.specs.Steps.{over, view_at}
-use Rattle.ulfm_comm.specs.{Local.{local}, Phase.{NextIs, under_way}, Step.{TakesTurn, coming}}
+use Rattle.ulfm_comm.specs.{Local.{local}, Phase.{under_way}, Step.{TakesTurn, coming}}
 use Rattle.ulfm_comm.specs.declared.phases.phase.Phase.TheVariants.{Peeking}
-use Rattle.ulfm_comm.proofs.Runs.{turn_ends, turn_goes}
+use Rattle.ulfm_comm.proofs.Runs.{turn_ends, turn_goes, turn_stands}
 use Rattle.ulfm_comm.proofs.rank.LocalState.run_peeking.Goals as goal
 use Rattle.ulfm_comm.proofs.rank.LocalState.run_peeking.Goals.{After-go_peeking}
 use Rattle.ulfm_comm.specs.Prepared.{unprepared}
@@ -20,41 +19,10 @@ turn g c =
     (local c.go_peeking.new.self (view_at name (g.W.Words.sight c.go_peeking.new.pass)))) c.new-prepared.ensures c.go_peeking.ensures
 
 pub run_on-requires-clause-stands : goal.run_on-requires-clause-stands
-run_on-requires-clause-stands g c =
-    let name = over g.P.Packed.pack (g.W.Words.name c.args.words.now) in
-    let still = c.requires.stands in
-    let took = turn g (goal.at.run_on-requires-clause-stands g c).After-go_peeking in (
-      still.0,
-      still.1,
-      subst (λ next. NextIs g.P.Meld.meld false c.args.asked.now (local still.0 (view_at name still.1)) next c.go_peeking.new.prepared
-          (local c.go_peeking.new.self (view_at name (g.W.Words.sight c.go_peeking.new.pass)))) c.in-Goes.is
-          (took.turns false (λ here. absurd (false≢true here)) still.0 still.1 still.2),
-    )
+run_on-requires-clause-stands g c = turn_stands c.requires.stands refl c.in-Goes.is (turn g (goal.at.run_on-requires-clause-stands g c).After-go_peeking)
 
 pub returns-in-Goes : goal.returns-in-Goes
-returns-in-Goes g c =
-    let name = over g.P.Packed.pack (g.W.Words.name c.args.words.now) in
-    let asked = c.args.asked.now in
-    let own = c.args.self.now in
-    let start = g.W.Words.sight c.args.pass.now in
-    let phase = Peeking c.args.peek c.args.shrinks in
-    let left = c.go_peeking.new.prepared in
-    let mid = c.go_peeking.new.self in
-    let now = g.W.Words.sight c.go_peeking.new.pass in
-    turn_goes g.P.Meld.meld g.W.Words.alone true name asked phase unprepared own start refl c.requires.stands c.in-Goes.next left mid now
-    (subst (λ next. TakesTurn g.P.Meld.meld g.W.Words.alone true (under_way asked phase unprepared) (local own (view_at name start)) (coming next left) (local mid (view_at name now))) c.in-Goes.is
-    (turn g (goal.at.returns-in-Goes g c).After-go_peeking)) c.run_on.result c.run_on.new.self (g.W.Words.sight c.run_on.new.pass) c.run_on.ensures
+returns-in-Goes g c = turn_goes c.requires.stands refl c.in-Goes.is (turn g (goal.at.returns-in-Goes g c).After-go_peeking) c.run_on.ensures
 
 pub returns-in-Ends : goal.returns-in-Ends
-returns-in-Ends g c =
-    let name = over g.P.Packed.pack (g.W.Words.name c.args.words.now) in
-    let asked = c.args.asked.now in
-    let own = c.args.self.now in
-    let start = g.W.Words.sight c.args.pass.now in
-    let phase = Peeking c.args.peek c.args.shrinks in
-    let left = c.go_peeking.new.prepared in
-    let new = c.go_peeking.new.self in
-    let after = g.W.Words.sight c.go_peeking.new.pass in
-    turn_ends g.P.Meld.meld g.W.Words.alone true name asked phase unprepared own start refl c.requires.stands left c.in-Ends.reply new after
-    (subst (λ next. TakesTurn g.P.Meld.meld g.W.Words.alone true (under_way asked phase unprepared) (local own (view_at name start)) (coming next left) (local new (view_at name after))) c.in-Ends.is
-    (turn g (goal.at.returns-in-Ends g c).After-go_peeking))
+returns-in-Ends g c = turn_ends c.requires.stands refl c.in-Ends.is (turn g (goal.at.returns-in-Ends g c).After-go_peeking)
