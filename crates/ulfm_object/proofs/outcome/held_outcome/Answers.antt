@@ -1,6 +1,6 @@
 use Rattle.std.proofs.Common.{arith, ◌∙◌}
 use Rattle.ulfm_model.specs.Computed.{added}
-use Rattle.ulfm_record.specs.Kept.{record_of}
+use Rattle.ulfm_model.specs.Kept.{record_of}
 use Rattle.ulfm_object.proofs.Added.{few_added}
 use Rattle.ulfm_object.proofs.Holding.{few_of_all, same_after, same_reply}
 use Rattle.ulfm_object.proofs.outcome.held_outcome.Goals as goal

@@ -1,7 +1,7 @@
 use Rattle.std.proofs.Common.{Some, sym, ap, append-nil, ◌∙◌, arith}
 use Rattle.ulfm_model.specs.{Records.{Held}}
 use Rattle.ulfm_model.specs.Terms.{comm_of}
-use Rattle.ulfm_record.proofs.Places.{find_is, find_missing, is_of, position_below}
+use Rattle.ulfm_model.proofs.Places.{find_is, find_missing, is_of, position_below}
 use Rattle.ulfm_object.proofs.outcome.used_outcome.Goals as goal
 
 pub index-requires : goal.index-requires
