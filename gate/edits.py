@@ -6,7 +6,10 @@ is judged by what the check says of the function that it turns. An edit counts a
 whatever it calls. One whose function is proved, is only blamed on a callee, or isn't told of, is tried again, then alone, and at last by
 the toolchain's own command. Each crate is tried in a room of its own, as many at once as there are processors.
 
-    gate/edits.py [--minutes N] [NAME..]     the edits of these crates, or of all; with --minutes it ends after N minutes, and says what it hadn't reached
+    gate/edits.py [--minutes N] [--read] [NAME..]     the edits of these crates, or of all
+
+With --minutes it ends after N minutes, and says what it hadn't reached. With --read it proves none of them: it says which aren't texts of the language any
+more, since they name what the code does no longer, say. That takes a crate a few checks of some ten seconds.
 
 Crates that changed since the last commit that passed on this machine come first, and then the others in an order that the commit draws. What was refused
 is known on this machine from then on, by a sum of all that it rests on. The last line is 'N passed, M failed'.
@@ -111,6 +114,9 @@ class Trial:
         try:
             with Room(self.run.crates, self.name) as room:
                 self.flags = "--jobs", str(jobs)
+                if self.run.only_reads:
+                    self.read(room)
+                    return not self.left()
                 status, output = self.check(room, {})
                 if status:
                     print(output[-2000:], flush=True)
@@ -120,15 +126,34 @@ class Trial:
                     self.by_itself(room, edit)
         except Over:
             pass
-        del self.run.begun[self.name, "edits"]
-        print(self.tells(), flush=True)
+        finally:
+            del self.run.begun[self.name, "edits"]
+            print(self.tells(), flush=True)
         return not self.left()
 
-    def check(self, room, texts):
+    def read(self, room):
+        """Reads what is left in groups, and proves nothing of it."""
+        pools = [self.left()]
+        while pools:
+            pool = pools.pop()
+            if not pool:
+                continue
+            group, texts = self.chosen(pool)
+            faults = said.unread(self.check(room, texts, "--only", "")[1])
+            self.groups += 1
+            if not faults:
+                self.refused.update({it.name: "it was only read" for it in group})
+            elif len(group) == 1:
+                self.failed[group[0].name] = f"BAD EDIT: {faults[0]}"
+            else:
+                pools += [group[::2], group[1::2]]
+            pools.append([it for it in pool if it not in group])
+
+    def check(self, room, texts, *words):
         """Checks the crate with these texts in place of its own, over what is kept. Gives the status and what is said."""
         for path, text in texts.items():
             room.write(path, text)
-        status, output = room.run("check", *self.flags)
+        status, output = room.run("check", *self.flags, *words)
         for path in texts:
             room.write(path, read(f"{self.run.crates.folder(self.name)}/{path}"))
         self.run.end_where_over()
@@ -210,8 +235,8 @@ def judged(group, output):
 class Run:
     """One run over the edits of some crates."""
 
-    def __init__(self, root, names, minutes):
-        self.crates, self.minutes = Crates(root), minutes
+    def __init__(self, root, names, minutes, only_reads):
+        self.crates, self.minutes, self.only_reads = Crates(root), minutes, only_reads
         unknown = [it for it in names if it not in self.crates.by_name]
         if unknown:
             sys.exit(f"edits: there is no crate {', '.join(unknown)}")
@@ -304,7 +329,7 @@ class Run:
         if is_full:
             print("edits: the disk was full")
         failed = count(lambda it: len(it.failed)) + len(lost) + (is_full and not self.minutes)
-        if not failed and not left and not git(self.crates.root, "status", "--porcelain") and self.commit:
+        if not failed and not left and not self.only_reads and not git(self.crates.root, "status", "--porcelain") and self.commit:
             self.known.passed(self.commit)
         return count(lambda it: len(it.refused)), failed
 
@@ -317,11 +342,12 @@ def git(root, *words):
 def main():
     words = argparse.ArgumentParser(prog="gate/edits.py", description="Tries the must-fail edits of these crates, or of all.")
     words.add_argument("--minutes", type=float, default=0, help="ends after this time, and says what was not reached")
+    words.add_argument("--read", action="store_true", help="proves none of them, and says which can't be read")
     words.add_argument("names", nargs="*", metavar="NAME")
     given = words.parse_args()
     end_at_a_signal()
     try:
-        passed, failed = Run(os.getcwd(), given.names, given.minutes).tries()
+        passed, failed = Run(os.getcwd(), given.names, given.minutes, given.read).tries()
     except KeyboardInterrupt:
         sys.exit(130)
     print(f"{passed} passed, {failed} failed")

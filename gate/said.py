@@ -20,7 +20,7 @@ ELSEWHERE = re.compile(r"was not admitted|which was rejected")
 BY_NAMES = "only because a proof file names what the edit took away, so this says little of the contract: change a value and keep the names"
 NAMES = re.compile(rf"has no field|is not in scope|has no `|{ELSEWHERE.pattern}")
 # A text of the code or of a definition that could not be read, or that means nothing.
-UNREAD = re.compile(r"^(?:\./)?(?:src|specs)/\S+:\d+:\d+: error: (.*)$", re.M)
+UNREAD = re.compile(r"^(?:\./)?(?:src|specs)/\S+:\d+:\d+: error(?:\[[\w-]+\])?: (.*)$", re.M)
 # An error in code that is no fault of reading: a statement that doesn't hold.
 OF_PROOF = re.compile(r"`[^`]*`: (?!.*(?:is not in scope|has no field|is no name|operand is missing|expected the end|cannot continue))")
 
@@ -84,10 +84,14 @@ def loss(function, said, output):
     return f"fn {function}: {said}"[:200] + (f" ({BY_NAMES})" if by_names else "")
 
 
+def unread(output):
+    """Why texts of the code or of a definition couldn't be read, or nothing."""
+    return [it for it in UNREAD.findall(output) if not OF_PROOF.match(it)]
+
+
 def is_verdict_on_proofs(output):
     """Whether a check that failed read all of the crate's code, and says of its proofs that they fail."""
-    unread = any(not OF_PROOF.match(it) for it in UNREAD.findall(output))
-    return not unread and bool(re.search(r"^logic=not-proved", output, re.M)) and bool(told(output))
+    return not unread(output) and bool(re.search(r"^logic=not-proved", output, re.M)) and bool(told(output))
 
 
 def of_edit(crate, name, output):

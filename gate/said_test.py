@@ -26,6 +26,10 @@ def of_two_edits():
     expect(not said.is_verdict_on_proofs(output.replace("logic=not-proved", "rattle: no verdict")), "a check without an end is taken for a verdict")
     unread = "src/fresh.rt:16:8: error: expected an expression\n"
     expect(not said.is_verdict_on_proofs(unread + output), "code that can't be read is taken for a verdict")
+    unread = "src/fresh.rt:16:8: error[unknown-name]: cannot find type `Recrod` in this scope\n"
+    expect(said.unread(unread + output) == ["cannot find type `Recrod` in this scope"], "code that can't be read isn't told")
+    expect(not said.is_verdict_on_proofs(unread + output), "code that names nothing is taken for a verdict")
+    expect(not said.unread(output), "code that is read is told as unread")
 
 
 def of_callers():
