@@ -35,6 +35,13 @@ impl<'a, T, A> IntoIterator for &'a mut Vec<T, A> { type Item = &'a mut T; type 
 impl<T, A> IntoIterator for Vec<T, A> { type Item = T; type IntoIter = std::vec::IntoIter<T>; fn into_iter(self) -> Self::IntoIter { self.0.into_iter() } }
 pub trait CollectIn: Iterator + Sized { fn collect_in<A>(self, a: A) -> R<Vec<Self::Item, A>> { Ok(Vec(self.collect(), a)) } }
 impl<I: Iterator> CollectIn for I {}
+pub struct ArcSlice<T, A>(std::sync::Arc<Vec<T, A>>);
+impl<T, A> ArcSlice<T, A> {
+    pub fn from_vec(xs: Vec<T, A>) -> R<Self> { Ok(ArcSlice(std::sync::Arc::new(xs))) }
+    pub fn clone(&self) -> R<Self> { Ok(ArcSlice(self.0.clone())) }
+    pub fn as_slice(&self) -> &[T] { &self.0 }
+}
+impl<T, A> Deref for ArcSlice<T, A> { type Target = [T]; fn deref(&self) -> &[T] { &self.0 } }
 pub struct FoldHasher;
 pub struct BuildHasherDefault<H>(std::marker::PhantomData<H>);
 pub struct HashMap<K, V, S, A>(std::collections::HashMap<K, V>, std::marker::PhantomData<S>, A);
@@ -44,6 +51,7 @@ impl<K: std::hash::Hash + Eq, V, S, A> HashMap<K, V, S, A> {
     pub fn get(&self, k: &K) -> Option<&V> { self.0.get(k) }
     pub fn get_mut(&mut self, k: &K) -> Option<&mut V> { self.0.get_mut(k) }
     pub fn contains_key(&self, k: &K) -> bool { self.0.contains_key(k) }
+    pub fn remove(&mut self, k: &K) -> Option<V> { self.0.remove(k) }
     pub fn len(&self) -> usize { self.0.len() }
     pub fn clear(&mut self) { self.0.clear() }
 }
