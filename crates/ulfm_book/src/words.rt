@@ -81,7 +81,7 @@ impl<P: Packed, A: Allocator> BookWords<P, A> {
         let mut words = Vec::with_capacity(alloc, size)?;
         for _i in 0..size {
             let mut pen = pens.take();
-            words.push(Word::tracked(0, &mut pen))?;
+            words.push_reserved(Word::tracked(0, &mut pen));
         }
         Ok(BookWords {
             words,
