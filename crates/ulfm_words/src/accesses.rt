@@ -265,6 +265,7 @@ pub enum Settled {
 }
 
 /// One exchange of a member's place in an agreement round: it is settled so, or what settles it is given.
+#[inline(always)]
 pub fn set_slot<P: Packed, A: Allocator, W: Words<P, A>>(
     words: &W,
     pass: &mut W::Pass,
