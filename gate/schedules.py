@@ -333,10 +333,14 @@ class Explorer:
             ranks[whom] = (dead, ())
         return words, ranks
 
+    def standing(self, ranks, number):
+        """Where a rank stands, what it was given since its call began, and its next call; none where it has none to make."""
+        me, given = ranks[number]
+        return me, given, self.op(me)
+
     def step(self, words, ranks, number):
         """One atomic step of a rank; none where it has none to make."""
-        me, given = ranks[number]
-        found = self.op(me)
+        me, given, found = self.standing(ranks, number)
         if found is None:
             return None
         quiet, line = found
@@ -372,8 +376,7 @@ class Explorer:
 
     def waits(self, words, ranks, number):
         """Whether a rank stands before a wait of which a whole poll would be pending and would set no word."""
-        me, given = ranks[number]
-        found = self.op(me)
+        _, given, found = self.standing(ranks, number)
         if found is None:
             return True
         if found[1][0] != "wait" or given:
