@@ -1,10 +1,9 @@
 #!/usr/bin/env python3
-"""Writes a native program with flags and context ids of 64 bits, from a source whose have 32: the judge of traces, its generator, the race, or the words
-of call scripts.
+"""Writes a native program with flags and context ids of 64 bits, from a source whose have 32: the judge of traces, its generator, or the race.
 
-    bench/widen.py SOURCE.rs TARGET.rs      SOURCE is check_baseline.rs, gen.rs, race_baseline.rs or run_words.rs
+    bench/widen.py SOURCE.rs TARGET.rs      SOURCE is check_baseline.rs, gen.rs or race_baseline.rs
 
-The words of races and scripts of 64 bits have wings, as those of worlds have: each right behind its word, set before it and loaded after it.
+The words of a race of 64 bits have wings, as those of worlds have: each right behind its word, set before it and loaded after it.
 
 Each text that is replaced must stand as often as is said here, so that another source isn't taken for one of these.
 """
@@ -35,81 +34,66 @@ RACE_JOIN = """#[inline] fn join(a: Sum, b: Sum) -> Sum {
     meld(a, pack(b), 1 | b.pay >> 32 << 1)
 }
 """
-# Of each source: what stands there, what is written, and how often it stands. What a flag is read by is cut out between two lines.
-CHANGES = {
-    "check_baseline.rs": (
-        ("Flag(u32), Ctx(u32)", "Flag(u64), Ctx(u64)", 1),
-        ("arg: u32", "arg: u64", 1),
-        ("free: Vec<u32>", "free: Vec<u64>", 1),
-        ("Ack => t.num(4, 9999)?, Agree => t.flag()?", "Ack => t.num(4, 9999)? as u64, Agree => t.flag(true)?", 1),
-        ("t.flag()?", "t.flag(false)?", 3),
-        ("Agreed(u32, u16, bool)", "Agreed(u64, u16, bool)", 1),
-        ("t.num(2, 31)?", "t.num(2, 63)?", 1),
-        ("n.min(cl.arg) as u16", "(n as u64).min(cl.arg) as u16", 1),
-    ),
-    "gen.rs": (
-        ("tag: u8, pay: u32", "tag: u8, pay: u64", 1),
-        ("vec![0u32; ranks]", "vec![0u64; ranks]", 1),
-        ("pay[r] = !(1u32 << g.below(32));", "pay[r] = !(1u32 << g.below(32)) as u64;", 1),
-        ("u32::MAX << (c + 1)", "u64::MAX << (c + 1)", 1),
-    ),
-    # (flags of scripts are read as before, so that each upper half is 0)
-    "run_words.rs": (
-        ("slots: vec![0; comms * rounds * n], blocks: vec![0; 2 * comms * rounds]", "slots: vec![0; 2 * comms * rounds * n], blocks: vec![0; 4 * comms * rounds]", 1),
-        ("fn meld_word(a: (u8, u16, u16, u32), w: u64) -> (u8, u16, u16, u32)", "fn meld_word(a: (u8, u16, u16, u64), w: u64, wing: u64) -> (u8, u16, u16, u64)", 1),
-        ("(w >> 25) as u32);", "w >> 25 & 0xffff_ffff | wing >> 1 << 32);", 1),
-        ("const UNIT: (u8, u16, u16, u32)", "const UNIT: (u8, u16, u16, u64)", 1),
-        ("                if !Words::set_once(&mut w.slots[at],", "                Words::set_wing(&mut w.slots[2 * at + 1], 0);\n"
-         "                if !Words::set_once(&mut w.slots[2 * at],", 1),
-        ("    fn set_once(", "    fn set_wing(at: &mut u64, pay: u64) { if *at == 0 { *at = 1 | pay >> 32 << 1 } }\n    fn set_once(", 1),
-        ("&mut w.slots[k * nl..(k + 1) * nl]", "&mut w.slots[2 * k * nl..2 * (k + 1) * nl]", 1),
-        ("(w.blocks[2 * k], if b == n { w.blocks[2 * k] } else { w.blocks[2 * k + 1] })", "(w.blocks[4 * k], if b == n { w.blocks[4 * k] } else { w.blocks[4 * k + 2] })", 1),
-        ("{ d = meld_word(meld_word(d, x), y) }",
-         "{ d = meld_word(d, x, w.blocks[4 * k + 1]); if b != n { d = meld_word(d, y, w.blocks[4 * k + 3]) } }", 1),
-        ("&mut row[f as usize]", "&mut row[2 * f as usize]", 1),
-        ("let v = row[m as usize];", "let v = row[2 * m as usize];", 2),
-        ("s = meld_word(s, v);", "s = meld_word(s, v, if v >> 1 & 3 == 0 { 1 } else { row[2 * m as usize + 1] });", 1),
-        ("d = meld_word(d, v);", "d = meld_word(d, v, if v >> 1 & 3 == 0 { 1 } else { row[2 * m as usize + 1] });", 1),
-        ("if s.0 == 0 { 0 } else { (s.3 as u64) << 25 };", "if s.0 == 0 { 0 } else { (s.3 & 0xffff_ffff) << 25 };\n"
-         "                            Words::set_wing(&mut w.blocks[4 * k + 2 * i + 1], s.3);", 1),
-        ("&mut w.blocks[2 * k + i], &mut w.journal", "&mut w.blocks[4 * k + 2 * i], &mut w.journal", 1),
-        ("                        if b == n { out[1] = out[0] }\n                        d = meld_word(meld_word(d, out[0]), out[1]);",
-         "                        d = meld_word(d, out[0], w.blocks[4 * k + 1]);\n                        if b != n { d = meld_word(d, out[1], w.blocks[4 * k + 3]) }", 1),
-    ),
-    "race_baseline.rs": (
-        ("payload: u32) -> u64", "payload: u64) -> u64", 1),
-        ("(payload as u64) << 25", "(payload & 0xffff_ffff) << 25", 1),
-        ("pay: u32 }", "pay: u64 }", 1),
-        ("fn meld(a: Sum, w: u64) -> Sum", "fn meld(a: Sum, w: u64, wing: u64) -> Sum", 1),
-        ("let pay = (w >> 25) as u32;", "let pay = w >> 25 & 0xffff_ffff | wing >> 1 << 32;", 1),
-        ("slot: zeroed(2 * rounds * n * pad), block: zeroed(4 * rounds)", "slot: zeroed(4 * rounds * n * pad), block: zeroed(8 * rounds)", 1),
-        ("&self.slot[(k * self.n + r) * self.pad] }", "&self.slot[2 * (k * self.n + r) * self.pad] }" + RACE_WINGS, 1),
-        ("&self.block[k * 2 + i] }", "&self.block[k * 4 + 2 * i] }", 1),
-        ("tag: u64, pay: u32) -> bool", "tag: u64, pay: u64) -> bool", 1),
-        ("        w.slot(k, self.r).compare_exchange(0, contrib(", "        w.set_wing(w.slot_wing(k, self.r), pay);\n"
-         "        w.slot(k, self.r).compare_exchange(0, contrib(", 1),
-        ("s = meld(s, x);", "s = meld(s, x, w.upper(x, k, m));", 2),
-        ("*acc = meld(*acc, x);", "*acc = meld(*acc, x, w.upper(x, k, *at));", 1),
-        ("return Some(Some(meld(meld(UNIT, f), g)))", "return Some(Some(w.both(k, b == n, f, g)))", 1),
-        ("let mut out = [f, g];", "let mut sums = [UNIT; 2];\n        let mut out = [f, g];", 1),
-        ("if out[i] != 0 { continue }", "if out[i] != 0 { sums[i] = meld(UNIT, out[i], w.block_wing(k, i).load(SeqCst)); continue }", 1),
-        ("            out[i] = pack(s);\n", "            out[i] = pack(s);\n            sums[i] = s;\n            w.set_wing(w.block_wing(k, i), s.pay);\n", 1),
-        ("        if b == n { out[1] = out[0] }\n        Some(Some(meld(meld(UNIT, out[0]), out[1])))",
-         "        Some(Some(if b == n { sums[0] } else { join(sums[0], sums[1]) }))", 1),
-        ("#[inline] fn pack(s: Sum) -> u64 {\n", RACE_JOIN + "#[inline] fn pack(s: Sum) -> u64 {\n", 1),
-        ("mx: Vec<Mutex<u32>>", "mx: Vec<Mutex<u64>>", 1),
-        ("(2, 0xffff_fffe) } else { (1, !(1u32 << ((r + round) % 32))) }", "(2, !1) } else { (1, !(1u32 << ((r + round) % 32)) as u64) }", 1),
-        ("fetch_and(pay as u64, Relaxed)", "fetch_and(pay, Relaxed)", 1),
-        ("pay: v as u32 }", "pay: v & 0xffff_ffff }", 2),
-        ("stamp | pay as u64", "stamp | pay & 0xffff_ffff", 1),
-        ("acc &= d as u32; break", "acc &= d & 0xffff_ffff; break", 1),
-        ("(cur as u32 & pay) as u64", "(cur as u32 as u64 & pay)", 1),
-        ("fold(!0u32, |a, r| a & !(1u32 << ((r + round) % 32)))", "fold(!0u32, |a, r| a & !(1u32 << ((r + round) % 32))) as u64", 1),
-        ("rec.contribute(&w, round, 1, !(1u32 << ((r + round) % 32)))", "rec.contribute(&w, round, 1, !(1u32 << ((r + round) % 32)) as u64)", 1),
-        ("wrapping_add(s.unwrap().unwrap().pay)", "wrapping_add(s.unwrap().unwrap().pay as u32)", 1),
-    ),
-}
+# Of each source: how often a text stands there, the text, and what is written in its place. What a flag is read by is cut out between two lines.
+CHANGES = r"""
+check_baseline.rs
+  1 Flag(u32), Ctx(u32) ==> Flag(u64), Ctx(u64)
+  1 arg: u32 ==> arg: u64
+  1 free: Vec<u32> ==> free: Vec<u64>
+  1 Ack => t.num(4, 9999)?, Agree => t.flag()? ==> Ack => t.num(4, 9999)? as u64, Agree => t.flag(true)?
+  3 t.flag()? ==> t.flag(false)?
+  1 Agreed(u32, u16, bool) ==> Agreed(u64, u16, bool)
+  1 t.num(2, 31)? ==> t.num(2, 63)?
+  1 n.min(cl.arg) as u16 ==> (n as u64).min(cl.arg) as u16
+gen.rs
+  1 tag: u8, pay: u32 ==> tag: u8, pay: u64
+  1 vec![0u32; ranks] ==> vec![0u64; ranks]
+  1 pay[r] = !(1u32 << g.below(32)); ==> pay[r] = !(1u32 << g.below(32)) as u64;
+  1 u32::MAX << (c + 1) ==> u64::MAX << (c + 1)
+race_baseline.rs
+  1 payload: u32) -> u64 ==> payload: u64) -> u64
+  1 (payload as u64) << 25 ==> (payload & 0xffff_ffff) << 25
+  1 pay: u32 } ==> pay: u64 }
+  1 fn meld(a: Sum, w: u64) -> Sum ==> fn meld(a: Sum, w: u64, wing: u64) -> Sum
+  1 let pay = (w >> 25) as u32; ==> let pay = w >> 25 & 0xffff_ffff | wing >> 1 << 32;
+  1 slot: zeroed(2 * rounds * n * pad), block: zeroed(4 * rounds) ==> slot: zeroed(4 * rounds * n * pad), block: zeroed(8 * rounds)
+  1 &self.slot[(k * self.n + r) * self.pad] } ==> &self.slot[2 * (k * self.n + r) * self.pad] }<WINGS>
+  1 &self.block[k * 2 + i] } ==> &self.block[k * 4 + 2 * i] }
+  1 tag: u64, pay: u32) -> bool ==> tag: u64, pay: u64) -> bool
+  1         w.slot(k, self.r).compare_exchange(0, contrib( ==>         w.set_wing(w.slot_wing(k, self.r), pay);\n        w.slot(k, self.r).compare_exchange(0, contrib(
+  2 s = meld(s, x); ==> s = meld(s, x, w.upper(x, k, m));
+  1 *acc = meld(*acc, x); ==> *acc = meld(*acc, x, w.upper(x, k, *at));
+  1 return Some(Some(meld(meld(UNIT, f), g))) ==> return Some(Some(w.both(k, b == n, f, g)))
+  1 let mut out = [f, g]; ==> let mut sums = [UNIT; 2];\n        let mut out = [f, g];
+  1 if out[i] != 0 { continue } ==> if out[i] != 0 { sums[i] = meld(UNIT, out[i], w.block_wing(k, i).load(SeqCst)); continue }
+  1             out[i] = pack(s);\n ==>             out[i] = pack(s);\n            sums[i] = s;\n            w.set_wing(w.block_wing(k, i), s.pay);\n
+  1         if b == n { out[1] = out[0] }\n        Some(Some(meld(meld(UNIT, out[0]), out[1]))) ==>         Some(Some(if b == n { sums[0] } else { join(sums[0], sums[1]) }))
+  1 #[inline] fn pack(s: Sum) -> u64 {\n ==> <JOIN>#[inline] fn pack(s: Sum) -> u64 {\n
+  1 mx: Vec<Mutex<u32>> ==> mx: Vec<Mutex<u64>>
+  1 (2, 0xffff_fffe) } else { (1, !(1u32 << ((r + round) % 32))) } ==> (2, !1) } else { (1, !(1u32 << ((r + round) % 32)) as u64) }
+  1 fetch_and(pay as u64, Relaxed) ==> fetch_and(pay, Relaxed)
+  2 pay: v as u32 } ==> pay: v & 0xffff_ffff }
+  1 stamp | pay as u64 ==> stamp | pay & 0xffff_ffff
+  1 acc &= d as u32; break ==> acc &= d & 0xffff_ffff; break
+  1 (cur as u32 & pay) as u64 ==> (cur as u32 as u64 & pay)
+  1 fold(!0u32, |a, r| a & !(1u32 << ((r + round) % 32))) ==> fold(!0u32, |a, r| a & !(1u32 << ((r + round) % 32))) as u64
+  1 rec.contribute(&w, round, 1, !(1u32 << ((r + round) % 32))) ==> rec.contribute(&w, round, 1, !(1u32 << ((r + round) % 32)) as u64)
+  1 wrapping_add(s.unwrap().unwrap().pay) ==> wrapping_add(s.unwrap().unwrap().pay as u32)
+"""
 BEGIN, END = "    #[inline] fn flag(&mut self) -> Option<u32> {\n", "    #[inline] fn lit("
+
+
+def changes_of(name):
+    """What is changed in a source of this name."""
+    found, of = [], ""
+    for line in CHANGES.strip().splitlines():
+        if not line.startswith("  "):
+            of = line
+        elif of == name:
+            count, texts = line.strip("\n")[2:].split(" ", 1)
+            old, new = (it.replace("\\n", "\n") for it in texts.split(" ==> "))
+            found.append((int(count), old, new.replace("<WINGS>", RACE_WINGS).replace("<JOIN>", RACE_JOIN)))
+    return found
 
 
 def widened(source):
@@ -117,9 +101,10 @@ def widened(source):
     name = os.path.basename(source)
     with open(source, encoding="utf-8") as it:
         text = it.read()
-    if name not in CHANGES:
-        sys.exit(f"widen: {name} is none of {', '.join(CHANGES)}")
-    for old, new, count in CHANGES[name]:
+    changes = changes_of(name)
+    if not changes:
+        sys.exit(f"widen: there are no changes for {name}")
+    for count, old, new in changes:
         if text.count(old) != count:
             sys.exit(f"widen: {name} has {text.count(old)} times, and not {count} times: {old}")
         text = text.replace(old, new)
