@@ -29,7 +29,7 @@ use Rattle.ulfm_steps.specs.Among.{among}
 use Rattle.ulfm_comm.specs.{Polls.{PollHasMarked}, Requests.{agreement}, Phase.{Answered, Stands, StandsAt, next_step, under_way}, StepsLeft.{MakesStep}}
 use Rattle.ulfm_comm.specs.Agreement.{HasReadAll, IsMarking, IsReading, agreed_reply}
 use Rattle.ulfm_comm.specs.declared.phases.phase.{Phase.{Phase}, Phase.TheVariants.{Marking, Reading}}
-use Rattle.ulfm_comm.proofs.{CallRuns.{calls_is}, Stands.{marked_lasts}, Holding.{holds, same_held}, AmongOthers.{did_loosely, marks_loosely}}
+use Rattle.ulfm_comm.proofs.{CallRuns.{calls_is}, Stands.{marked_lasts, marking_then}, Holding.{holds, same_held}, AmongOthers.{did_loosely, marks_loosely}}
 use Rattle.ulfm_comm.proofs.Polls.{held_first, later, not_found, not_marked, open_members, poll_agreed, poll_mismatch, poll_pending}
 use Rattle.ulfm_comm.specs.Local.{Local, frame, local}
 use Rattle.ulfm_comm.specs.Requests.{polled_round}
@@ -67,7 +67,7 @@ pub reading_begins : {P : Type 0} (meld : P → P → P) (limits : Limits) (alon
     → (reading : ReadBlocks P) → reading ≡ starts_at comm round blocks members → comm ≡ c → round ≡ k → members ≡ length x.group
     → IsReading (frame meld limits alone) c shrinks reading (moment old before) (moment mid now)
 reading_begins {P} meld limits alone c shrinks k x old before mid now p blocks comm round members are unknown reading is there at size =
-    let some : 0 < length x.group = some_member x.group mid.number (holds meld limits p.look mid c x p.fits p.held).member in
+    let some : 0 < length x.group = some_member x.group mid.number (holds meld limits p.since.look mid c x p.since.fits p.since.held).member in
     let begun : IsReading (frame meld limits alone) c shrinks (starts_at comm round blocks (length x.group)) (moment old before) (moment mid now) =
     record {
       x = x;
@@ -87,36 +87,36 @@ module _ {P : Type 0} (meld : P → P → P) (limits : Limits) (alone : Bool) (c
     (p : IsMarking (frame meld limits alone) c shrinks marks blocks (moment old before) (moment own now)) where
   marking_fits : Fits meld limits now own
   marking_fits =
-      let did = did_wait alone (entries_by (Rank old.number) p.has_marked.own) p.look p.marked now p.has_marked.did p.waited in
-      fits_stays meld limits p.look now own (did_prefix alone (entries_by (Rank old.number) p.has_marked.own) p.look now did) legal p.fits
+      let did = did_wait alone (entries_by (Rank old.number) p.has_marked.own) p.since.look p.marked now p.has_marked.did p.waited in
+      fits_stays meld limits p.since.look now own (did_prefix alone (entries_by (Rank old.number) p.has_marked.own) p.since.look now did) legal p.since.fits
 
   abbrev found : List ℕ
-  found = failures p.look
+  found = failures p.since.look
 
   marking_seen : own.seen ≡ found
-  marking_seen = ap (λ (w : Record). w.seen) p.looked.record_is
+  marking_seen = ap (λ (w : Record). w.seen) p.since.looked.record_is
 
   -- the next one may be made
   marking_may : MayMarkAll limits now marks.comm marks.round p.x.group own.seen
   marking_may =
-      let round = open_members meld limits now own c marks.round shrinks p.x legal marking_fits p.held p.open_is in
+      let round = open_members meld limits now own c marks.round shrinks p.x legal marking_fits p.since.held p.open_is in
       record { round = subst (λ w. IsRoundOf limits now w marks.round p.x.group) (sym p.there) round; begins = marking_fits.seen }
 
   -- after more of them
   module _ (quiet : Bool) (only : IsTrue alone → IsTrue quiet) (after : History P) (n : ℕ) (between : List ℕ)
       (members_are : members_in p.x.group own.seen n ≡ members_in p.x.group own.seen marks.next ++ between)
       (last : Marks quiet marks.rank marks.comm marks.round between now after) where
-    marks_further : Marks alone old.number c marks.round (members_in p.x.group found n) p.look after
+    marks_further : Marks alone old.number c marks.round (members_in p.x.group found n) p.since.look after
     marks_further =
         let before = members_in p.x.group found marks.next in
         let all : members_in p.x.group found n ≡ before ++ between = subst (λ s. members_in p.x.group s n ≡ members_in p.x.group s marks.next ++ between)
         marking_seen members_are in
         let mine : Marks quiet old.number c marks.round between now after =
         subst (λ r. Marks quiet r c marks.round between now after) p.mine (subst (λ w. Marks quiet marks.rank w marks.round between now after) p.there last) in
-        let first : Marks alone old.number c marks.round before p.look now = marks_wait alone old.number c marks.round before p.look p.marked now p.has_marked
+        let first : Marks alone old.number c marks.round before p.since.look now = marks_wait alone old.number c marks.round before p.since.look p.marked now p.has_marked
         p.waited in
-        subst (λ rs. Marks alone old.number c marks.round rs p.look after) (sym all)
-        (marks_join alone old.number c marks.round before between p.look now after (new_members meld limits p.look p.x.group n before between p.legal all) first
+        subst (λ rs. Marks alone old.number c marks.round rs p.since.look after) (sym all)
+        (marks_join alone old.number c marks.round before between p.since.look now after (new_members meld limits p.since.look p.x.group n before between p.legal all) first
         (marks_loosely alone quiet only old.number c marks.round between now after mine))
 
     -- what is known of the blocks is so still
@@ -130,24 +130,11 @@ module _ {P : Type 0} (meld : P → P → P) (limits : Limits) (alone : Bool) (c
     marking_on : (next : MarkAll) → next.next ≡ n → next.rank ≡ marks.rank → next.comm ≡ marks.comm → next.round ≡ marks.round
         → IsAt p.x.group own.seen next.next next.known → IsMarking (frame meld limits alone) c shrinks next blocks (moment old before) (moment own after)
     marking_on next n_is rank comm round at =
-        record {
-          look = p.look;
-          looked = p.looked;
-          legal = p.legal;
-          fits = p.fits;
-          x = p.x;
-          held = p.held;
-          open_is = p.open_is ∙ ap (λ k. Some (agreement shrinks k)) (sym round);
-          mine = rank ∙ p.mine;
-          there = comm ∙ p.there;
-          at = subst (λ s. IsAt p.x.group s next.next next.known) marking_seen at;
-          marked = after;
-          has_marked = subst (λ k. Marks alone old.number c k (members_in p.x.group found next.next) p.look after) (sym round)
-              (subst (λ m. Marks alone old.number c marks.round (members_in p.x.group found m) p.look after) (sym n_is) marks_further);
-          waited = did_none alone after;
-          are = marks_blocks next comm round;
-          unknown = p.unknown;
-        }
+        marking_then meld limits alone old before own now after c shrinks marks blocks p next rank comm round
+        (subst (λ s. IsAt p.x.group s next.next next.known) marking_seen at) after
+        (subst (λ k. Marks alone old.number c k (members_in p.x.group found next.next) p.since.look after) (sym round)
+        (subst (λ m. Marks alone old.number c marks.round (members_in p.x.group found m) p.since.look after) (sym n_is) marks_further)) (did_none alone after)
+        (marks_blocks next comm round)
 
     -- or all are marked
     marking_ends : (known : ℕ) → IsAt p.x.group own.seen n known → length own.seen ≤ n → IsLegal meld limits after
@@ -155,13 +142,10 @@ module _ {P : Type 0} (meld : P → P → P) (limits : Limits) (alone : Bool) (c
     marking_ends known at past longer =
         let all = all_in p.x.group found n (subst (λ s. n ≤ length s) marking_seen at.within) (subst (λ s. length s ≤ n) marking_seen past) in
         record {
-          look = p.look;
-          looked = p.looked;
-          fits = p.fits;
-          held = p.held;
+          since = p.since;
           open_is = p.open_is;
           marked = after;
-          marks = subst (λ rs. Marks alone old.number c marks.round rs p.look after) all marks_further;
+          marks = subst (λ rs. Marks alone old.number c marks.round rs p.since.look after) all marks_further;
           waited = did_none alone after;
           legal = longer;
         }
@@ -175,7 +159,7 @@ module _ {P : Type 0} (meld : P → P → P) (name : Over P) (asked : Call P) (m
   marking = st.at.1
 
   group_same : members ≡ marking.x.group
-  group_same = members_are ∙ ap (λ (z : Held). z.group) (same_held own (comm_of asked) w marking.x y w_is found marking.held)
+  group_same = members_are ∙ ap (λ (z : Held). z.group) (same_held own (comm_of asked) w marking.x y w_is found marking.since.held)
 
   -- the next one may be made
   pub marking_may_on : MayMarkAll name.limits now.seen marks.comm marks.round members declared
@@ -185,7 +169,7 @@ module _ {P : Type 0} (meld : P → P → P) (name : Over P) (asked : Call P) (m
       (subst (λ s. MayMarkAll name.limits now.seen marks.comm marks.round marking.x.group s) (sym declared_are) may)
 
   -- what it stands at, and in whose name
-  found_in : declared ≡ failures marking.look
+  found_in : declared ≡ failures marking.since.look
   found_in = declared_are ∙ marking_seen meld name.limits alone (comm_of asked) shrinks marks blocks old before.seen own now.seen of.legal marking
 
   pub marking_at : IsAt members declared marks.next marks.known
@@ -196,15 +180,15 @@ module _ {P : Type 0} (meld : P → P → P) (name : Over P) (asked : Call P) (m
   marking_more = subst (λ s. marks.next < length s) (sym found_in) st.at.2
 
   pub marking_mine : marks.rank ≡ own.number
-  marking_mine = marking.mine ∙ sym (ap (λ (w : Record). w.number) marking.looked.record_is)
+  marking_mine = marking.mine ∙ sym (ap (λ (w : Record). w.number) marking.since.looked.record_is)
 
   -- the members are some, and no more than ranks
-  pub marking_few : length members ≤ 1024
-  marking_few = few_members name.limits now.seen marks.comm marks.round members of.may_open marking_may_on.round
-
-  pub marking_any : 0 < length members
-  marking_any = subst (λ ms. 0 < length ms) (sym group_same) (some_member marking.x.group own.number
-      (holds meld name.limits marking.look own (comm_of asked) marking.x marking.fits marking.held).member)
+  pub marking_sized : (0 < length members) × (length members ≤ 1024)
+  marking_sized = (
+    subst (λ ms. 0 < length ms) (sym group_same) (some_member marking.x.group own.number
+        (holds meld name.limits marking.since.look own (comm_of asked) marking.x marking.since.fits marking.since.held).member),
+    few_members name.limits now.seen marks.comm marks.round members of.may_open marking_may_on.round,
+  )
 
   -- not all blocks were set
   pub marking_unknown : is_whole blocks (length members) ≡ false
@@ -263,7 +247,7 @@ module _ {P : Type 0} (meld : P → P → P) (limits : Limits) (alone : Bool) (c
   reading_round : IsRoundOf limits now reading.comm reading.round p.x.group
   reading_round =
       let fits = later meld limits alone before old own c shrinks reading.round p.x now p.marked in
-      let round = open_members meld limits now own c reading.round shrinks p.x p.marked.legal fits p.marked.held p.marked.open_is in
+      let round = open_members meld limits now own c reading.round shrinks p.x p.marked.legal fits p.marked.since.held p.marked.open_is in
       subst (λ w. IsRoundOf limits now w reading.round p.x.group) (sym p.there) round
 
   module _ (quiet : Bool) (only : IsTrue alone → IsTrue quiet) (after : History P) (did : Did quiet [] now after) (legal : IsLegal meld limits after) where
@@ -354,7 +338,7 @@ module _ {P : Type 0} (meld : P → P → P) (name : Over P) (asked : Call P) (r
   reads = st.at.1
 
   read_same : members ≡ reads.x.group
-  read_same = members_are ∙ ap (λ (z : Held). z.group) (same_held own (comm_of asked) w reads.x y w_is found reads.marked.held)
+  read_same = members_are ∙ ap (λ (z : Held). z.group) (same_held own (comm_of asked) w reads.x y w_is found reads.marked.since.held)
 
   -- the next one may be made
   pub reading_may : IsView meld (view_at name now) → MayReadBlocks meld members (running reading (view_at name now))
@@ -398,9 +382,7 @@ module _ {P : Type 0} (meld : P → P → P) (name : Over P) (asked : Call P) (r
           → HasReadAll meld alone asked (polled_round shrinks next.round) all (local old (view_at name before)) (local own (view_at name after))
       reading_ends all read =
           record {
-            fits = st.fits;
-            polls = st.at.0;
-            onward = omega (arith, st.onward, steps);
+            on = record { fits = st.fits; polls = st.at.0; onward = omega (arith, st.onward, steps) };
             x = reads.x;
             marked = subst (λ k. PollHasMarked (frame meld name.limits alone) (comm_of asked) (polled_round shrinks k) reads.x (moment old before.seen) (moment own after.seen)) (sym round) marked_on;
             read = subst (λ c. IsSummed meld after.seen c next.round reads.x.group all) (comm ∙ reads.there)
@@ -435,8 +417,8 @@ pub round_agrees : {P : Type 0} (meld : P → P → P) (alone : Bool) (name : Ov
     → (reply : Reply P) → reply ≡ agreed_reply all all.body
     → Answered meld alone asked (local old (view_at name before)) reply (local new (view_at name now))
 round_agrees {P} meld alone name asked shrinks k all old before mid now of r is w w_is new left reply reply_is =
-    subst (λ (a : Call P). Answered meld alone a (local old (view_at name before)) reply (local new (view_at name now))) (sym r.polls)
-    (answers_agreed meld alone name (comm_of asked) k old before mid now r.fits of r.onward r.x
+    subst (λ (a : Call P). Answered meld alone a (local old (view_at name before)) reply (local new (view_at name now))) (sym r.on.polls)
+    (answers_agreed meld alone name (comm_of asked) k old before mid now r.on.fits of r.on.onward r.x
     (subst (λ b. PollHasMarked (frame meld name.limits alone) (comm_of asked) (polled_round b k) r.x (moment old before.seen) (moment mid now.seen)) is r.marked) all r.read new
     (left ∙ ap (closed mid) w_is) reply
     reply_is)

@@ -24,9 +24,9 @@ module _ {P : Type 0} (meld : P → P → P) (limits : Limits) (alone : Bool) (c
     (now : History P) (p : IsWaiting (frame meld limits alone) c k x (moment old before) (moment own now)) where
   abbrev waiting_awaits : IsLegal meld limits now → Awaits meld limits now c k own
   waiting_awaits legal = record {
-    fits = fits_stays meld limits p.look now own (did_prefix alone [] p.look now p.waited) legal p.fits;
+    fits = fits_stays meld limits p.since.look now own (did_prefix alone [] p.since.look now p.waited) legal p.since.fits;
     x = x;
-    held = p.held;
+    held = p.since.held;
     open_is = p.open_is;
   }
 
@@ -39,13 +39,10 @@ module _ {P : Type 0} (meld : P → P → P) (limits : Limits) (alone : Bool) (c
       → IsWaiting (frame meld limits alone) c k x (moment old before) (moment own after)
   waiting_on quiet only after did =
       record {
-        look = p.look;
-        looked = p.looked;
+        since = p.since;
         legal = p.legal;
-        fits = p.fits;
-        held = p.held;
         open_is = p.open_is;
-        waited = did_wait alone [] p.look now after p.waited (did_loosely alone quiet only [] now after did);
+        waited = did_wait alone [] p.since.look now after p.waited (did_loosely alone quiet only [] now after did);
       }
 
 -- a call that stands between two loads of arrivals, by what the code knows of the communicator
@@ -57,7 +54,7 @@ module _ {P : Type 0} (meld : P → P → P) (name : Over P) (asked : Call P) (a
   waits = st.at.3
 
   arrived_same : members ≡ st.at.2.group
-  arrived_same = members_are ∙ ap (λ (z : Held). z.group) (same_held own (comm_of asked) w st.at.2 y w_is found waits.held)
+  arrived_same = members_are ∙ ap (λ (z : Held). z.group) (same_held own (comm_of asked) w st.at.2 y w_is found waits.since.held)
 
   -- the next one may be made
   pub waiting_may : IsRoundOf name.limits now.seen arrivals.comm arrivals.round members
@@ -124,21 +121,21 @@ module _ {P : Type 0} (meld : P → P → P) (alone : Bool) (name : Over P) (c k
   asked = call.Poll old.number c
 
   abbrev look : Sight P
-  look = record after { seen = p.look }
+  look = record after { seen = p.since.look }
 
-  abbrev awaits : Awaits meld name.limits p.look c k own
-  awaits = record { fits = p.fits; x = x; held = p.held; open_is = p.open_is }
+  abbrev awaits : Awaits meld name.limits p.since.look c k own
+  awaits = record { fits = p.since.fits; x = x; held = p.since.held; open_is = p.open_is }
 
   -- no agreement is open
   no_agreement : (reply : Reply P) (new : Record) → reply ≡ Pending → IsAgreement (polled_by old asked) → EndsInMissing meld alone c (local old (view_at name before)) (local new (view_at name after))
-  no_agreement reply new is agrees = absurd (subst IsAgreement (barrier_polled meld name.limits alone before.seen p.look old own p.looked c k awaits) agrees)
+  no_agreement reply new is agrees = absurd (subst IsAgreement (barrier_polled meld name.limits alone before.seen p.since.look old own p.since.looked c k awaits) agrees)
 
   answers_revoked : is_revoked after.seen c ≡ true → (new : Record) → new ≡ closed own c
       → Answered meld alone asked (local old (view_at name before)) (Refused IsRevoked) (local new (view_at name after))
   answers_revoked is new left =
       record {
-        ends = inr (polls_revoked meld alone name before look after old own fits p.looked c k awaits of onward new
-            (did_wait alone [] p.look earlier after.seen p.waited wait) is left);
+        ends = inr (polls_revoked meld alone name before look after old own fits p.since.looked c k awaits of onward new
+            (did_wait alone [] p.since.look earlier after.seen p.waited wait) is left);
         pending = no_agreement (Refused IsRevoked) new;
       }
 
@@ -147,7 +144,7 @@ module _ {P : Type 0} (meld : P → P → P) (alone : Bool) (name : Over P) (c k
       → Answered meld alone asked (local old (view_at name before)) (missing_reply missing) (local new (view_at name after))
   answers_missing standing missing are legal new left =
       record {
-        ends = inr (by_missing missing (calls_missing_at meld alone name before look after old own fits p.looked c k awaits of onward earlier x.group own.seen
+        ends = inr (by_missing missing (calls_missing_at meld alone name before look after old own fits p.since.looked c k awaits of onward earlier x.group own.seen
             missing new p.waited legal wait standing refl refl are left));
         pending = no_agreement (missing_reply missing) new;
       }
@@ -167,9 +164,9 @@ module _ {P : Type 0} (meld : P → P → P) (alone : Bool) (name : Over P) (ask
   checking_within w is =
       let i = st.at.2 in
       let p = i.waits in
-      let fits = fits_stays meld name.limits p.look now.seen own (did_prefix alone [] p.look now.seen
-      (did_wait alone [] p.look st.at.1 now.seen p.waited i.waited)) of.legal p.fits in
-      let within = held_below meld name.limits now.seen own (comm_of asked) i.x fits p.held of.legal of.may_open in
+      let fits = fits_stays meld name.limits p.since.look now.seen own (did_prefix alone [] p.since.look now.seen
+      (did_wait alone [] p.since.look st.at.1 now.seen p.waited i.waited)) of.legal p.since.fits in
+      let within = held_below meld name.limits now.seen own (comm_of asked) i.x fits p.since.held of.legal of.may_open in
       omega (arith, is, within)
 
   module _ (quiet : Bool) (only : IsTrue alone → IsTrue quiet) (after : Sight P) (of_after : IsView meld (view_at name after)) (did : Did quiet [] now.seen after.seen)
@@ -211,12 +208,12 @@ pub checking_early : {P : Type 0} (meld : P → P → P) (limits : Limits) (alon
 checking_early {P} meld limits alone quiet only asked missing earlier old before own now after polls i did w w_is standing which is new left =
     let c = comm_of asked in
     let p = i.waits in
-    let awaits : Awaits meld limits p.look c i.k own = record { fits = p.fits; x = i.x; held = p.held; open_is = p.open_is } in
+    let awaits : Awaits meld limits p.since.look c i.k own = record { fits = p.since.fits; x = i.x; held = p.since.held; open_is = p.open_is } in
     let wait = did_wait alone [] earlier now after i.waited (did_loosely alone quiet only [] now after did) in
     let here = sym (ap (is_revoked after) w_is) ∙ standing in
-    let seen = ap (λ (r : Record). r.seen) p.looked.record_is in
+    let seen = ap (λ (r : Record). r.seen) p.since.looked.record_is in
     subst (λ (a : Call P). IsEndRun meld limits alone (moment old before) a (missing_reply which) (moment new earlier)) (sym polls)
-    (barrier_waits meld limits alone before p.look old own p.looked c i.k awaits earlier p.waited i.legal which new
+    (barrier_waits meld limits alone before p.since.look old own p.since.looked c i.k awaits earlier p.waited i.legal which new
     (standing_before earlier after c (did_prefix alone [] earlier after wait) here)
     (subst (λ s. MissingAre earlier c i.k i.x.group s which) seen (subst (MissingAre earlier c i.k i.x.group own.seen) is i.are))
     (left ∙ ap (λ n. missing_leaves own n which) w_is))

@@ -20,7 +20,7 @@ use Rattle.ulfm_model.specs.Records.{moment}
 use Rattle.ulfm_model.proofs.{LeftFits.{fits_seen}, LeftRuns.{call_fits}, Lists.{prefix_trans}, Stable.{fits_stays}}
 use Rattle.ulfm_words.specs.Steps.{IsView, Over, Sight, view_at}
 use Rattle.ulfm_words.proofs.Trails.{did_none, did_prefix, did_quiet, did_wait}
-use Rattle.ulfm_comm.specs.{Calls.{Calls, FindsTwice, HadCome, RanOut, Linearizes}, Ends.{IsEarlyRun, IsEndRun, IsRefusedAgain}, Look.{Looked}}
+use Rattle.ulfm_comm.specs.{Calls.{Calls, FindsTwice, IsRunOut, RanOut, Linearizes}, Ends.{IsEarlyRun, IsEndRun, IsRefusedAgain}, Look.{Looked}}
 use Rattle.ulfm_comm.proofs.ReplyKinds.{counted_seen}
 use Rattle.ulfm_comm.proofs.WholeCall.{refused_missing, sees_later, self_failed, span_ends}
 use Rattle.ulfm_comm.specs.Local.{local}
@@ -183,30 +183,15 @@ module _ {P : Type 0} (meld : P → P → P) (alone : Bool) (name : Over P) (bef
       missing refl)
 
   -- a call that ran out of memory, of a rank that has then seen so much
-  pub runs_out_after : (asked : Call P) (old new : Record) (look : History P) (own : List (Event P)) → IsView meld (view_at name after)
-      → Fits meld name.limits before.seen old → Looked alone before.seen look old (record old { seen = failures look })
-      → Did alone (entries_by (Rank old.number) own) look after.seen → refusal_of old asked ≡ None → AllByRecursion (MayOwn (failures look) old asked) own
-      → spawns (entries_by (Rank old.number) own) ≡ [] → HadCome meld name.limits after.seen old.number (comm_of asked) (polled_by old asked)
-      → Sees (is_shrink (polled_by old asked)) (failures look) after.seen new.seen → IsPrefix new.seen (failures after.seen)
-      → new ≡ record old { seen = new.seen } → RanOut meld alone asked (local old (view_at name before)) (local new (view_at name after))
-  runs_out_after asked old new look own of fits looked did passed may none come sees begins is =
-      let to_look = did_prefix alone [] before.seen look looked.did in
-      let to_end = did_prefix alone (entries_by (Rank old.number) own) look after.seen did in
-      let whole = prefix_trans before.seen look after.seen to_look to_end in
+  pub runs_out_after : (asked : Call P) (old new : Record) → IsView meld (view_at name after) → Fits meld name.limits before.seen old
+      → IsPrefix new.seen (failures after.seen) → IsRunOut meld name.limits alone (moment old before.seen) asked (moment new after.seen)
+      → RanOut meld alone asked (local old (view_at name before)) (local new (view_at name after))
+  runs_out_after asked old new of fits begins run_out =
+      let whole = prefix_trans before.seen run_out.span.point after.seen run_out.span.point_begins run_out.span.point_ends in
       let still = fits_stays meld name.limits before.seen after.seen old whole of.legal fits in
       record {
         of = of;
         onward = onward;
-        fits = subst (Fits meld name.limits after.seen) (sym is) (fits_seen meld name.limits after.seen old new.seen still begins);
-        run_out = record {
-          in_use = looked.in_use;
-          span = span_ends (Rank old.number) own false looked.did did of.legal;
-          not_declared = looked.not_declared;
-          not_refused = passed;
-          own = may;
-          makes_none = none;
-          had_come = come;
-          sees = sees;
-          record_is = is;
-        };
+        fits = subst (Fits meld name.limits after.seen) (sym run_out.record_is) (fits_seen meld name.limits after.seen old new.seen still begins);
+        run_out = run_out;
       }

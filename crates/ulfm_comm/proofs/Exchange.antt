@@ -54,6 +54,23 @@ pub record IsStarting {P : Type 0} (meld : P → P → P) (limits : Limits) (ask
   pub room : x.next_agreement < old.limits.rounds
   pub next : old.limits.rounds ≤ 4096 → HasNext request
 
+-- it has it, where it begins this request with this offer
+starting_with : {P : Type 0} {meld : P → P → P} {limits : Limits} {asked : Call P} {old : Record} {x : Held} {request began : Request} {offer mine : Offer P}
+    → request ≡ began → offer ≡ mine → (traits_of asked).polls ≡ false → (traits_of asked).starts x ≡ Some began
+    → ((look : List ℕ) (given : Contribution P) → CallAdds look old.number x asked (Settle x.comm x.next_agreement old.number given))
+    → ((view : AtPoint P) → (reply : _) → StartReplies view old x mine reply → Replies meld limits view old x asked reply) → contributes asked ≡ true
+    → x.next_agreement < old.limits.rounds → (old.limits.rounds ≤ 4096 → HasNext began) → IsStarting meld limits asked old x request offer
+starting_with {old = old} {x = x} request_is offer_is no_poll starts adds replies contributing room next =
+    record {
+      no_poll = no_poll;
+      starts = starts ∙ ap Some (sym request_is);
+      adds = adds;
+      replies = λ view reply is. replies view reply (subst (λ o. StartReplies view old x o reply) offer_is is);
+      contributing = contributing;
+      room = room;
+      next = λ few. subst HasNext (sym request_is) (next few);
+    }
+
 -- it has it
 pub is_starting : {P : Type 0} (meld : P → P → P) (limits : Limits) (asked : Call P) (old : Record) (x : Held) (request : Request) (offer : Offer P)
     → first_refusal (tests_of old x asked) ≡ None → StartsWith asked old x request offer
@@ -62,30 +79,14 @@ is_starting meld limits (call.Agree rank c value) old x request offer passes sta
     let late : Bool = nat_le old.limits.rounds (x.next_agreement + 1) in
     let others = passes_first (is_some x.request) Busy ((late, RoundsUsedUp) ∷ []) passes in
     let room : x.next_agreement + 1 < old.limits.rounds = before_late old.limits.rounds (x.next_agreement + 1) (passes_first late RoundsUsedUp [] others.1).0 in
-    record {
-      no_poll = refl;
-      starts = ap Some (sym starts.0);
-      adds = λ look given. (given, refl);
-      replies = λ view reply is. subst (λ o. StartReplies view old x o reply) starts.1 is;
-      contributing = refl;
-      room = omega (arith, room);
-      next = λ few. subst HasNext (sym starts.0) (omega (arith, room, few));
-    }
+    starting_with starts.0 starts.1 refl refl (λ look given. (given, refl)) (λ view reply is. is) refl (omega (arith, room)) (λ few. omega (arith, room, few))
 is_starting meld limits (call.Shrink rank c) old x request offer passes starts =
     let late : Bool = nat_le old.limits.rounds x.next_agreement in
     let shrinking : Bool = list_any (λ y. is_shrink y.request) old.held in
     let others = passes_first (is_some x.request) Busy ((shrinking, ShrinkOpen) ∷ (late, RoundsUsedUp) ∷ []) passes in
     let rest = passes_first shrinking ShrinkOpen ((late, RoundsUsedUp) ∷ []) others.1 in
     let room : x.next_agreement < old.limits.rounds = before_late old.limits.rounds x.next_agreement (passes_first late RoundsUsedUp [] rest.1).0 in
-    record {
-      no_poll = refl;
-      starts = ap Some (sym starts.0);
-      adds = λ look given. (given, refl);
-      replies = λ view reply is. subst (λ o. StartReplies view old x o reply) starts.1 is;
-      contributing = refl;
-      room = room;
-      next = λ few. subst HasNext (sym starts.0) (omega (arith, room, few));
-    }
+    starting_with starts.0 starts.1 refl refl (λ look given. (given, refl)) (λ view reply is. is) refl room (λ few. omega (arith, room, few))
 is_starting meld limits _ old x request offer passes starts = absurd starts
 
 -- what is known of a call after its look, where others may have stepped since

@@ -23,6 +23,7 @@ pub mod Helds
 pub mod Holding
 pub mod InOrder
 pub mod Stands
+pub mod Turning
 pub mod LeftOut
 pub mod AmongOthers
 pub mod Opening

@@ -25,7 +25,7 @@ use Rattle.ulfm_steps.specs.Turns.{running}
 use Rattle.ulfm_comm.specs.{Polls.{PollHasMarked}, Requests.{agreement}, Phase.{Stands, next_step}, StepsLeft.{MakesStep}}
 use Rattle.ulfm_comm.specs.Agreement.{HasPeeked, HasReadAll, IsMarking, IsPeeking}
 use Rattle.ulfm_comm.specs.declared.phases.phase.Phase.TheVariants.{Marking, Peeking, Reading}
-use Rattle.ulfm_comm.proofs.{Agreement.{all_in, polls_stand, reading_begins, some_member}, AmongOthers.{did_loosely}, Holding.{holds, same_held}}
+use Rattle.ulfm_comm.proofs.{Agreement.{all_in, polls_stand, reading_begins, some_member}, AmongOthers.{did_loosely}, Holding.{holds, same_held}, Stands.{peeking_then}}
 use Rattle.ulfm_comm.proofs.Polls.{open_members}
 use Rattle.ulfm_comm.specs.Local.{frame, local}
 use Rattle.ulfm_comm.specs.Requests.{polled_round}
@@ -65,40 +65,26 @@ module _ {P : Type 0} (meld : P → P → P) (limits : Limits) (alone : Bool) (c
   -- the round is one of the members' that the rank holds
   peeking_round : IsLegal meld limits now → IsRoundOf limits now peek.comm peek.round p.x.group
   peeking_round legal =
-      let fits : Fits meld limits now own = fits_stays meld limits p.look now own (did_prefix alone [] p.look now p.waited) legal p.fits in
+      let fits : Fits meld limits now own = fits_stays meld limits p.since.look now own (did_prefix alone [] p.since.look now p.waited) legal p.since.fits in
       subst (λ w. IsRoundOf limits now w peek.round p.x.group) (sym p.there)
-      (open_members meld limits now own c peek.round shrinks p.x legal fits p.held p.open_is)
+      (open_members meld limits now own c peek.round shrinks p.x legal fits p.since.held p.open_is)
 
   -- after a further load
   peeking_on : (quiet : Bool) → (IsTrue alone → IsTrue quiet) → (after : History P) → Did quiet [] now after → (next : Peek P) → next.comm ≡ peek.comm
       → next.round ≡ peek.round → BothTell meld after next.comm next.round p.x.group next.blocks
       → IsPeeking (frame meld limits alone) c shrinks next (moment old before) (moment own after)
-  peeking_on quiet only after did next comm round are =
-      record {
-        look = p.look;
-        looked = p.looked;
-        legal = p.legal;
-        fits = p.fits;
-        x = p.x;
-        held = p.held;
-        open_is = p.open_is ∙ ap (λ k. Some (agreement shrinks k)) (sym round);
-        there = comm ∙ p.there;
-        are = are;
-        waited = did_wait alone [] p.look now after p.waited (did_loosely alone quiet only [] now after did);
-      }
+  peeking_on quiet only after did next comm round are = peeking_then meld limits alone old before own now after
+      (did_loosely alone quiet only [] now after did) c shrinks peek p next comm round are
 
   -- where all members are settled, no mark is due
   peeking_marked : IsLegal meld limits now → (all : Summary P) → IsSummed meld now c peek.round p.x.group all
       → PollHasMarked (frame meld limits alone) c (polled_round shrinks peek.round) p.x (moment old before) (moment own now)
   peeking_marked legal all read =
       record {
-        look = p.look;
-        looked = p.looked;
-        fits = p.fits;
-        held = p.held;
+        since = p.since;
         open_is = p.open_is;
         marked = now;
-        marks = settled_marks alone old.number c peek.round p.x.group (failures p.look) p.look now p.waited read.each;
+        marks = settled_marks alone old.number c peek.round p.x.group (failures p.since.look) p.since.look now p.waited read.each;
         waited = did_none alone now;
         legal = legal;
       }
@@ -112,7 +98,7 @@ module _ {P : Type 0} (meld : P → P → P) (name : Over P) (asked : Call P) (p
   peeking = st.at.1
 
   peek_same : members ≡ peeking.x.group
-  peek_same = members_are ∙ ap (λ (z : Held). z.group) (same_held own (comm_of asked) w peeking.x y w_is found peeking.held)
+  peek_same = members_are ∙ ap (λ (z : Held). z.group) (same_held own (comm_of asked) w peeking.x y w_is found peeking.since.held)
 
   peek_round : IsRoundOf name.limits now.seen peek.comm peek.round members
   peek_round = subst (λ ms. IsRoundOf name.limits now.seen peek.comm peek.round ms) (sym peek_same)
@@ -134,7 +120,7 @@ module _ {P : Type 0} (meld : P → P → P) (name : Over P) (asked : Call P) (p
 
   pub peek_any : 0 < length members
   peek_any = subst (λ ms. 0 < length ms) (sym peek_same) (some_member peeking.x.group own.number
-      (holds meld name.limits peeking.look own (comm_of asked) peeking.x peeking.fits peeking.held).member)
+      (holds meld name.limits peeking.since.look own (comm_of asked) peeking.x peeking.since.fits peeking.since.held).member)
 
   -- after a further load
   module _ (quiet : Bool) (only : IsTrue alone → IsTrue quiet) (after : Sight P) (later : IsView meld (view_at name after)) (did : Did quiet [] now.seen after.seen)
@@ -163,9 +149,7 @@ module _ {P : Type 0} (meld : P → P → P) (name : Over P) (asked : Call P) (p
     pub peek_unread : is_whole next.blocks (length members) ≡ false → HasPeeked meld alone asked shrinks next (local old (view_at name before)) (local own (view_at name after))
     unfolding peeking_on
     peek_unread unknown = record {
-      fits = st.fits;
-      polls = st.at.0;
-      onward = omega (arith, st.onward, steps);
+      on = record { fits = st.fits; polls = st.at.0; onward = omega (arith, st.onward, steps) };
       peeked = on;
       unknown = subst (λ ms. is_whole next.blocks (length ms) ≡ false) peek_same unknown;
     }
@@ -180,9 +164,7 @@ module _ {P : Type 0} (meld : P → P → P) (name : Over P) (asked : Call P) (p
         (subst (λ k. IsSummed meld after.seen peek.comm k peeking.x.group all) (sym round)
         (subst (λ ms. IsSummed meld after.seen peek.comm peek.round ms all) peek_same said)) in
         record {
-          fits = st.fits;
-          polls = st.at.0;
-          onward = omega (arith, st.onward, steps);
+          on = record { fits = st.fits; polls = st.at.0; onward = omega (arith, st.onward, steps) };
           x = peeking.x;
           marked = peeking_marked meld name.limits alone (comm_of asked) shrinks next old before.seen own after.seen on later.legal all there;
           read = there;
@@ -208,13 +190,13 @@ module _ {P : Type 0} (meld : P → P → P) (alone : Bool) (name : Over P) (ask
   p = h.peeked
 
   unread_same : members ≡ p.x.group
-  unread_same = members_are ∙ ap (λ (z : Held). z.group) (same_held own (comm_of asked) w p.x y w_is found p.held)
+  unread_same = members_are ∙ ap (λ (z : Held). z.group) (same_held own (comm_of asked) w p.x y w_is found p.since.held)
 
   abbrev fs : List ℕ
-  fs = failures p.look
+  fs = failures p.since.look
 
   seen_are : declared ≡ fs
-  seen_are = declared_are ∙ ap (λ (r : Record). r.seen) p.looked.record_is
+  seen_are = declared_are ∙ ap (λ (r : Record). r.seen) p.since.looked.record_is
 
   -- the round is that of the communicator's members
   pub unread_round : IsRoundOf name.limits now.seen peek.comm peek.round members
@@ -225,13 +207,13 @@ module _ {P : Type 0} (meld : P → P → P) (alone : Bool) (name : Over P) (ask
   pub unread_rises : IsStrictlyIncreasing members
   unread_rises = subst IsStrictlyIncreasing (sym unread_round.group_is) (members_rise name.limits.ranks now.seen peek.comm)
 
-  -- and are some
-  pub unread_some : 0 < length members
-  unread_some = subst (λ ms. 0 < length ms) (sym unread_same) (some_member p.x.group own.number
-      (holds meld name.limits p.look own (comm_of asked) p.x p.fits p.held).member)
-
-  pub unread_few : length members ≤ 1024
-  unread_few = few_members name.limits now.seen peek.comm peek.round members of.may_open unread_round
+  -- and are some, and no more than ranks
+  pub unread_sized : (0 < length members) × (length members ≤ 1024)
+  unread_sized = (
+    subst (λ ms. 0 < length ms) (sym unread_same) (some_member p.x.group own.number
+        (holds meld name.limits p.since.look own (comm_of asked) p.x p.since.fits p.since.held).member),
+    few_members name.limits now.seen peek.comm peek.round members of.may_open unread_round,
+  )
 
   pub unread_unknown : is_whole peek.blocks (length members) ≡ false
   unread_unknown = subst (λ ms. is_whole peek.blocks (length ms) ≡ false) (sym unread_same) h.unknown
@@ -250,25 +232,22 @@ module _ {P : Type 0} (meld : P → P → P) (alone : Bool) (name : Over P) (ask
         let here : marks.comm ≡ comm_of asked = there ∙ w_is in
         let marking : IsMarking (frame meld name.limits alone) (comm_of asked) shrinks marks peek.blocks (moment old before.seen) (moment own now.seen) =
         record {
-          look = p.look;
-          looked = p.looked;
-          legal = p.legal;
-          fits = p.fits;
           x = p.x;
-          held = p.held;
+          since = p.since;
+          legal = p.legal;
           open_is = p.open_is ∙ ap (λ v. Some (agreement shrinks v)) (sym round);
-          mine = rank_is ∙ (n_is ∙ ap (λ (r : Record). r.number) p.looked.record_is);
+          mine = rank_is ∙ (n_is ∙ ap (λ (r : Record). r.number) p.since.looked.record_is);
           there = here;
           at = at_look;
-          marked = p.look;
-          has_marked = subst (λ rs. Marks alone old.number (comm_of asked) marks.round rs p.look p.look) (sym none_yet)
-              (marks_none alone old.number (comm_of asked) marks.round p.look);
+          marked = p.since.look;
+          has_marked = subst (λ rs. Marks alone old.number (comm_of asked) marks.round rs p.since.look p.since.look) (sym none_yet)
+              (marks_none alone old.number (comm_of asked) marks.round p.since.look);
           waited = p.waited;
           are = subst (λ c. BothTell meld now.seen c marks.round p.x.group peek.blocks) (p.there ∙ sym here)
               (subst (λ k. BothTell meld now.seen peek.comm k p.x.group peek.blocks) (sym round) p.are);
           unknown = h.unknown;
         } in
-        polls_stand h.fits h.polls h.onward (h.polls, marking, subst (λ s. marks.next < length s) seen_are more)
+        polls_stand h.on.fits h.on.polls h.on.onward (h.on.polls, marking, subst (λ s. marks.next < length s) seen_are more)
 
     -- or, where there is none, the blocks are read
     pub unread_reading : (reading : ReadBlocks P) (size : ℕ) → reading ≡ starts_at w peek.round peek.blocks size → size ≡ length members
@@ -279,21 +258,18 @@ module _ {P : Type 0} (meld : P → P → P) (alone : Bool) (name : Over P) (ask
         ∙ none_yet in
         let marked : PollHasMarked (frame meld name.limits alone) (comm_of asked) (polled_round shrinks peek.round) p.x (moment old before.seen) (moment own now.seen) =
         record {
-          look = p.look;
-          looked = p.looked;
-          fits = p.fits;
-          held = p.held;
+          since = p.since;
           open_is = p.open_is;
-          marked = p.look;
-          marks = subst (λ rs. Marks alone old.number (comm_of asked) peek.round rs p.look p.look) (sym nobody)
-              (marks_none alone old.number (comm_of asked) peek.round p.look);
+          marked = p.since.look;
+          marks = subst (λ rs. Marks alone old.number (comm_of asked) peek.round rs p.since.look p.since.look) (sym nobody)
+              (marks_none alone old.number (comm_of asked) peek.round p.since.look);
           waited = p.waited;
           legal = of.legal;
         } in
         let are : BothTell meld now.seen w peek.round p.x.group peek.blocks = subst (λ c. BothTell meld now.seen c peek.round p.x.group peek.blocks)
         (p.there ∙ sym w_is) p.are in
-        polls_stand h.fits h.polls h.onward (
-          h.polls,
+        polls_stand h.on.fits h.on.polls h.on.onward (
+          h.on.polls,
           reading_begins meld name.limits alone (comm_of asked) shrinks peek.round p.x old before.seen own now.seen marked peek.blocks w peek.round size are
               h.unknown reading is w_is refl (size_is ∙ ap length unread_same),
           starts_half (view_at name now) _ reading w peek.round peek.blocks size is,

@@ -193,14 +193,14 @@ module _ {P : Type 0} (meld : P → P → P) (limits : Limits) (alone : Bool) (b
   asked = call.Poll old.number c
 
   -- what happened since the look
-  pub whole : Did alone (entries_by (Rank old.number) p.marks.own) p.look after
-  whole = did_wait alone (entries_by (Rank old.number) p.marks.own) p.look p.marked after p.marks.did p.waited
+  pub whole : Did alone (entries_by (Rank old.number) p.marks.own) p.since.look after
+  whole = did_wait alone (entries_by (Rank old.number) p.marks.own) p.since.look p.marked after p.marks.did p.waited
 
   pub later : Fits meld limits after mid
-  later = fits_stays meld limits p.look after mid (did_prefix alone (entries_by (Rank old.number) p.marks.own) p.look after whole) p.legal p.fits
+  later = fits_stays meld limits p.since.look after mid (did_prefix alone (entries_by (Rank old.number) p.marks.own) p.since.look after whole) p.legal p.since.fits
 
   pub held_first : held_at old c ≡ Some x
-  held_first = held_before meld limits alone before p.look old mid p.looked c (Some x) p.held
+  held_first = held_before meld limits alone before p.since.look old mid p.since.looked c (Some x) p.since.held
 
   pub polls_it : polled_by old asked ≡ Some (agreement shrinks k)
   polls_it = ap request_of held_first ∙ p.open_is
@@ -211,41 +211,41 @@ module _ {P : Type 0} (meld : P → P → P) (limits : Limits) (alone : Bool) (b
   -- where nobody else steps the marks are those that were due
   pub due : IsTrue alone → settled_by p.marks.own ≡ unsettled_of limits.ranks before c (polled_by old asked)
   due here =
-      let same : p.look ≡ before = did_quiet alone before p.look p.looked.did here in
-      p.marks.exact here ∙ (ap (filter (λ r. not (is_some (slot p.look c k r)))) (failed_is meld limits p.look mid c x p.fits p.held)
+      let same : p.since.look ≡ before = did_quiet alone before p.since.look p.since.looked.did here in
+      p.marks.exact here ∙ (ap (filter (λ r. not (is_some (slot p.since.look c k r)))) (failed_is meld limits p.since.look mid c x p.since.fits p.since.held)
       ∙ (ap (λ h. filter (λ r. not (is_some (slot h c k r))) (failed limits.ranks h c)) same
       ∙ (sym (unsettled_is limits.ranks before c k shrinks) ∙ ap (unsettled_of limits.ranks before c) (sym polls_it))))
 
   -- each is of a member that the look found declared
-  pub declared : AllByRecursion (PollAdds (failures p.look) x (Some (agreement shrinks k))) p.marks.own
+  pub declared : AllByRecursion (PollAdds (failures p.since.look) x (Some (agreement shrinks k))) p.marks.own
   declared =
-      each_from (IsMarkOf c k (filter (has x.group) (failures p.look))) (PollAdds (failures p.look) x (Some (agreement shrinks k)))
-      (λ event is. marks_added (failures p.look) x k shrinks event (marks_declared (failures p.look) x c k (comm_is meld limits p.look mid c x p.fits p.held)
+      each_from (IsMarkOf c k (filter (has x.group) (failures p.since.look))) (PollAdds (failures p.since.look) x (Some (agreement shrinks k)))
+      (λ event is. marks_added (failures p.since.look) x k shrinks event (marks_declared (failures p.since.look) x c k (comm_is meld limits p.since.look mid c x p.since.fits p.since.held)
       event is)) p.marks.own p.marks.marks
 
-  pub answered : (reply : Reply P) (new : Record) → PollReplies meld limits (record { look = failures p.look; history = after; own = p.marks.own; spread = false }) old.number x
+  pub answered : (reply : Reply P) (new : Record) → PollReplies meld limits (record { look = failures p.since.look; history = after; own = p.marks.own; spread = false }) old.number x
       (Some (agreement shrinks k)) reply
       → new ≡ left_by limits.ranks after mid asked reply → IsEndRun meld limits alone (moment old before) asked reply (moment new after)
   answered reply new replies left =
-      let view : AtPoint P = record { look = failures p.look; history = after; own = p.marks.own; spread = false } in
-      replied meld limits alone before p.look old mid p.looked after p.marks.own asked reply new x whole p.legal held_first not_refused
-      (subst (λ request. AllByRecursion (PollAdds (failures p.look) x request) p.marks.own) (sym p.open_is) declared)
+      let view : AtPoint P = record { look = failures p.since.look; history = after; own = p.marks.own; spread = false } in
+      replied meld limits alone before p.since.look old mid p.since.looked after p.marks.own asked reply new x whole p.legal held_first not_refused
+      (subst (λ request. AllByRecursion (PollAdds (failures p.since.look) x request) p.marks.own) (sym p.open_is) declared)
       (subst (λ request. PollReplies meld limits view old.number x request reply) (sym p.open_is) replies) left
       (λ here polls not_declared. due here)
 
   -- a member that is unsettled after the marks isn't known to have failed
-  pub not_marked : (member : ℕ) → IsTrue (has x.group member) → slot after c k member ≡ None → IsFalse (has (failures p.look) member)
-  not_marked member in_group unsettled = by_look (has (failures p.look) member) refl
+  pub not_marked : (member : ℕ) → IsTrue (has x.group member) → slot after c k member ≡ None → IsFalse (has (failures p.since.look) member)
+  not_marked member in_group unsettled = by_look (has (failures p.since.look) member) refl
     where
-      by_look : (b : Bool) → has (failures p.look) member ≡ b → has (failures p.look) member ≡ false
+      by_look : (b : Bool) → has (failures p.since.look) member ≡ b → has (failures p.since.look) member ≡ false
       by_look false is = is
       by_look true is =
           let some = is_some_of (slot p.marked c k member) (at_member (λ r. IsTrue (is_some (slot p.marked c k r)))
-          (filter (has x.group) (failures p.look)) member p.marks.settled (has_kept (has x.group) (failures p.look) member is in_group)) in
+          (filter (has x.group) (failures p.since.look)) member p.marks.settled (has_kept (has x.group) (failures p.since.look) member is in_group)) in
           let stood = slot_stays p.marked after c k member some.0 (did_prefix alone [] p.marked after p.waited) some.1 in absurd (cc (stood, unsettled))
 
   -- nor did the look of such a run find it
-  pub not_found : (member : ℕ) (reply : Reply P) (new : Record) → IsFalse (has (failures p.look) member) → new ≡ mid
+  pub not_found : (member : ℕ) (reply : Reply P) (new : Record) → IsFalse (has (failures p.since.look) member) → new ≡ mid
       → (run : IsRun meld limits alone (moment old before) asked reply (moment new after)) → IsFalse (has (failures run.span.look) member)
   not_found member reply new alive is run = by_look (has (failures run.span.look) member) refl
     where
@@ -254,22 +254,22 @@ module _ {P : Type 0} (meld : P → P → P) (limits : Limits) (alone : Bool) (b
       by_look true found =
           let begins = sees_begin (failures run.span.look) after new.seen shrinks k
           (subst (λ request. Sees (is_shrink request) (failures run.span.look) after new.seen) polls_it run.answer.leaves.seen) in
-          let seen : new.seen ≡ failures p.look = ap (λ (w : Record). w.seen) is ∙ ap (λ (w : Record). w.seen) p.looked.record_is in
+          let seen : new.seen ≡ failures p.since.look = ap (λ (w : Record). w.seen) is ∙ ap (λ (w : Record). w.seen) p.since.looked.record_is in
           let there = has_prefix (failures run.span.look) new.seen member begins found in
-          let clash : has (failures p.look) member ≡ true = ap (λ fs. has fs member) (sym seen) ∙ there in absurd (cc (clash, alive))
+          let clash : has (failures p.since.look) member ≡ true = ap (λ fs. has fs member) (sym seen) ∙ there in absurd (cc (clash, alive))
 
   -- somebody who isn't known to have failed is missing
   pub poll_pending : (member : ℕ) (new : Record) → IsTrue (has x.group member) → slot after c k member ≡ None → new ≡ mid
       → IsEndRun meld limits alone (moment old before) asked Pending (moment new after)
   poll_pending member new in_group unsettled is =
-      let view : AtPoint P = record { look = failures p.look; history = after; own = p.marks.own; spread = false } in
+      let view : AtPoint P = record { look = failures p.since.look; history = after; own = p.marks.own; spread = false } in
       answered Pending new
       (pending_replies meld limits view old.number x k shrinks
       (record {
         member = member;
         in_group = in_group;
         not_declared = not_marked member in_group unsettled;
-        unsettled = ap (λ w. slot after w k member) (comm_is meld limits p.look mid c x p.fits p.held) ∙ unsettled;
+        unsettled = ap (λ w. slot after w k member) (comm_is meld limits p.since.look mid c x p.since.fits p.since.held) ∙ unsettled;
       }))
       is
 
@@ -282,10 +282,10 @@ module _ {P : Type 0} (meld : P → P → P) (limits : Limits) (alone : Bool) (b
   decides : (reply : Reply P) → AgreeReplies (decision meld limits.ranks after c k) reply → new ≡ left_by limits.ranks after mid (call.Poll old.number c) reply
       → IsEndRun meld limits alone (moment old before) (call.Poll old.number c) reply (moment new after)
   decides reply replies left =
-      let at = sym (comm_is meld limits p.look mid c x p.fits p.held) in
+      let at = sym (comm_is meld limits p.since.look mid c x p.since.fits p.since.held) in
       answered meld limits alone before old mid c false k x after p reply new
       (inr (
-        subst (λ w. IsTrue (is_decided limits.ranks after w k)) at (read_decided meld limits after mid c k x p.legal still p.held all read),
+        subst (λ w. IsTrue (is_decided limits.ranks after w k)) at (read_decided meld limits after mid c k x p.legal still p.since.held all read),
         subst (λ w. AgreeReplies (decision meld limits.ranks after w k) reply) at replies,
       ))
       left
@@ -293,14 +293,14 @@ module _ {P : Type 0} (meld : P → P → P) (limits : Limits) (alone : Bool) (b
   -- the round is decided on a flag
   pub poll_agreed : (value : P) → all.body ≡ OfFlags value → new ≡ closed mid c → IsEndRun meld limits alone (moment old before) (call.Poll old.number c) (Agreed value all.known.count (nat_lt all.acked.count all.known.count)) (moment new after)
   poll_agreed value body is =
-      let count = count_read meld limits after mid c k x p.legal still p.held all read in
-      let raised = raised_read meld limits after mid c k x p.legal still p.held all read in
+      let count = count_read meld limits after mid c k x p.legal still p.since.held all read in
+      let raised = raised_read meld limits after mid c k x p.legal still p.since.held all read in
       decides (Agreed value all.known.count (nat_lt all.acked.count all.known.count))
-      (inl (value, body_read meld limits after mid c k x p.legal still p.held all read ∙ body, ap₂ (Agreed value) count raised)) is
+      (inl (value, body_read meld limits after mid c k x p.legal still p.since.held all read ∙ body, ap₂ (Agreed value) count raised)) is
 
   -- it is decided, and some shrank
   pub poll_mismatch : ((flag : P) → all.body ≡ OfFlags flag → ⊥) → new ≡ closed mid c
       → IsEndRun meld limits alone (moment old before) (call.Poll old.number c) (Refused Mismatch) (moment new after)
   poll_mismatch other is =
-      let clash = clash_is all.body (read_flagged meld limits after mid c k x p.legal still p.held all read p.open_is) other in
-      decides (Refused Mismatch) (inr (body_read meld limits after mid c k x p.legal still p.held all read ∙ clash, refl)) is
+      let clash = clash_is all.body (read_flagged meld limits after mid c k x p.legal still p.since.held all read p.open_is) other in
+      decides (Refused Mismatch) (inr (body_read meld limits after mid c k x p.legal still p.since.held all read ∙ clash, refl)) is

@@ -33,10 +33,10 @@ module _ {P : Type 0} (meld : P → P → P) (limits : Limits) (alone : Bool) (o
 
   -- a marking has counted fewer members than there may be ranks, and comes to one that was seen
   pub marks_on : (c : ℕ) (shrinks : Bool) (marks : MarkAll) (blocks : RoundBlocks P) (p : IsMarking (frame meld limits alone) c shrinks marks blocks (moment old before) (moment own now))
-      → marks.next < length (failures p.look) → (marks.known < 1024) × (marks.next < length own.seen)
+      → marks.next < length (failures p.since.look) → (marks.known < 1024) × (marks.next < length own.seen)
   marks_on c shrinks marks blocks p more =
-      let fits = count_fits meld limits p.look p.x.group (failures p.look) marks.next p.legal opens ([], append-nil (failures p.look)) more in
-      let seen : length own.seen ≡ length (failures p.look) = ap (λ (r : Record). length r.seen) p.looked.record_is in
+      let fits = count_fits meld limits p.since.look p.x.group (failures p.since.look) marks.next p.legal opens ([], append-nil (failures p.since.look)) more in
+      let seen : length own.seen ≡ length (failures p.since.look) = ap (λ (r : Record). length r.seen) p.since.looked.record_is in
       (omega (arith, fits, p.at.counted), omega (arith, more, seen))
 
 -- a mark that was made of what was counted

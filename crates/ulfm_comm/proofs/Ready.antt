@@ -11,7 +11,7 @@ use Rattle.ulfm_words.proofs.Trails.{did_none}
 use Rattle.ulfm_steps.specs.declared.{arrivals.Arrivals.{Arrivals}, blocks.Peek.{Peek}}
 use Rattle.ulfm_steps.specs.{Arriving.{AtArrival, IsAsked, asked_before}, Blocks.{MembersTell}}
 use Rattle.ulfm_steps.proofs.Arriving.{at_arrival_new}
-use Rattle.ulfm_comm.specs.{Requests.{agreement}, Agreement.{IsPeeking}, Barrier.{IsWaiting}, Look.{JustLooked}, Phase.{Stands}}
+use Rattle.ulfm_comm.specs.{Requests.{agreement}, Agreement.{IsPeeking}, Barrier.{IsWaiting}, Look.{HoldsSince, JustLooked}, Phase.{Stands}}
 use Rattle.ulfm_comm.specs.declared.phases.phase.Phase.TheVariants.{Peeking, Waiting}
 use Rattle.ulfm_comm.proofs.{CallRuns.{looked_fits}, Agreement.{poll_mine, some_member}, Holding.{holds}}
 use Rattle.ulfm_comm.specs.Local.{frame, local}
@@ -40,6 +40,10 @@ module _ {P : Type 0} (meld : P → P → P) (alone : Bool) (name : Over P) (ask
     just_held : held_at own (comm_of asked) ≡ Some x
     just_held = sym (ap (held_at own) w_is) ∙ found
 
+    -- which it holds since
+    abbrev just_since : HoldsSince (frame meld name.limits alone) (comm_of asked) x (moment old before.seen) own
+    just_since = record { look = now.seen; looked = just.looked; fits = just_fits; held = just_held }
+
     -- of an agreement: the blocks of its round are loaded
     pub ready_peeking : (peek : Peek P) (shrinks : Bool) (k : ℕ) → x.request ≡ Some (agreement shrinks k) → peek.comm ≡ w → peek.round ≡ k → peek.side ≡ Front
         → (is_some peek.blocks.front ≡ false) × (is_some peek.blocks.back ≡ false) → peek.first ≡ None
@@ -48,12 +52,9 @@ module _ {P : Type 0} (meld : P → P → P) (alone : Bool) (name : Over P) (ask
         let some : 0 < length x.group = some_member x.group own.number (holds meld name.limits now.seen own (comm_of asked) x just_fits just_held).member in
         let peeking : IsPeeking (frame meld name.limits alone) (comm_of asked) shrinks peek (moment old before.seen) (moment own now.seen) =
         record {
-          look = now.seen;
-          looked = just.looked;
-          legal = of.legal;
-          fits = just_fits;
           x = x;
-          held = just_held;
+          since = just_since;
+          legal = of.legal;
           open_is = open_is ∙ ap (λ v. Some (agreement shrinks v)) (sym round);
           there = there ∙ w_is;
           are = record {
@@ -77,11 +78,8 @@ module _ {P : Type 0} (meld : P → P → P) (alone : Bool) (name : Over P) (ask
       ready_waiting arrivals k there round open_is asks first =
           let waits : IsWaiting (frame meld name.limits alone) (comm_of asked) arrivals.round x (moment old before.seen) (moment own now.seen) =
           record {
-            look = now.seen;
-            looked = just.looked;
+            since = just_since;
             legal = of.legal;
-            fits = just_fits;
-            held = just_held;
             open_is = open_is ∙ ap (λ n. Some (Barrier n)) (sym round);
             waited = did_none alone now.seen;
           } in

@@ -72,17 +72,17 @@ module _ {P : Type 0} (meld : P → P → P) (limits : Limits) (alone : Bool) (b
   still = later meld limits alone before old mid c true k x h p
 
   exists : Exists h c
-  exists = exists_is meld limits h mid c x still p.held
+  exists = exists_is meld limits h mid c x still p.since.held
 
   decided : IsTrue (is_decided limits.ranks h c k)
-  decided = read_decided meld limits h mid c k x p.legal still p.held all read
+  decided = read_decided meld limits h mid c k x p.legal still p.since.held all read
 
   -- the body is a mask or a clash
   masked : IsMasked all.body
-  masked = read_masked meld limits h mid c k x p.legal still p.held all read p.open_is
+  masked = read_masked meld limits h mid c k x p.legal still p.since.held all read p.open_is
 
   here : x.comm ≡ c
-  here = comm_is meld limits h mid c x still p.held
+  here = comm_is meld limits h mid c x still p.since.held
 
   replied_here : (reply : Reply P) (new : Record) → ShrinkReplies limits h old.number c k (decision meld limits.ranks h c k) reply
       → new ≡ left_by limits.ranks h mid poll reply → IsEndRun meld limits alone (moment old before) poll reply (moment new h)
@@ -98,14 +98,14 @@ module _ {P : Type 0} (meld : P → P → P) (limits : Limits) (alone : Bool) (b
   pub shrink_mismatch : (new : Record) → ((mask : CtxMask) → all.body ≡ OfIds mask → ⊥) → new ≡ closed mid c
       → IsEndRun meld limits alone (moment old before) poll (Refused Mismatch) (moment new h)
   shrink_mismatch new other left =
-      replied_here (Refused Mismatch) new (inr (body_read meld limits h mid c k x p.legal still p.held all read ∙ masked_clash all.body masked other, refl))
+      replied_here (Refused Mismatch) new (inr (body_read meld limits h mid c k x p.legal still p.since.held all read ∙ masked_clash all.body masked other, refl))
       left
 
   -- no context id is free at all
   pub shrink_no_context : (mask : CtxMask) (new : Record) → all.body ≡ OfIds mask → mask.bits ≡ 0 → new ≡ closed mid c
       → IsEndRun meld limits alone (moment old before) poll (Refused NoContext) (moment new h)
   shrink_no_context mask new body none left =
-      replied_here (Refused NoContext) new (inl (mask, body_read meld limits h mid c k x p.legal still p.held all read ∙ body, inl (none, refl))) left
+      replied_here (Refused NoContext) new (inl (mask, body_read meld limits h mid c k x p.legal still p.since.held all read ∙ body, inl (none, refl))) left
 
   -- the list of failures was read on, and others' events alone came
   module _ (after : History P) (begins : IsPrefix h after) (legal : IsLegal meld limits after) (seen : List ℕ) (reach : ℕ)
@@ -117,10 +117,10 @@ module _ {P : Type 0} (meld : P → P → P) (limits : Limits) (alone : Bool) (b
     pub left_out : (decision meld limits.ranks h c k).failed ≡ filter (has x.group) (take reach seen)
     left_out =
         let more = failed_begins meld limits h after c begins legal exists in
-        let enough = enough_read meld limits h mid c k x p.legal still p.held all read in
-        group_read meld limits h mid c k x p.legal still p.held all read
+        let enough = enough_read meld limits h mid c k x p.legal still p.since.held all read in
+        group_read meld limits h mid c k x p.legal still p.since.held all read
         ∙ (sym (take_begins all.known.count (failed limits.ranks h c) (failed limits.ranks after c) more enough)
-        ∙ (ap (take all.known.count) (sym (failed_is meld limits after mid c x fits_after p.held)) ∙ reached_first x.group all.known.count mid.seen seen
+        ∙ (ap (take all.known.count) (sym (failed_is meld limits after mid c x fits_after p.since.held)) ∙ reached_first x.group all.known.count mid.seen seen
         (failures after) reach reads))
 
     -- what happened then up to the end
@@ -131,37 +131,37 @@ module _ {P : Type 0} (meld : P → P → P) (limits : Limits) (alone : Bool) (b
       events = p.marks.own ++ own
 
       abbrev view : AtPoint P
-      view = record { look = failures p.look; history = ending; own = events; spread = false }
+      view = record { look = failures p.since.look; history = ending; own = events; spread = false }
 
-      pub all_did : Did alone (entries_by (Rank old.number) events) p.look ending
+      pub all_did : Did alone (entries_by (Rank old.number) events) p.since.look ending
       all_did =
-          did_more alone (Rank old.number) p.marks.own own p.look h ending (whole meld limits alone before old mid c true k x h p)
+          did_more alone (Rank old.number) p.marks.own own p.since.look h ending (whole meld limits alone before old mid c true k x h p)
           (did_after alone (entries_by (Rank old.number) own) h after ending first did)
 
-      pub may_own : AllByRecursion (MayOwn (failures p.look) old poll) events
+      pub may_own : AllByRecursion (MayOwn (failures p.since.look) old poll) events
       may_own =
-          let mine : AllByRecursion (PollAdds (failures p.look) x (Some (Shrink k))) events =
-          each_append (PollAdds (failures p.look) x (Some (Shrink k))) p.marks.own own (declared meld limits alone before old mid c true k x h p)
-          (each_from (λ event. (i : ℕ) × (event ≡ Spawn i c k)) (PollAdds (failures p.look) x (Some (Shrink k)))
+          let mine : AllByRecursion (PollAdds (failures p.since.look) x (Some (Shrink k))) events =
+          each_append (PollAdds (failures p.since.look) x (Some (Shrink k))) p.marks.own own (declared meld limits alone before old mid c true k x h p)
+          (each_from (λ event. (i : ℕ) × (event ≡ Spawn i c k)) (PollAdds (failures p.since.look) x (Some (Shrink k)))
           (λ event made. inr (made.0, made.1 ∙ ap (λ w. Spawn made.0 w k) (sym here))) own makes) in
-          each_from (PollAdds (failures p.look) x (Some (Shrink k))) (MayOwn (failures p.look) old poll)
+          each_from (PollAdds (failures p.since.look) x (Some (Shrink k))) (MayOwn (failures p.since.look) old poll)
           (λ event added.
           record {
-            not_declared = p.looked.not_declared;
+            not_declared = p.since.looked.not_declared;
             not_refused = not_refused meld limits alone before old mid c true k x h p;
             adds = (
               x,
               held_first meld limits alone before old mid c true k x h p,
-              subst (λ request. PollAdds (failures p.look) x request event)
+              subst (λ request. PollAdds (failures p.since.look) x request event)
                   (sym p.open_is) added,
             );
           }) events mine
 
-      pub sees_on : Sees (is_shrink (polled_by old poll)) (failures p.look) ending seen
+      pub sees_on : Sees (is_shrink (polled_by old poll)) (failures p.since.look) ending seen
       sees_on =
           let to_end = failures_begin after ending (did_prefix alone (entries_by (Rank old.number) own) after ending did) in
-          subst (λ request. Sees (is_shrink request) (failures p.look) ending seen) (sym (polls_it meld limits alone before old mid c true k x h p)) (
-            subst (λ s. IsPrefix s seen) (ap (λ (w : Record). w.seen) p.looked.record_is) reads.goes_on,
+          subst (λ request. Sees (is_shrink request) (failures p.since.look) ending seen) (sym (polls_it meld limits alone before old mid c true k x h p)) (
+            subst (λ s. IsPrefix s seen) (ap (λ (w : Record). w.seen) p.since.looked.record_is) reads.goes_on,
             prefix_trans seen (failures after)
                 (failures ending) reads.begins to_end,
           )
@@ -169,8 +169,8 @@ module _ {P : Type 0} (meld : P → P → P) (limits : Limits) (alone : Bool) (b
       ends_so : (reply : Reply P) (new : Record) → IsSelfFailed view old poll reply ⊎ IsReply meld limits view old poll reply
           → new ≡ left_by limits.ranks ending (record mid { seen = seen }) poll reply → IsEndRun meld limits alone (moment old before) poll reply (moment new ending)
       ends_so reply new replies left =
-          run_ends meld limits alone before p.look old false ending events poll reply new seen p.looked.in_use p.looked.did all_did end_legal may_own replies sees_on
-          (left ∙ ap (λ (w : Record). left_by limits.ranks ending (record w { seen = seen }) poll reply) p.looked.record_is)
+          run_ends meld limits alone before p.since.look old false ending events poll reply new seen p.since.looked.in_use p.since.looked.did all_did end_legal may_own replies sees_on
+          (left ∙ ap (λ (w : Record). left_by limits.ranks ending (record w { seen = seen }) poll reply) p.since.looked.record_is)
           (λ alone_here polls not_declared. settled_more p.marks.own own settles_none ∙ due meld limits alone before old mid c true k x h p alone_here)
           (λ on. absurd (cc on))
 
@@ -190,7 +190,7 @@ module _ {P : Type 0} (meld : P → P → P) (limits : Limits) (alone : Bool) (b
             subst (λ w. ShrinkReplies limits ending old.number w k (decision meld limits.ranks ending w k) reply) (sym here) replies,
           ) in
           record {
-            not_declared = p.looked.not_declared;
+            not_declared = p.since.looked.not_declared;
             replies =
                 subst (λ held. RepliesBy {P = P} (λ x. Replies meld limits view old x poll reply) reply held (refusal_of old poll))
                 (sym (held_first meld limits alone before old mid c true k x h p))
@@ -206,7 +206,7 @@ module _ {P : Type 0} (meld : P → P → P) (limits : Limits) (alone : Bool) (b
       stays_in out = ap (λ rs. has rs old.number) left_then ∙ not_in_filter (has x.group) (take reach seen) old.number out
 
       body_then : (decision meld limits.ranks ending c k).body ≡ all.body
-      body_then = ap (λ (d : Decision P). d.body) decided_then.1 ∙ body_read meld limits h mid c k x p.legal still p.held all read
+      body_then = ap (λ (d : Decision P). d.body) decided_then.1 ∙ body_read meld limits h mid c k x p.legal still p.since.held all read
 
       -- the rank is in the failed group
       pub shrink_self_failed : (new : Record) → IsTrue (has (take reach seen) old.number) → new ≡ record mid { seen = seen; refused = true }
@@ -244,7 +244,7 @@ module _ {P : Type 0} (meld : P → P → P) (limits : Limits) (alone : Bool) (b
             let spawned = members_of_spawned meld limits ending end_legal (j - 1) c k made in
             let number : j - 1 + 1 ≡ j = omega (arith, there) in
             let parent : members limits.ranks ending c ≡ x.group = sym (group_is meld limits ending mid c x
-            (fits_stays meld limits h ending mid end_begins end_legal still) p.held) in
+            (fits_stays meld limits h ending mid end_begins end_legal still) p.since.held) in
             let group : members limits.ranks ending j ≡ without x.group (take reach seen) =
             ap (members limits.ranks ending) (sym number) ∙ (spawned.group ∙ (ap₂ without parent left_then ∙ without_among x.group (take reach seen))) in
             let as_reply : ℕ → Reply P = λ n. Shrunk j context n in

@@ -31,11 +31,12 @@ use Rattle.ulfm_comm.specs.{Spawning.{Holds, IsFullBy, IsMadeBy, MayHold, MayGoS
 use Rattle.ulfm_comm.specs.{Phase.{Answered, Stands}, Agreement.{HasReadAll}}
 use Rattle.ulfm_steps.proofs.ReadingOn.{passing_grow}
 use Rattle.ulfm_steps.specs.Rounds.{round_on}
-use Rattle.ulfm_comm.proofs.{StepAdds.{adds_none}, Stands.{decided_on, reads_stay}}
+use Rattle.ulfm_comm.proofs.{StepAdds.{adds_none}, Stands.{decided_on, spawning_then}}
 use Rattle.ulfm_comm.proofs.{CallRuns.{calls_is, runs_out_after}, Children.{passed_parent}, Holding.{comm_is, exists_is, failed_is, group_is, group_rises}, AmongOthers.{did_loosely}}
 use Rattle.ulfm_comm.proofs.{Polls.{body_read, enough_read, later, not_refused, open_round, read_decided, read_fresh, polls_it}}
 use Rattle.ulfm_comm.proofs.Shrinks.{all_did, marks_make_none, may_own, sees_on, shrink_decided, shrink_mismatch, shrink_no_context, shrink_no_room}
 use Rattle.ulfm_comm.proofs.Shrinks.{shrink_self_failed, shrink_shrunk}
+use Rattle.ulfm_comm.proofs.WholeCall.{span_ends}
 use Rattle.ulfm_comm.specs.Local.{frame, local}
 use Rattle.ulfm_comm.specs.Requests.{polled_round}
 use Rattle.ulfm_comm.specs.Spawning.{decided_as, seeking, target}
@@ -103,13 +104,13 @@ module _ {P : Type 0} (meld : P → P → P) (limits : Limits) (alone : Bool) (c
   goes_here = did_prefix alone [] d.decided now d.waited
 
   pub number_is : own.number ≡ old.number
-  number_is = ap (λ (w : Record). w.number) d.own_is ∙ ap (λ (w : Record). w.number) d.marked.looked.record_is
+  number_is = ap (λ (w : Record). w.number) d.own_is ∙ ap (λ (w : Record). w.number) d.said.marked.since.looked.record_is
 
   pub held_is : held_at own c ≡ Some x
-  held_is = ap (λ (w : Record). held_at w c) d.own_is ∙ d.marked.held
+  held_is = ap (λ (w : Record). held_at w c) d.own_is ∙ d.said.marked.since.held
 
   fits_decided : Fits meld limits d.decided d.mid
-  fits_decided = later meld limits alone before old d.mid c true k x d.decided d.marked
+  fits_decided = later meld limits alone before old d.mid c true k x d.decided d.said.marked
 
   pub fits_now : IsLegal meld limits now → Fits meld limits now own
   fits_now legal =
@@ -119,26 +120,26 @@ module _ {P : Type 0} (meld : P → P → P) (limits : Limits) (alone : Bool) (c
   -- the list of failures has as many of the group as the decision knows
   pub may_read_on : MayReadOn x.group count own.seen (failures now)
   may_read_on =
-      let enough = enough_read meld limits d.decided d.mid c k x d.marked.legal fits_decided d.marked.held d.all d.read in
-      let failed = ap length (failed_is meld limits d.decided d.mid c x fits_decided d.marked.held) in
+      let enough = enough_read meld limits d.decided d.mid c k x d.said.marked.legal fits_decided d.said.marked.since.held d.said.all d.said.read in
+      let failed = ap length (failed_is meld limits d.decided d.mid c x fits_decided d.said.marked.since.held) in
       let more = passing_grow (has x.group) (failures d.decided) (failures now) (failures_begin d.decided now goes_here) in
-      let counted = d.count_is in
+      let counted = d.said.count_is in
       record {
-        rises = group_rises meld limits d.decided d.mid c x fits_decided d.marked.held;
+        rises = group_rises meld limits d.decided d.mid c x fits_decided d.said.marked.since.held;
         begins = d.begins;
         enough = omega (arith, counted, enough, failed, more);
       }
 
   pub in_rounds : k < limits.rounds
-  in_rounds = open_round meld limits d.decided d.mid c k true x d.marked.legal fits_decided d.marked.held d.marked.open_is
+  in_rounds = open_round meld limits d.decided d.mid c k true x d.said.marked.legal fits_decided d.said.marked.since.held d.said.marked.open_is
 
   -- the round's communicator may be made
   pub may_make : MayAppend meld limits now (OfComm c k)
   may_make =
       append_stays meld limits d.decided now (OfComm c k) goes_here
-      (may_spawn meld limits d.decided c k (exists_is meld limits d.decided d.mid c x fits_decided d.marked.held) in_rounds
-      (read_decided meld limits d.decided d.mid c k x d.marked.legal fits_decided d.marked.held d.all d.read) mask
-      (body_read meld limits d.decided d.mid c k x d.marked.legal fits_decided d.marked.held d.all d.read ∙ d.body) d.some)
+      (may_spawn meld limits d.decided c k (exists_is meld limits d.decided d.mid c x fits_decided d.said.marked.since.held) in_rounds
+      (read_decided meld limits d.decided d.mid c k x d.said.marked.legal fits_decided d.said.marked.since.held d.said.all d.said.read) mask
+      (body_read meld limits d.decided d.mid c k x d.said.marked.legal fits_decided d.said.marked.since.held d.said.all d.said.read ∙ d.said.body) d.said.some)
 
   -- the communicators up to the parent were made of others
   pub passes_parent : IsLegal meld limits now → (n : ℕ) → n ≤ c → Passed now (OfComm c k) n
@@ -150,7 +151,7 @@ module _ {P : Type 0} (meld : P → P → P) (limits : Limits) (alone : Bool) (c
   may_hold context reach group lowest left ranks =
       let least = length-filter-le (λ r. not (has (take reach own.seen) r)) x.group in
       let same = ap length left in
-      let members = ap length (group_is meld limits d.decided d.mid c x fits_decided d.marked.held) in
+      let members = ap length (group_is meld limits d.decided d.mid c x fits_decided d.said.marked.since.held) in
       let few = members_few limits.ranks d.decided c in
       record {
         x = x;
@@ -159,7 +160,7 @@ module _ {P : Type 0} (meld : P → P → P) (limits : Limits) (alone : Bool) (c
         id = id_below mask context lowest;
         fresh =
             subst (λ (w : Record). AllByRecursion (λ i. nat_eq i context ≡ false) (contexts_of w.held)) (sym d.own_is)
-            (read_fresh meld limits d.decided d.mid c k x d.marked.legal fits_decided d.marked.held d.all d.read d.marked.open_is mask context d.body
+            (read_fresh meld limits d.decided d.mid c k x d.said.marked.legal fits_decided d.said.marked.since.held d.said.all d.said.read d.said.marked.open_is mask context d.said.body
             lowest.in_it);
       }
 
@@ -172,8 +173,8 @@ module _ {P : Type 0} (meld : P → P → P) (alone : Bool) (name : Over P) (ask
   c = comm_of asked
 
   -- the same, by what was read of the round
-  counted : ReadsOn x.group d.all.known.count d.mid.seen own.seen (failures now.seen) reach
-  counted = subst (λ n. ReadsOn x.group n d.mid.seen own.seen (failures now.seen) reach) d.count_is reads
+  counted : ReadsOn x.group d.said.all.known.count d.mid.seen own.seen (failures now.seen) reach
+  counted = subst (λ n. ReadsOn x.group n d.mid.seen own.seen (failures now.seen) reach) d.said.count_is reads
 
   begins_now : IsPrefix d.decided now.seen
   begins_now = goes_here meld name.limits alone c k mask x count old before.seen own now.seen d
@@ -187,17 +188,17 @@ module _ {P : Type 0} (meld : P → P → P) (alone : Bool) (name : Over P) (ask
       → Answered meld alone asked (local old (view_at name before)) (Refused SelfFailed) (local new (view_at name now))
   ends_self_failed new among is =
       answered_with meld alone name asked old before (Refused SelfFailed) new now of onward fits polls
-      (shrink_self_failed meld name.limits alone before.seen old d.mid c k x d.decided d.marked d.all d.read now.seen begins_now of.legal own.seen reach counted
+      (shrink_self_failed meld name.limits alone before.seen old d.mid c k x d.decided d.said.marked d.said.all d.said.read now.seen begins_now of.legal own.seen reach counted
       [] now.seen (did_none alone now.seen) d.waited tt refl of.legal new (mine true among) (is ∙ ap (λ (w : Record). record w { refused = true }) d.own_is))
       refl (λ waits. absurd (cc waits))
 
   -- no communicator is left
-  pub ends_full : (new : Record) (after : Sight P) → IsFullBy meld alone (round_on c k) (view_at name now) (view_at name after) → has (take reach own.seen) own.number ≡ false → new ≡ closed own c
+  pub ends_full : (quiet : Bool) → (IsTrue alone → IsTrue quiet) → (new : Record) (after : Sight P) → IsFullBy meld quiet (round_on c k) (view_at name now) (view_at name after) → has (take reach own.seen) own.number ≡ false → new ≡ closed own c
       → Answered meld alone asked (local old (view_at name before)) (Refused NoRoom) (local new (view_at name after))
-  ends_full new after full out is =
+  ends_full quiet only new after full out is =
       answered_with meld alone name asked old before (Refused NoRoom) new after full.of (omega (arith, onward, full.onward)) fits polls
-      (shrink_no_room meld name.limits alone before.seen old d.mid c k x d.decided d.marked d.all d.read now.seen begins_now of.legal own.seen reach counted
-      [] after.seen full.did d.waited tt refl full.of.legal mask d.body d.some (mine false out) new full.full full.unmade
+      (shrink_no_room meld name.limits alone before.seen old d.mid c k x d.decided d.said.marked d.said.all d.said.read now.seen begins_now of.legal own.seen reach counted
+      [] after.seen (did_loosely alone quiet only [] now.seen after.seen full.did) d.waited tt refl full.of.legal mask d.said.body d.said.some (mine false out) new full.full full.unmade
       (is ∙ ap (λ (w : Record). closed w c) d.own_is)) refl (λ waits. absurd (cc waits))
 
   -- it is made, and the rank holds it
@@ -207,8 +208,8 @@ module _ {P : Type 0} (meld : P → P → P) (alone : Bool) (name : Over P) (ask
       → Answered meld alone asked (local old (view_at name before)) (Shrunk j context size) (local new (view_at name after))
   ends_made j context size group new after made holds lowest left out =
       answered_with meld alone name asked old before (Shrunk j context size) new after made.of (omega (arith, onward, made.onward)) fits polls
-      (shrink_shrunk meld name.limits alone before.seen old d.mid c k x d.decided d.marked d.all d.read now.seen begins_now of.legal own.seen reach counted
-      made.own after.seen made.did d.waited made.makes made.settles_none made.of.legal mask d.body d.some (mine false out) j context size new made.some
+      (shrink_shrunk meld name.limits alone before.seen old d.mid c k x d.decided d.said.marked d.said.all d.said.read now.seen begins_now of.legal own.seen reach counted
+      made.own after.seen made.did d.waited made.makes made.settles_none made.of.legal mask d.said.body d.said.some (mine false out) j context size new made.some
       made.made lowest (holds.size_is ∙ ap length left)
       (holds.record_is ∙ ap₂ (λ (w : Record) ms. let rest = closed w c in record rest { held = rest.held ++ new_held j context ms ∷ [] }) d.own_is left)) refl
       (λ waits. absurd (cc waits))
@@ -218,24 +219,29 @@ module _ {P : Type 0} (meld : P → P → P) (alone : Bool) (name : Over P) (ask
   ends_out out_of_it =
       let poll = call.Poll old.number c in
       let quiet = did_none alone now.seen in
+      let m = d.said.marked in
       let out : RanOut meld alone poll (local old (view_at name before)) (local own (view_at name now)) =
-      runs_out_after meld alone name before now onward poll old own d.marked.look (d.marked.marks.own ++ []) of fits
-      (record { in_use = d.marked.looked.in_use; did = d.marked.looked.did; not_declared = d.marked.looked.not_declared; record_is = refl })
-      (all_did meld name.limits alone before.seen old d.mid c k x d.decided d.marked d.all d.read now.seen begins_now of.legal own.seen reach counted []
-      now.seen quiet d.waited tt refl of.legal)
-      (not_refused meld name.limits alone before.seen old d.mid c true k x d.decided d.marked)
-      (may_own meld name.limits alone before.seen old d.mid c k x d.decided d.marked d.all d.read now.seen begins_now of.legal own.seen reach counted []
-      now.seen quiet d.waited tt refl of.legal)
-      (subst (λ (events : List (Event P)). spawns (entries_by (Rank old.number) events) ≡ []) (sym (append-nil d.marked.marks.own))
-      (marks_make_none (Rank old.number) c k _ d.marked.marks.own d.marked.marks.marks))
-      (subst (HadCome meld name.limits now.seen old.number c) (sym (polls_it meld name.limits alone before.seen old d.mid c true k x d.decided d.marked))
-      (shrink_decided meld name.limits alone before.seen old d.mid c k x d.decided d.marked d.all d.read now.seen begins_now of.legal own.seen reach counted []
-      now.seen quiet d.waited tt refl of.legal mask d.body d.some (mine false out_of_it)))
-      (sees_on meld name.limits alone before.seen old d.mid c k x d.decided d.marked d.all d.read now.seen begins_now of.legal own.seen reach counted []
-      now.seen quiet d.waited tt refl of.legal)
-      d.begins (d.own_is ∙ ap (λ (w : Record). record w { seen = own.seen }) d.marked.looked.record_is) in
+      runs_out_after meld alone name before now onward poll old own of fits d.begins
+      (record {
+        in_use = m.since.looked.in_use;
+        span = span_ends (Rank old.number) (m.marks.own ++ []) false m.since.looked.did
+            (all_did meld name.limits alone before.seen old d.mid c k x d.decided m d.said.all d.said.read now.seen begins_now of.legal own.seen reach
+            counted [] now.seen quiet d.waited tt refl of.legal) of.legal;
+        not_declared = m.since.looked.not_declared;
+        not_refused = not_refused meld name.limits alone before.seen old d.mid c true k x d.decided m;
+        own = may_own meld name.limits alone before.seen old d.mid c k x d.decided m d.said.all d.said.read now.seen begins_now of.legal own.seen reach
+            counted [] now.seen quiet d.waited tt refl of.legal;
+        makes_none = subst (λ (events : List (Event P)). spawns (entries_by (Rank old.number) events) ≡ []) (sym (append-nil m.marks.own))
+            (marks_make_none (Rank old.number) c k _ m.marks.own m.marks.marks);
+        had_come = subst (HadCome meld name.limits now.seen old.number c) (sym (polls_it meld name.limits alone before.seen old d.mid c true k x d.decided m))
+            (shrink_decided meld name.limits alone before.seen old d.mid c k x d.decided m d.said.all d.said.read now.seen begins_now of.legal own.seen
+            reach counted [] now.seen quiet d.waited tt refl of.legal mask d.said.body d.said.some (mine false out_of_it));
+        sees = sees_on meld name.limits alone before.seen old d.mid c k x d.decided m d.said.all d.said.read now.seen begins_now of.legal own.seen reach
+            counted [] now.seen quiet d.waited tt refl of.legal;
+        record_is = d.own_is ∙ ap (λ (w : Record). record w { seen = own.seen }) m.since.looked.record_is;
+      }) in
       let shrinking : IsTrue (is_shrink (polled_by {P = P} old poll)) = ap is_shrink
-      (polls_it meld name.limits alone before.seen old d.mid c true k x d.decided d.marked) in
+      (polls_it meld name.limits alone before.seen old d.mid c true k x d.decided d.said.marked) in
       record {
         ends = inr (subst (λ (a : Call P). RanOut meld alone a (local old (view_at name before)) (local own (view_at name now)) × IsTrue (is_shrink (polled_by old a))) (sym polls) (out, shrinking));
         pending = λ waits. absurd (cc waits);
@@ -248,13 +254,13 @@ module _ {P : Type 0} (meld : P → P → P) (alone : Bool) (name : Over P) (ask
   fits_read = later meld name.limits alone before.seen old mid (comm_of asked) true k r.x now.seen r.marked
 
   pub group_goes_up : IsStrictlyIncreasing r.x.group
-  group_goes_up = group_rises meld name.limits now.seen mid (comm_of asked) r.x fits_read r.marked.held
+  group_goes_up = group_rises meld name.limits now.seen mid (comm_of asked) r.x fits_read r.marked.since.held
 
   -- some have offered no mask
   pub ends_mismatch : (new : Record) → ((mask : CtxMask) → all.body ≡ OfIds mask → ⊥) → new ≡ closed mid (comm_of asked)
       → Answered meld alone asked (local old (view_at name before)) (Refused Mismatch) (local new (view_at name now))
   ends_mismatch new other is =
-      answered_with meld alone name asked old before (Refused Mismatch) new now of r.onward r.fits r.polls
+      answered_with meld alone name asked old before (Refused Mismatch) new now of r.on.onward r.on.fits r.on.polls
       (shrink_mismatch meld name.limits alone before.seen old mid (comm_of asked) k r.x now.seen r.marked all r.read new other is) refl
       (λ waits. absurd (cc waits))
 
@@ -262,7 +268,7 @@ module _ {P : Type 0} (meld : P → P → P) (alone : Bool) (name : Over P) (ask
   pub ends_no_context : (mask : CtxMask) (new : Record) → all.body ≡ OfIds mask → mask.bits ≡ 0 → new ≡ closed mid (comm_of asked)
       → Answered meld alone asked (local old (view_at name before)) (Refused NoContext) (local new (view_at name now))
   ends_no_context mask new body none is =
-      answered_with meld alone name asked old before (Refused NoContext) new now of r.onward r.fits r.polls
+      answered_with meld alone name asked old before (Refused NoContext) new now of r.on.onward r.on.fits r.on.polls
       (shrink_no_context meld name.limits alone before.seen old mid (comm_of asked) k r.x now.seen r.marked all r.read mask new body none is) refl
       (λ waits. absurd (cc waits))
 
@@ -272,12 +278,7 @@ module _ {P : Type 0} (meld : P → P → P) (alone : Bool) (name : Over P) (ask
       record {
         mid = mid;
         decided = now.seen;
-        marked = r.marked;
-        all = all;
-        read = r.read;
-        body = body;
-        some = some;
-        count_is = refl;
+        said = record { marked = r.marked; all = all; read = r.read; body = body; some = some; count_is = refl };
         waited = did_none alone now.seen;
         own_is = refl;
         goes_on = ([], append-nil mid.seen);
@@ -291,9 +292,7 @@ module _ {P : Type 0} (meld : P → P → P) (alone : Bool) (name : Over P) (ask
   unfolding decided_first
   reached_first mask on body some at enough =
       record {
-        fits = r.fits;
-        polls = r.polls;
-        onward = r.onward;
+        on = r.on;
         x = r.x;
         decided = decided_first mask body some;
         reads = reads_of r.x.group all.known.count on mid.seen mid.seen (failures now.seen) at enough ([], append-nil mid.seen) fits_read.seen;
@@ -330,9 +329,7 @@ module _ {P : Type 0} (meld : P → P → P) (alone : Bool) (name : Over P) (ask
   has_reached next at enough =
       let before_that = s.onward in
       record {
-        fits = s.fits;
-        polls = s.at.0;
-        onward = omega (arith, before_that, onward);
+        on = record { fits = s.fits; polls = s.at.0; onward = omega (arith, before_that, onward) };
         x = s.at.1;
         decided = decided_on meld name.limits alone (comm_of asked) made.round made.mask s.at.1 made.count old before.seen own now.seen s.at.2 new after.seen
             did is goes begins;
@@ -418,7 +415,7 @@ module _ {P : Type 0} (meld : P → P → P) (alone quiet : Bool) (only : IsTrue
                 x = at.x;
                 held = held;
                 adds = subst (λ (a : Call P). CallAdds [] own.number at.x a (Spawn i comm at.round)) (sym s.at.0)
-                    (subst (λ request. PollAdds {P = P} [] at.x request (Spawn i comm at.round)) (sym at.decided.marked.open_is)
+                    (subst (λ request. PollAdds {P = P} [] at.x request (Spawn i comm at.round)) (sym at.decided.said.marked.open_is)
                     (inr (i, ap (λ n. Spawn i n at.round) (there ∙ sym named))));
                 wins = λ no_poll. absurd (cc (no_poll, ap (λ (a : Call P). (traits_of a).polls) s.at.0));
               },
@@ -433,8 +430,8 @@ module _ {P : Type 0} (meld : P → P → P) (alone quiet : Bool) (only : IsTrue
         let i = s.at.1 in
         let is = spawns i.round item_is in
         let sought = is.0 in
+        let later = sought.of in
         let did = did_loosely alone quiet only [] now.seen after.seen sought.did in
-        let grown = failures_begin now.seen after.seen (did_prefix alone [] now.seen after.seen did) in
         let here : next.item ≡ OfComm comm i.round = sought.item ∙ item_is in
         let earlier = s.onward in
         let onward = sought.onward in
@@ -449,24 +446,9 @@ module _ {P : Type 0} (meld : P → P → P) (alone quiet : Bool) (only : IsTrue
           onward = omega (arith, earlier, onward);
           at = (
             s.at.0,
-            record {
-              x = i.x;
-              round = i.round;
-              mask = i.mask;
-              count = i.count;
-              decided =
-                  decided_on meld name.limits alone (comm_of asked) i.round i.mask i.x i.count old before.seen own now.seen i.decided own after.seen did refl
-                  ([], append-nil own.seen)
-                  (prefix_trans own.seen (failures now.seen) (failures after.seen) i.decided.begins grown);
-              lowest = i.lowest;
-              reads = reads_stay i.x.group i.count i.decided.mid.seen own.seen (failures now.seen) (failures after.seen) reach i.reads grown;
-              stays = i.stays;
-              left = i.left;
-              item = sought.item ∙ i.item;
-              mine = sought.mine ∙ i.mine;
-              passed = subst (λ (item : Item). Passed after.seen item next.index) (sym here) sought.passed;
-              more = subst (λ (item : Item). next.index < room item name.limits) (sym here) sought.more;
-            },
+            spawning_then meld name.limits alone old before.seen own now.seen after.seen did later.legal (comm_of asked) append context reach prepared.members i next
+                sought.item sought.mine (subst (λ (item : Item). Passed after.seen item next.index) (sym here) sought.passed)
+                (subst (λ (item : Item). next.index < room item name.limits) (sym here) sought.more),
             s.at.2,
           );
         }))
@@ -505,17 +487,6 @@ module _ {P : Type 0} (meld : P → P → P) (alone quiet : Bool) (only : IsTrue
     spawn_full ended spawns closes =
         let i = s.at.1 in
         let is = spawns i.round item_is in
-        let full = is.0 in
-        let loosely : IsFullBy meld alone (round_on (comm_of asked) i.round) (view_at name now) (view_at name after) =
-        subst (λ n. IsFullBy meld alone (round_on n i.round) (view_at name now) (view_at name after)) there
-        (record {
-          of = full.of;
-          did = did_loosely alone quiet only [] now.seen after.seen full.did;
-          full = full.full;
-          unmade = full.unmade;
-          onward = full.onward;
-          cached = full.cached;
-          caches = full.caches;
-        }) in
-        ends_full meld alone name asked i.round i.mask i.x i.count reach old before own now of s.onward s.fits s.at.0 i.decided i.reads ended after loosely
+        let full = subst (λ n. IsFullBy meld quiet (round_on n i.round) (view_at name now) (view_at name after)) there is.0 in
+        ends_full meld alone name asked i.round i.mask i.x i.count reach old before own now of s.onward s.fits s.at.0 i.decided i.reads quiet only ended after full
         i.stays (closes ∙ ap₂ closed is.1 there)

@@ -1,5 +1,5 @@
 -- A call under way stands as it stood, after others' events.
-use Rattle.std.proofs.Common.{◌≡◌, ℕ, Bool, true, List, [], Option, Some, None, IfSome, IsTrue, ap, refl, sym, append-nil, ◌∙◌, arith}
+use Rattle.std.proofs.Common.{◌≡◌, ℕ, ◌<◌, Bool, true, List, [], Option, Some, None, IfSome, IsTrue, ap, refl, sym, append-nil, ◌∙◌, arith}
 use mathlib.Core.List.{IsPrefix}
 use Rattle.ulfm_laws.specs.declared.summary.CtxMask.{CtxMask}
 use Rattle.ulfm_model.specs.declared.call.Call.TheVariants as call
@@ -8,7 +8,7 @@ use Rattle.ulfm_model.specs.{Answers.{polled_by}, History.{History, IsLegal, fai
 use Rattle.ulfm_model.specs.{Blocks.{has_block}, History.{slot}, declared.{block.Block.{Block}, block.Wing.{Wing}, contribution.Slot.{Slot}}}
 use Rattle.ulfm_model.proofs.{Blocks.{block_stays, has_block_stays, has_wing_stays}, Histories.{failures_begin, slot_stays}, Lists.{prefix_trans}}
 use Rattle.ulfm_words.specs.{Blocks.{IsBlockIn, IsFirstOf}, Slots.{offer_wing}}
-use Rattle.ulfm_steps.specs.{Blocks.{HoldsFirst, HoldsHalf, block_at, next_in_block}, ReadsOn.{ReadsOn}}
+use Rattle.ulfm_steps.specs.{Blocks.{BothTell, HoldsFirst, HoldsHalf, block_at, next_in_block}, Appends.{Passed, room}, Marks.{IsAt, Marks, members_in}, ReadsOn.{ReadsOn}}
 use Rattle.ulfm_steps.proofs.KnownBlocks.{spread_later}
 use Rattle.ulfm_model.specs.Terms.{comm_of}
 use Rattle.ulfm_model.specs.Records.{moment}
@@ -25,7 +25,7 @@ use Rattle.ulfm_comm.specs.declared.phases.phase.Phase.{Phase}
 use Rattle.ulfm_comm.specs.declared.phases.phase.Phase.TheVariants.{Over, Begun, Looking, Spreading, Settling, Arriving, Revoking, Asking, Peeking, Marking, Reading}
 use Rattle.ulfm_comm.specs.declared.phases.phase.Phase.TheVariants.{ReadingOn, Spawning, Waiting, Checking}
 use Rattle.ulfm_comm.specs.Local.{frame, local}
-use Rattle.ulfm_comm.specs.Requests.{polled_round}
+use Rattle.ulfm_comm.specs.Requests.{agreement, polled_round}
 use Rattle.ulfm_comm.specs.Spawning.{decided_as, sought}
 use Rattle.ulfm_comm.specs.Prepared.{Prepared}
 
@@ -46,17 +46,49 @@ module _ {P : Type 0} (meld : P → P → P) (limits : Limits) (alone : Bool) (c
       record {
         mid = d.mid;
         decided = d.decided;
-        marked = d.marked;
-        all = d.all;
-        read = d.read;
-        body = d.body;
-        some = d.some;
-        count_is = d.count_is;
+        said = d.said;
         waited = did_wait alone [] d.decided now after d.waited did;
         own_is = is ∙ ap (λ (w : Record). record w { seen = new.seen }) d.own_is;
         goes_on = prefix_trans d.mid.seen own.seen new.seen d.goes_on goes;
         begins = begins;
       }
+
+module _ {P : Type 0} (meld : P → P → P) (limits : Limits) (alone : Bool) (old : Record) (before : History P) (own : Record) (now later : History P) where
+  -- a peek goes on, after others' events
+  abbrev pub peeking_then : Did alone [] now later → (c : ℕ) (shrinks : Bool) (peek : Peek P)
+      → (p : IsPeeking (frame meld limits alone) c shrinks peek (moment old before) (moment own now)) → (next : Peek P) → next.comm ≡ peek.comm
+      → next.round ≡ peek.round → BothTell meld later next.comm next.round p.x.group next.blocks
+      → IsPeeking (frame meld limits alone) c shrinks next (moment old before) (moment own later)
+  peeking_then did c shrinks peek p next comm round are = record {
+    x = p.x;
+    since = p.since;
+    legal = p.legal;
+    open_is = p.open_is ∙ ap (λ k. Some (agreement shrinks k)) (sym round);
+    there = comm ∙ p.there;
+    are = are;
+    waited = did_wait alone [] p.since.look now later p.waited did;
+  }
+
+  -- a marking goes on, by what it has marked since the look
+  abbrev pub marking_then : (c : ℕ) (shrinks : Bool) (marks : MarkAll) (blocks : RoundBlocks P)
+      → (p : IsMarking (frame meld limits alone) c shrinks marks blocks (moment old before) (moment own now)) → (next : MarkAll) → next.rank ≡ marks.rank
+      → next.comm ≡ marks.comm → next.round ≡ marks.round → IsAt p.x.group (failures p.since.look) next.next next.known → (marked : History P)
+      → Marks alone old.number c next.round (members_in p.x.group (failures p.since.look) next.next) p.since.look marked → Did alone [] marked later
+      → BothTell meld later next.comm next.round p.x.group blocks → IsMarking (frame meld limits alone) c shrinks next blocks (moment old before) (moment own later)
+  marking_then c shrinks marks blocks p next rank comm round at marked has_marked waited are = record {
+    x = p.x;
+    since = p.since;
+    legal = p.legal;
+    open_is = p.open_is ∙ ap (λ k. Some (agreement shrinks k)) (sym round);
+    mine = rank ∙ p.mine;
+    there = comm ∙ p.there;
+    at = at;
+    marked = marked;
+    has_marked = has_marked;
+    waited = waited;
+    are = are;
+    unknown = p.unknown;
+  }
 
 module _ {P : Type 0} (meld : P → P → P) (limits : Limits) (alone : Bool) (old : Record) (before : History P) (own : Record) (now later : History P)
     (did : Did alone [] now later) (legal : IsLegal meld limits later) where
@@ -80,48 +112,20 @@ module _ {P : Type 0} (meld : P → P → P) (limits : Limits) (alone : Bool) (o
 
   abbrev pub peeking_lasts : (c : ℕ) (shrinks : Bool) (peek : Peek P) → IsPeeking (frame meld limits alone) c shrinks peek (moment old before) (moment own now)
       → IsPeeking (frame meld limits alone) c shrinks peek (moment old before) (moment own later)
-  peeking_lasts c shrinks peek p = record {
-    look = p.look;
-    looked = p.looked;
-    legal = p.legal;
-    fits = p.fits;
-    x = p.x;
-    held = p.held;
-    open_is = p.open_is;
-    there = p.there;
-    are = are_later meld now later peek.comm peek.round p.x.group peek.blocks grows p.are;
-    waited = did_wait alone [] p.look now later p.waited did;
-  }
+  peeking_lasts c shrinks peek p = peeking_then meld limits alone old before own now later did c shrinks peek p peek refl refl
+      (are_later meld now later peek.comm peek.round p.x.group peek.blocks grows p.are)
 
   abbrev pub marking_lasts : (c : ℕ) (shrinks : Bool) (marks : MarkAll) (blocks : RoundBlocks P)
       → IsMarking (frame meld limits alone) c shrinks marks blocks (moment old before) (moment own now)
       → IsMarking (frame meld limits alone) c shrinks marks blocks (moment old before) (moment own later)
-  marking_lasts c shrinks marks blocks p = record {
-    look = p.look;
-    looked = p.looked;
-    legal = p.legal;
-    fits = p.fits;
-    x = p.x;
-    held = p.held;
-    open_is = p.open_is;
-    mine = p.mine;
-    there = p.there;
-    at = p.at;
-    marked = p.marked;
-    has_marked = p.has_marked;
-    waited = did_wait alone [] p.marked now later p.waited did;
-    are = are_later meld now later marks.comm marks.round p.x.group blocks grows p.are;
-    unknown = p.unknown;
-  }
+  marking_lasts c shrinks marks blocks p = marking_then meld limits alone old before own now later c shrinks marks blocks p marks refl refl refl p.at p.marked
+      p.has_marked (did_wait alone [] p.marked now later p.waited did) (are_later meld now later marks.comm marks.round p.x.group blocks grows p.are)
 
   pub marked_lasts : (c : ℕ) (shrinks : Bool) (k : ℕ) (x : Held) → PollHasMarked (frame meld limits alone) c (polled_round shrinks k) x (moment old before) (moment own now)
       → PollHasMarked (frame meld limits alone) c (polled_round shrinks k) x (moment old before) (moment own later)
   marked_lasts c shrinks k x p =
       record {
-        look = p.look;
-        looked = p.looked;
-        fits = p.fits;
-        held = p.held;
+        since = p.since;
         open_is = p.open_is;
         marked = p.marked;
         marks = p.marks;
@@ -144,10 +148,12 @@ module _ {P : Type 0} (meld : P → P → P) (limits : Limits) (alone : Bool) (o
   decided_lasts c k mask x count p = decided_on meld limits alone c k mask x count old before own now p own later did refl ([], append-nil own.seen)
       (prefix_trans own.seen (failures now) (failures later) p.begins more_failures)
 
-  pub spawning_lasts : (c : ℕ) (append : Append) (context reach : ℕ) (group : List ℕ)
+  -- the communicator is looked for on, from the place that is tried next
+  pub spawning_then : (c : ℕ) (append : Append) (context reach : ℕ) (group : List ℕ)
       → IsSpawning (frame meld limits alone) c append (sought context reach group) (moment old before) (moment own now)
-      → IsSpawning (frame meld limits alone) c append (sought context reach group) (moment old before) (moment own later)
-  spawning_lasts c append context reach group p =
+      → (next : Append) → next.item ≡ append.item → next.by ≡ append.by → Passed later next.item next.index → next.index < room next.item limits
+      → IsSpawning (frame meld limits alone) c next (sought context reach group) (moment old before) (moment own later)
+  spawning_then c append context reach group p next item mine passed more =
       record {
         x = p.x;
         round = p.round;
@@ -158,11 +164,17 @@ module _ {P : Type 0} (meld : P → P → P) (limits : Limits) (alone : Bool) (o
         reads = reads_stay p.x.group p.count p.decided.mid.seen own.seen (failures now) (failures later) reach p.reads more_failures;
         stays = p.stays;
         left = p.left;
-        item = p.item;
-        mine = p.mine;
-        passed = passed_stays append.item append.index now later grows p.passed;
-        more = p.more;
+        item = item ∙ p.item;
+        mine = mine ∙ p.mine;
+        passed = passed;
+        more = more;
       }
+
+  pub spawning_lasts : (c : ℕ) (append : Append) (context reach : ℕ) (group : List ℕ)
+      → IsSpawning (frame meld limits alone) c append (sought context reach group) (moment old before) (moment own now)
+      → IsSpawning (frame meld limits alone) c append (sought context reach group) (moment old before) (moment own later)
+  spawning_lasts c append context reach group p =
+      spawning_then c append context reach group p append refl refl (passed_stays append.item append.index now later grows p.passed) p.more
 
   pub waiting_lasts : (c k : ℕ) (x : Held) → IsWaiting (frame meld limits alone) c k x (moment old before) (moment own now) → IsWaiting (frame meld limits alone) c k x (moment old before) (moment own later)
   waiting_lasts c k x p = waiting_on meld limits alone c k x old before own now p alone (λ same. same) later did
@@ -283,13 +295,13 @@ module _ {P : Type 0} (meld : P → P → P) (alone : Bool) (name : Named P) (as
   stands_own (Arriving round) p = by_seen _ p.0.looked.record_is
   stands_own Revoking p = by_seen _ p.0.looked.record_is
   stands_own Asking p = by_seen _ p.0.looked.record_is
-  stands_own (Peeking peek shrinks) p = by_seen _ p.1.looked.record_is
-  stands_own (Marking marks blocks shrinks) p = by_seen _ p.1.looked.record_is
-  stands_own (Reading reading shrinks) p = by_seen _ p.1.marked.looked.record_is
-  stands_own (ReadingOn on made) p = let d = p.2 in by_looked d.mid d.marked.look d.marked.looked d.own_is
-  stands_own (Spawning append context reach) p = let d = p.1.decided in by_looked d.mid d.marked.look d.marked.looked d.own_is
-  stands_own (Waiting arrivals) p = by_seen _ p.3.looked.record_is
-  stands_own (Checking missing) p = by_seen _ p.2.waits.looked.record_is
+  stands_own (Peeking peek shrinks) p = by_seen _ p.1.since.looked.record_is
+  stands_own (Marking marks blocks shrinks) p = by_seen _ p.1.since.looked.record_is
+  stands_own (Reading reading shrinks) p = by_seen _ p.1.marked.since.looked.record_is
+  stands_own (ReadingOn on made) p = let d = p.2 in by_looked d.mid d.said.marked.since.look d.said.marked.since.looked d.own_is
+  stands_own (Spawning append context reach) p = let d = p.1.decided in by_looked d.mid d.said.marked.since.look d.said.marked.since.looked d.own_is
+  stands_own (Waiting arrivals) p = by_seen _ p.3.since.looked.record_is
+  stands_own (Checking missing) p = by_seen _ p.2.waits.since.looked.record_is
 
   -- one that reads on polls a shrink
   pub stands_shrinks : (phase : Phase P) → reads_on phase ≡ true → StandsAt meld alone asked (local old (view_at name before)) phase prepared (local own (view_at name now))
@@ -297,8 +309,8 @@ module _ {P : Type 0} (meld : P → P → P) (alone : Bool) (name : Named P) (as
   stands_shrinks (ReadingOn on made) reads p =
       let d = p.2 in
       let shrinking : IsTrue (is_shrink (polled_by {P = P} old (call.Poll old.number (comm_of asked)))) = ap is_shrink
-      (polls_it meld name.limits alone before.seen old d.mid (comm_of asked) true made.round p.1 d.decided d.marked) in
+      (polls_it meld name.limits alone before.seen old d.mid (comm_of asked) true made.round p.1 d.decided d.said.marked) in
       let same : polled_by {P = P} own asked ≡ polled_by {P = P} old (call.Poll old.number (comm_of asked)) = ap (λ (w : Record). polled_by {P = P} w asked)
-      (by_looked d.mid d.marked.look d.marked.looked d.own_is) ∙ ap (λ (a : Call P). polled_by {P = P} old a) p.0 in
+      (by_looked d.mid d.said.marked.since.look d.said.marked.since.looked d.own_is) ∙ ap (λ (a : Call P). polled_by {P = P} old a) p.0 in
       ap is_shrink same ∙ shrinking
   stands_shrinks _ reads p = absurd (cc reads)

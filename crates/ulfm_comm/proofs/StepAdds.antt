@@ -121,24 +121,24 @@ module _ {P : Type 0} (meld : P → P → P) (quiet : Bool) (name : Named P) (as
   abbrev marking : IsMarking (frame meld name.limits false) (comm_of asked) shrinks marks blocks (moment old before.seen) (moment own now.seen)
   marking = stood.at.1
 
-  marking_seen : own.seen ≡ failures marking.look
-  marking_seen = ap (λ (w : Record). w.seen) marking.looked.record_is
+  marking_seen : own.seen ≡ failures marking.since.look
+  marking_seen = ap (λ (w : Record). w.seen) marking.since.looked.record_is
 
   mine : marks.rank ≡ own.number
-  mine = marking.mine ∙ sym (ap (λ (w : Record). w.number) marking.looked.record_is)
+  mine = marking.mine ∙ sym (ap (λ (w : Record). w.number) marking.since.looked.record_is)
 
   marking_fits : Fits meld name.limits now.seen own
   marking_fits =
-      let did = did_wait false (entries_by (Rank old.number) marking.has_marked.own) marking.look marking.marked now.seen marking.has_marked.did
+      let did = did_wait false (entries_by (Rank old.number) marking.has_marked.own) marking.since.look marking.marked now.seen marking.has_marked.did
       marking.waited in
-      fits_stays meld name.limits marking.look now.seen own (did_prefix false (entries_by (Rank old.number) marking.has_marked.own) marking.look now.seen did)
-      of.legal marking.fits
+      fits_stays meld name.limits marking.since.look now.seen own (did_prefix false (entries_by (Rank old.number) marking.has_marked.own) marking.since.look now.seen did)
+      of.legal marking.since.fits
 
   more : marks.next < length own.seen
   more = subst (λ s. marks.next < length s) (sym marking_seen) stood.at.2
 
   there : marking.x.comm ≡ marks.comm
-  there = comm_is meld name.limits now.seen own (comm_of asked) marking.x marking_fits marking.held ∙ sym marking.there
+  there = comm_is meld name.limits now.seen own (comm_of asked) marking.x marking_fits marking.since.held ∙ sym marking.there
 
   a_mark : (mark : MarkCount) → MarksDeclared {P = P} own.seen marking.x marks.round (Mark marks.comm marks.round (slice_index own.seen marks.next) mark)
   a_mark mark = (
@@ -162,7 +162,7 @@ module _ {P : Type 0} (meld : P → P → P) (quiet : Bool) (name : Named P) (as
       adds_one quiet own.seen own asked reply now.seen after event
       (record {
         x = marking.x;
-        held = marking.held;
+        held = marking.since.held;
         adds = subst (λ (a : Call P). CallAdds own.seen own.number marking.x a event) (sym stood.at.0)
             (subst (λ request. PollAdds own.seen marking.x request event) (sym marking.open_is) (by_request shrinks mark));
         wins = λ no_poll. absurd (cc (no_poll, ap (λ (a : Call P). (traits_of a).polls) stood.at.0));

@@ -6,7 +6,7 @@ use Rattle.ulfm_model.specs.declared.reply.Reply.TheVariants.{Pending, Refused, 
 use Rattle.ulfm_model.specs.{History.{History, IsLegal}, Records.{Fits, Held, Moment, Record, held_at, moment}, Runs.{Did}, Answers.{closed}}
 use Rattle.ulfm_steps.specs.Arriving.{MissingAre}
 use Rattle.ulfm_steps.specs.declared.{arrivals.Missing.{Missing}, arrivals.Missing.TheVariants.{Nobody, Others, Declared}}
-use Rattle.ulfm_comm.specs.{Ends.{IsEndRun}, Local.{Frame}, Look.{Looked}}
+use Rattle.ulfm_comm.specs.{Ends.{IsEndRun}, Local.{Frame}, Look.{HoldsSince}}
 
 -- a rank that has a barrier open in this round
 pub record Awaits {P : Type 0} (meld : P → P → P) (limits : Limits) (h : History P) (c k : ℕ) (own : Record) : Type 0 where
@@ -29,13 +29,10 @@ missing_leaves own c Declared = closed own c
 
 -- The poll of a barrier has looked; since then there were others' events alone.
 pub record IsWaiting {P : Type 0} (by : Frame P) (c k : ℕ) (x : Held) (start now : Moment P) : Type 0 where
-  pub look : History P
-  pub looked : Looked by.alone start.seen look start.own now.own
-  pub legal : IsLegal by.meld by.limits look
-  pub fits : Fits by.meld by.limits look now.own
-  pub held : held_at now.own c ≡ Some x
+  pub since : HoldsSince by c x start now.own
+  pub legal : IsLegal by.meld by.limits since.look
   pub open_is : x.request ≡ Some (Barrier k)
-  pub waited : Did by.alone [] look now.seen
+  pub waited : Did by.alone [] since.look now.seen
 
 -- The poll of a barrier is about to load the revocation: who was missing was found when this had been seen.
 pub record IsChecking {P : Type 0} (by : Frame P) (c : ℕ) (missing : Missing) (earlier : History P) (start now : Moment P) : Type 0 where

@@ -13,9 +13,12 @@ pub record Ranked : Type 0 where
   pub own : Record
   pub last : ℕ
 
+abbrev pub ranked : Record → ℕ → Ranked
+ranked own last = record { own = own; last = last }
+
 -- a new rank has made no call
 abbrev pub new_rank : Limits → ℕ → Ranked
-new_rank limits r = record { own = new_record limits r; last = 0 }
+new_rank limits r = ranked (new_record limits r) 0
 
 -- the records of ranks
 abbrev pub records_of : List Ranked → List Record

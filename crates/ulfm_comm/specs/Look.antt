@@ -1,5 +1,5 @@
 -- The look of a call, and how the call goes on after it.
-use Rattle.std.specs.Prelude.{◌≡◌, ◌≤◌, Bool, [], Some, None, IsFalse}
+use Rattle.std.specs.Prelude.{◌≡◌, ◌≤◌, ℕ, Bool, [], Some, None, IsFalse}
 use Rattle.ulfm_model.specs.declared.{call.Call.{Call}, event.Caller.TheVariants.{Rank}}
 use Rattle.ulfm_model.specs.{Answers.{first_refusal, refusal_of, traits_of}, History.{History, IsLegal, failures, has}}
 use Rattle.ulfm_model.specs.Records.{Fits, Held, Moment, Record, held_at}
@@ -12,6 +12,13 @@ pub record Looked {P : Type 0} (alone : Bool) (before look : History P) (old mid
   pub did : Did alone [] before look
   pub not_declared : IsFalse (has (failures look) old.number)
   pub record_is : mid ≡ record old { seen = failures look }
+
+-- what a rank holds since a look: of this communicator its record says the same as then, and it fits what the look found
+pub record HoldsSince {P : Type 0} (by : Frame P) (c : ℕ) (x : Held) (start : Moment P) (own : Record) : Type 0 where
+  pub look : History P
+  pub looked : Looked by.alone start.seen look start.own own
+  pub fits : Fits by.meld by.limits look own
+  pub held : held_at own c ≡ Some x
 
 -- The call goes on after its look, on a communicator that its rank holds and by a record that doesn't refuse it; since the look
 -- there were others' events alone.

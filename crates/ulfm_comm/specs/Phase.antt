@@ -154,7 +154,7 @@ StandsAt meld alone asked start (Peeking peek shrinks) prepared now =
 StandsAt meld alone asked start (Marking marks blocks shrinks) prepared now =
     (asked ≡ call.Poll start.own.number (comm_of asked))
     × (p : IsMarking (frame_of meld alone start) (comm_of asked) shrinks marks blocks (moment_of start) (moment_of now))
-    × (marks.next < length (failures p.look))
+    × (marks.next < length (failures p.since.look))
 StandsAt meld alone asked start (Reading reading shrinks) prepared now =
     (asked ≡ call.Poll start.own.number (comm_of asked))
     × (p : IsReading (frame_of meld alone start) (comm_of asked) shrinks reading (moment_of start) (moment_of now))

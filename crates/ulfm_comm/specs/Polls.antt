@@ -11,7 +11,7 @@ use Rattle.ulfm_words.specs.Steps.{IsView}
 use Rattle.ulfm_model.specs.Blocks.{IsSummed}
 use Rattle.ulfm_words.specs.declared.step.Site.{Site}
 use Rattle.ulfm_steps.specs.Marks.{Marks}
-use Rattle.ulfm_comm.specs.{Calls.{Calls, EndsBy, LeavesBlocks, is_out_of_memory, reply_of}, Local.{Frame, Local, moment_of}, Look.{Looked}}
+use Rattle.ulfm_comm.specs.{Calls.{Calls, EndsBy, LeavesBlocks, is_out_of_memory, reply_of}, Local.{Frame, Local, moment_of}, Look.{HoldsSince}}
 use Rattle.ulfm_comm.specs.Requests.{PolledRound, agreement}
 use Rattle.ulfm_comm.specs.declared.{calls.polled.Polled.{Polled}, calls.polled.Polled.TheVariants.{Agreed, Done, Pending, Shrunk}}
 
@@ -47,13 +47,10 @@ pub record Polls {P : Type 0} (meld : P → P → P) (alone : Bool) (asked : Cal
 -- A poll under way: it has looked, and then made the marks that were lacking, so that in the round of its open request each member that the look
 -- found declared is settled. After that only others' events came.
 pub record PollHasMarked {P : Type 0} (by : Frame P) (c : ℕ) (which : PolledRound) (x : Held) (start now : Moment P) : Type 0 where
-  pub look : History P
-  pub looked : Looked by.alone start.seen look start.own now.own
-  pub fits : Fits by.meld by.limits look now.own
-  pub held : held_at now.own c ≡ Some x
+  pub since : HoldsSince by c x start now.own
   pub open_is : x.request ≡ Some (agreement which.shrinks which.round)
   pub marked : History P
-  pub marks : Marks by.alone start.own.number c which.round (filter (has x.group) (failures look)) look marked
+  pub marks : Marks by.alone start.own.number c which.round (filter (has x.group) (failures since.look)) since.look marked
   pub waited : Did by.alone [] marked now.seen
   pub legal : IsLegal by.meld by.limits now.seen
 

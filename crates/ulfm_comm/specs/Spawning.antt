@@ -3,18 +3,17 @@ use Rattle.std.specs.Prelude.{◌≡◌, ◌⊎◌, ℕ, ◌<◌, ◌≤◌, Boo
 use mathlib.Core.List.{IsPrefix}
 use Rattle.ulfm_laws.specs.declared.{summary.Body.TheVariants.{Ctx as OfIds}, summary.CtxMask.{CtxMask}, summary.Summary.{Summary}}
 use Rattle.ulfm_laws.specs.Ranges.{payload_bits}
-use Rattle.ulfm_model.specs.declared.call.Call.TheVariants as call
 use Rattle.ulfm_model.specs.declared.{call.Call.{Call}, event.Caller.TheVariants.{Rank}, event.Event.{Event}, limits.Limits.{Limits}, event.Caller.{Caller}}
 use Rattle.ulfm_model.specs.declared.{event.Event.TheVariants.{Spawn}, place.Place.TheVariants.{Comm as CommAt}}
 use Rattle.ulfm_model.specs.declared.{refusal.Refusal.TheVariants.{NoRoom}, reply.Reply.TheVariants.{Refused}}
 use Rattle.ulfm_model.specs.History.{History, entries_by, failures, has, without, is_made, spawns}
-use Rattle.ulfm_model.specs.Records.{Fits, Held, IsLowestId, Moment, Record, held_at, moment}
+use Rattle.ulfm_model.specs.Records.{Held, IsLowestId, Moment, Record, held_at, moment}
 use Rattle.ulfm_model.specs.{Runs.{Did}, Terms.{comm_of, contexts_of, new_held, settled_by}, Answers.{closed}}
 use Rattle.ulfm_words.specs.Steps.{IsView, Sight, View}
 use Rattle.ulfm_steps.specs.declared.{append.Append.{Append}, item.Item.TheVariants.{Comm as OfComm}}
 use Rattle.ulfm_model.specs.Blocks.{IsSummed}
 use Rattle.ulfm_steps.specs.{Appends.{Passed, room, MayAppend, turns_left}, ReadsOn.{ReadsOn}, Rounds.{RoundOn, round_on}, Turns.{Running, TakesFirst, running}}
-use Rattle.ulfm_comm.specs.{Local.{Frame, Local, frame_of, moment_of}, Polls.{PollHasMarked}, Prepared.{HasPlaces, Prepared}, Requests.{polled_round}}
+use Rattle.ulfm_comm.specs.{Agreement.{PollsOn}, Local.{Frame, Local, frame_of, moment_of}, Polls.{PollHasMarked}, Prepared.{HasPlaces, Prepared}, Requests.{polled_round}}
 use Rattle.ulfm_comm.specs.declared.{phases.phase.Made.{Made}, phases.phase.Next.{Next}, phases.phase.Next.TheVariants.{Ends}}
 use Rattle.ulfm_comm.specs.declared.phases.spawning.Spawned.{Spawned}
 use Rattle.ulfm_comm.specs.declared.phases.spawning.Spawned.TheVariants as spawned
@@ -119,16 +118,20 @@ SpawnIs meld alone makes old spawned.Full new = IsFullBy meld alone makes.at old
 abbrev pub decided_as : ℕ → CtxMask → ℕ → Made
 decided_as round mask count = record { round = round; mask = mask; count = count }
 
--- The poll of a shrink has read the round through, which is decided on this mask, and has read on in the list of failures.
-pub record HasReadMask {P : Type 0} (by : Frame P) (c : ℕ) (made : Made) (x : Held) (start now : Moment P) : Type 0 where
-  pub mid : Record
-  pub decided : History P
-  pub marked : PollHasMarked by c (polled_round true made.round) x start (moment mid decided)
+-- The poll of a shrink has read the round through, which is decided on this mask, with so many failed members.
+pub record IsDecidedOn {P : Type 0} (by : Frame P) (c : ℕ) (made : Made) (x : Held) (start now : Moment P) : Type 0 where
+  pub marked : PollHasMarked by c (polled_round true made.round) x start now
   pub all : Summary P
-  pub read : IsSummed by.meld decided c made.round x.group all
+  pub read : IsSummed by.meld now.seen c made.round x.group all
   pub body : all.body ≡ OfIds made.mask
   pub some : 0 < made.mask.bits
   pub count_is : made.count ≡ all.known.count
+
+-- Its round is decided so, and it has read on in the list of failures.
+pub record HasReadMask {P : Type 0} (by : Frame P) (c : ℕ) (made : Made) (x : Held) (start now : Moment P) : Type 0 where
+  pub mid : Record
+  pub decided : History P
+  pub said : IsDecidedOn by c made x start (moment mid decided)
   pub waited : Did by.alone [] decided now.seen
   pub own_is : now.own ≡ record mid { seen = now.own.seen }
   pub goes_on : IsPrefix mid.seen now.own.seen
@@ -161,9 +164,7 @@ pub record IsSpawning {P : Type 0} (by : Frame P) (c : ℕ) (append : Append) (s
 
 -- the poll of a shrink has just read the list of failures as far as the decision's failed group reaches
 pub record HasReached {P : Type 0} (meld : P → P → P) (alone : Bool) (asked : Call P) (made : Made) (reach : ℕ) (start now : Local P) : Type 0 where
-  pub fits : Fits meld start.view.words.limits start.view.pass.seen start.own
-  pub polls : asked ≡ call.Poll start.own.number (comm_of asked)
-  pub onward : start.view.pass.steps ≤ now.view.pass.steps
+  pub on : PollsOn meld asked start now
   pub x : Held
   pub decided : HasReadMask (frame_of meld alone start) (comm_of asked) made x (moment_of start) (moment_of now)
   pub reads : ReadsOn x.group made.count decided.mid.seen now.own.seen (failures now.view.pass.seen) reach

@@ -10,7 +10,7 @@ ghost use Rattle.ulfm_words.specs.Steps.{view_of, IsView, Goes};
 ghost use Rattle.ulfm_steps.specs.{Looks.{LookIs, LookTakes}, ReadsOn.{AtFailure, MayReadOn, ReadOnTakes}};
 ghost use Rattle.ulfm_steps.specs.declared.item.Item.TheVariants.{Comm as OfComm};
 ghost use Rattle.ulfm_model.specs.Kept.{HasNext};
-ghost use Rattle.ulfm_comm.specs.Counts.{new_rank};
+ghost use Rattle.ulfm_comm.specs.Counts.{ranked};
 ghost use Rattle.ulfm_comm.specs.Spawning.{seeking, target, MayHold, MayGoSpawning, SpawnIs, SpawnTakes};
 ghost use Rattle.ulfm_comm.specs.declared.phases.spawning.Spawned.TheVariants.{Unknown};
 ghost use Rattle.ulfm_comm.specs.{Local.{local}, Prepared.{HasPlaces}};
@@ -426,20 +426,11 @@ impl<P: Packed, A: Allocator> Model for Rank<P, A> {
 }
 
 impl<P: Packed, A: Allocator + Copy> Rank<P, A> {
-    // A new rank of a world, whose ranks these are. It has made no call.
-    pub(crate) fn new(
-        alloc: A,
-        limits: Limits,
-        number: u16,
-        ranks: &ArcSlice<u16, A>,
-    ) -> Result<Rank<P, A>, AllocError>
-        requires may_open { MayOpen limits }
-        requires below { number < limits.ranks }
-        requires ranks { arc_slice_items ranks.now ≡ first_ranks limits.ranks }
-        ensures { IfOk result (λ r. r ≡ new_rank limits number) }
+    // The rank of this local state. It has made no call.
+    pub(crate) fn with_state(own: LocalState<P, A>) -> Rank<P, A>
+        ensures { result ≡ ranked own 0 }
     {
-        let own = LocalState::new(alloc, limits, number, ranks)?;
-        Ok(Rank { own, last: 0 })
+        Rank { own, last: 0 }
     }
 }
 

@@ -8,7 +8,7 @@ ghost use Rattle.ulfm_model.specs.declared.limits.OpenFault.TheVariants.{OutOfMe
 ghost use Rattle.ulfm_words.specs.Steps.{view_of, IsView, IsNew, Tells, Learns};
 ghost use Rattle.ulfm_comm.specs.Counts.{new_rank, records_of};
 
-use crate::rank::Rank;
+use crate::rank::{LocalState, Rank};
 use std::alloc::{AllocError, Allocator};
 use std::marker::{Model, PhantomData};
 use std::sync::ArcSlice;
@@ -149,7 +149,7 @@ fn ranks_of<P: Packed, A: Allocator + Copy>(
     let group = ArcSlice::from_vec(first_ranks(alloc, limits.ranks)?)?;
     let mut ranks = Vec::with_capacity(alloc, limits.ranks as usize)?;
     for number in 0..limits.ranks {
-        ranks.push(Rank::new(alloc, limits, number, &group)?)?;
+        ranks.push(Rank::with_state(LocalState::new(alloc, limits, number, &group)?))?;
     }
     Ok(ranks)
 }

@@ -76,16 +76,16 @@ module _ {P : Type 0} (meld : P → P → P) (name : Named P) (asked : Call P) (
   -- of a shrink's poll that comes by its communicator
   decided_found : (k count : ℕ) (mask : CtxMask) (x : Held) → asked ≡ call.Poll old.number (comm_of asked) → HasReadMask (frame meld name.limits false) (comm_of asked) (decided_as k mask count) x (moment old before.seen) (moment own now.seen) → Found asked old own before.seen now.seen
   decided_found k count mask x polls d =
-      let m = d.marked in
-      let seen : d.mid.seen ≡ failures m.look = ap (λ (w : Record). w.seen) m.looked.record_is in
+      let m = d.said.marked in
+      let seen : d.mid.seen ≡ failures m.since.look = ap (λ (w : Record). w.seen) m.since.looked.record_is in
       record {
-        look = m.look;
-        begins = did_prefix false [] before.seen m.look m.looked.did;
-        ends = prefix_trans m.look d.decided now.seen (prefix_trans m.look m.marked d.decided (did_prefix false (entries_by (Rank old.number) m.marks.own) m.look m.marked m.marks.did) (did_prefix false [] m.marked d.decided m.waited)) (did_prefix false [] d.decided now.seen d.waited);
-        same = d.own_is ∙ ap (λ (w : Record). record w { seen = own.seen }) m.looked.record_is;
+        look = m.since.look;
+        begins = did_prefix false [] before.seen m.since.look m.since.looked.did;
+        ends = prefix_trans m.since.look d.decided now.seen (prefix_trans m.since.look m.marked d.decided (did_prefix false (entries_by (Rank old.number) m.marks.own) m.since.look m.marked m.marks.did) (did_prefix false [] m.marked d.decided m.waited)) (did_prefix false [] d.decided now.seen d.waited);
+        same = d.own_is ∙ ap (λ (w : Record). record w { seen = own.seen }) m.since.looked.record_is;
         low = subst (λ s. IsPrefix s own.seen) seen d.goes_on;
         high = d.begins;
-        not_declared = m.looked.not_declared;
+        not_declared = m.since.looked.not_declared;
         not_refused = ap (refusal_of {P = P} old) polls ∙ not_refused meld name.limits false before.seen old d.mid (comm_of asked) true k x d.decided m;
       }
 
@@ -102,21 +102,21 @@ module _ {P : Type 0} (meld : P → P → P) (name : Named P) (asked : Call P) (
   found_by_phase Revoking past p = looked_found p.0
   found_by_phase Asking past p = looked_found p.0
   found_by_phase (Peeking peek shrinks) past p =
-      let m = p.1 in polled_found (comm_of asked) m.look m.x _ refl p.0 m.looked (did_prefix false [] m.look now.seen m.waited) m.held m.open_is
+      let m = p.1 in polled_found (comm_of asked) m.since.look m.x _ refl p.0 m.since.looked (did_prefix false [] m.since.look now.seen m.waited) m.since.held m.open_is
   found_by_phase (Marking marks blocks shrinks) past p =
       let m = p.1 in
-      polled_found (comm_of asked) m.look m.x _ refl p.0 m.looked (prefix_trans m.look m.marked now.seen (did_prefix false (entries_by (Rank old.number) m.has_marked.own) m.look m.marked m.has_marked.did) (did_prefix false [] m.marked now.seen m.waited)) m.held m.open_is
+      polled_found (comm_of asked) m.since.look m.x _ refl p.0 m.since.looked (prefix_trans m.since.look m.marked now.seen (did_prefix false (entries_by (Rank old.number) m.has_marked.own) m.since.look m.marked m.has_marked.did) (did_prefix false [] m.marked now.seen m.waited)) m.since.held m.open_is
   found_by_phase (Reading reading shrinks) past p =
       let m = p.1.marked in
-      polled_found (comm_of asked) m.look p.1.x _ refl p.0 m.looked (prefix_trans m.look m.marked now.seen (did_prefix false (entries_by (Rank old.number) m.marks.own) m.look m.marked m.marks.did) (did_prefix false [] m.marked now.seen m.waited)) m.held m.open_is
+      polled_found (comm_of asked) m.since.look p.1.x _ refl p.0 m.since.looked (prefix_trans m.since.look m.marked now.seen (did_prefix false (entries_by (Rank old.number) m.marks.own) m.since.look m.marked m.marks.did) (did_prefix false [] m.marked now.seen m.waited)) m.since.held m.open_is
   found_by_phase (ReadingOn on made) past p = decided_found made.round made.count made.mask p.1 p.0 p.2
   found_by_phase (Spawning append context reach) past p = decided_found p.1.round p.1.count p.1.mask p.1.x p.0 p.1.decided
   found_by_phase (Waiting arrivals) past p =
-      let w = p.3 in polled_found (comm_of asked) w.look p.2 _ refl p.0 w.looked (did_prefix false [] w.look now.seen w.waited) w.held w.open_is
+      let w = p.3 in polled_found (comm_of asked) w.since.look p.2 _ refl p.0 w.since.looked (did_prefix false [] w.since.look now.seen w.waited) w.since.held w.open_is
   found_by_phase (Checking missing) past p =
       let i = p.2 in
       let w = i.waits in
-      polled_found (comm_of asked) w.look i.x _ refl p.0 w.looked (prefix_trans w.look p.1 now.seen (did_prefix false [] w.look p.1 w.waited) (did_prefix false [] p.1 now.seen i.waited)) w.held w.open_is
+      polled_found (comm_of asked) w.since.look i.x _ refl p.0 w.since.looked (prefix_trans w.since.look p.1 now.seen (did_prefix false [] w.since.look p.1 w.waited) (did_prefix false [] p.1 now.seen i.waited)) w.since.held w.open_is
 
 -- where no event came in between, the look has found all failures, and they were seen
 pub found_all : {P : Type 0} (asked : Call P) (old own : Record) (before now : History P) (f : Found asked old own before now) → before ≡ now → (failures f.look ≡ failures now) × (own.seen ≡ failures now)

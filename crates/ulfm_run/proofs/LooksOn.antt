@@ -45,7 +45,7 @@ found_now {P} meld limits asked name old before prepared own now found phase p l
     go missing p =
         let i = p.2 in
         let w = i.waits in
-        let begins = prefix_trans before.seen w.look p.1 (did_prefix false [] before.seen w.look w.looked.did) (did_prefix false [] w.look p.1 w.waited) in
+        let begins = prefix_trans before.seen w.since.look p.1 (did_prefix false [] before.seen w.since.look w.since.looked.did) (did_prefix false [] w.since.look p.1 w.waited) in
         let here : p.1 ≡ now.seen = squeeze before.seen p.1 now.seen begins (did_prefix false [] p.1 now.seen i.waited) still in
         (p.1, subst (λ (l : Limits). IsChecking (frame meld l false) (comm_of asked) missing p.1 (moment old before.seen) (moment own now.seen)) limits_is i, ap length here ∙ sym found_is)
 

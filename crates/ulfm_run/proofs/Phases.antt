@@ -50,21 +50,21 @@ module _ {P : Type 0} (meld : P → P → P) (alone : Bool) (name : Named P) (as
   stands_same (Arriving round) past p = seen_same own old _ p.0.looked.record_is
   stands_same Revoking past p = seen_same own old _ p.0.looked.record_is
   stands_same Asking past p = seen_same own old _ p.0.looked.record_is
-  stands_same (Peeking peek shrinks) past p = seen_same own old _ p.1.looked.record_is
-  stands_same (Marking marks blocks shrinks) past p = seen_same own old _ p.1.looked.record_is
-  stands_same (Reading reading shrinks) past p = seen_same own old _ p.1.marked.looked.record_is
-  stands_same (ReadingOn on made) past p = p.2.own_is ∙ ap (λ (w : Record). record w { seen = own.seen }) p.2.marked.looked.record_is
-  stands_same (Spawning append context reach) past p = p.1.decided.own_is ∙ ap (λ (w : Record). record w { seen = own.seen }) p.1.decided.marked.looked.record_is
-  stands_same (Waiting arrivals) past p = seen_same own old _ p.3.looked.record_is
-  stands_same (Checking missing) past p = seen_same own old _ p.2.waits.looked.record_is
+  stands_same (Peeking peek shrinks) past p = seen_same own old _ p.1.since.looked.record_is
+  stands_same (Marking marks blocks shrinks) past p = seen_same own old _ p.1.since.looked.record_is
+  stands_same (Reading reading shrinks) past p = seen_same own old _ p.1.marked.since.looked.record_is
+  stands_same (ReadingOn on made) past p = p.2.own_is ∙ ap (λ (w : Record). record w { seen = own.seen }) p.2.said.marked.since.looked.record_is
+  stands_same (Spawning append context reach) past p = p.1.decided.own_is ∙ ap (λ (w : Record). record w { seen = own.seen }) p.1.decided.said.marked.since.looked.record_is
+  stands_same (Waiting arrivals) past p = seen_same own old _ p.3.since.looked.record_is
+  stands_same (Checking missing) past p = seen_same own old _ p.2.waits.since.looked.record_is
 
   -- one that comes by a communicator polls a shrink
   pub making_shrinks : (phase : Phase P) → is_making phase ≡ true → StandsAt meld alone asked (local old (view_at name before)) phase prepared (local own (view_at name now)) → is_shrink (polled_by old asked) ≡ true
   making_shrinks (ReadingOn on made) making p =
-      ap is_shrink (ap (polled_by old) p.0 ∙ polls_it meld name.limits alone before.seen old p.2.mid (comm_of asked) true made.round p.1 p.2.decided p.2.marked)
+      ap is_shrink (ap (polled_by old) p.0 ∙ polls_it meld name.limits alone before.seen old p.2.mid (comm_of asked) true made.round p.1 p.2.decided p.2.said.marked)
   making_shrinks (Spawning append context reach) making p =
       let d = p.1.decided in
-      ap is_shrink (ap (polled_by old) p.0 ∙ polls_it meld name.limits alone before.seen old d.mid (comm_of asked) true p.1.round p.1.x d.decided d.marked)
+      ap is_shrink (ap (polled_by old) p.0 ∙ polls_it meld name.limits alone before.seen old d.mid (comm_of asked) true p.1.round p.1.x d.decided d.said.marked)
   making_shrinks Over making p = absurd (cc making)
   making_shrinks Begun making p = absurd (cc making)
   making_shrinks Looking making p = absurd (cc making)
@@ -97,20 +97,20 @@ module _ {P : Type 0} (meld : P → P → P) (alone : Bool) (name : Named P) (as
   barrier_phase k polls Revoking past p = absurd (cc (sym polls ∙ ap (polled_by old) p.1))
   barrier_phase k polls Asking past p = absurd (cc (sym polls ∙ ap (polled_by old) p.1))
   barrier_phase k polls (Peeking peek shrinks) past p =
-      let m = p.1 in absurd (no_barrier shrinks peek.round k (cc (sym (open_polls (comm_of asked) m.look m.x _ refl p.0 m.looked m.held m.open_is) ∙ polls)))
+      let m = p.1 in absurd (no_barrier shrinks peek.round k (cc (sym (open_polls (comm_of asked) m.since.look m.x _ refl p.0 m.since.looked m.since.held m.open_is) ∙ polls)))
   barrier_phase k polls (Marking marks blocks shrinks) past p =
-      let m = p.1 in absurd (no_barrier shrinks marks.round k (cc (sym (open_polls (comm_of asked) m.look m.x _ refl p.0 m.looked m.held m.open_is) ∙ polls)))
+      let m = p.1 in absurd (no_barrier shrinks marks.round k (cc (sym (open_polls (comm_of asked) m.since.look m.x _ refl p.0 m.since.looked m.since.held m.open_is) ∙ polls)))
   barrier_phase k polls (Reading reading shrinks) past p =
-      let m = p.1.marked in absurd (no_barrier shrinks reading.round k (cc (sym (open_polls (comm_of asked) m.look p.1.x _ refl p.0 m.looked m.held m.open_is) ∙ polls)))
+      let m = p.1.marked in absurd (no_barrier shrinks reading.round k (cc (sym (open_polls (comm_of asked) m.since.look p.1.x _ refl p.0 m.since.looked m.since.held m.open_is) ∙ polls)))
   barrier_phase k polls (ReadingOn on made) past p =
-      let is = ap (polled_by old) p.0 ∙ polls_it meld name.limits alone before.seen old p.2.mid (comm_of asked) true made.round p.1 p.2.decided p.2.marked in absurd (cc (sym is ∙ polls))
+      let is = ap (polled_by old) p.0 ∙ polls_it meld name.limits alone before.seen old p.2.mid (comm_of asked) true made.round p.1 p.2.decided p.2.said.marked in absurd (cc (sym is ∙ polls))
   barrier_phase k polls (Spawning append context reach) past p =
       let d = p.1.decided in
-      let is = ap (polled_by old) p.0 ∙ polls_it meld name.limits alone before.seen old d.mid (comm_of asked) true p.1.round p.1.x d.decided d.marked in absurd (cc (sym is ∙ polls))
+      let is = ap (polled_by old) p.0 ∙ polls_it meld name.limits alone before.seen old d.mid (comm_of asked) true p.1.round p.1.x d.decided d.said.marked in absurd (cc (sym is ∙ polls))
 
   -- a barrier's poll that makes its last load is one
   pub checking_polls : (missing : Missing) (p : StandsAt meld alone asked (local old (view_at name before)) (Checking missing) prepared (local own (view_at name now))) → polled_by old asked ≡ Some (Barrier p.2.k)
-  checking_polls missing p = let w = p.2.waits in open_polls (comm_of asked) w.look p.2.x (Barrier p.2.k) refl p.0 w.looked w.held w.open_is
+  checking_polls missing p = let w = p.2.waits in open_polls (comm_of asked) w.since.look p.2.x (Barrier p.2.k) refl p.0 w.since.looked w.since.held w.open_is
 
 -- but where it comes by a communicator, a step behind the look leaves what was seen
 pub seen_stays : {P : Type 0} (phase : Phase P) → is_looking phase ≡ false → is_making phase ≡ false → (old new : List ℕ) → StepSees phase old new → new ≡ old

@@ -289,7 +289,7 @@ module _ {P : Type 0} (meld : P → P → P) (name : Named P) (now : Traced P) (
     says_early : (reply : Reply P) → is_early reply ≡ true → IsEndRun meld name.limits false (moment h.old start) doing.asked reply (moment own' earlier) → Fits meld name.limits after_it.seen own' → EndsSo meld name now after_it own.number (comm_of doing.asked) (length earlier) reply own'
     says_early reply early ended fits =
         let w = i.waits in
-        let from_start = prefix_trans start w.look earlier (did_prefix false [] start w.look w.looked.did) (did_prefix false [] w.look earlier w.waited) in
+        let from_start = prefix_trans start w.since.look earlier (did_prefix false [] start w.since.look w.since.looked.did) (did_prefix false [] w.since.look earlier w.waited) in
         let to_now = did_prefix false [] earlier pass.seen i.waited in
         let polling : (traits_of doing.asked).polls ≡ true = ap (λ (a : Call P). (traits_of a).polls) polls in
         let answers = reply_answers meld name.limits start earlier h.old doing.asked reply own' ended from_start.0 from_start.1 (events_by (Rank h.old.number) from_start.0) refl (λ no_poll. absurd (cc (polling, no_poll))) seen_then in

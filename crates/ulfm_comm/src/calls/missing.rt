@@ -1,8 +1,9 @@
 // Who is still missing in the round of an open request, so that whoever waits can tell for whom. No call of MPI's.
-ghost use Rattle.std.specs.Prelude.{◌≡◌, ◌+◌, ◌<◌, ◌≤◌, [], false, Err, IfOk, OnErr, is_some, length, vec_capacity};
-ghost use Rattle.ulfm_model.specs.{History.{slot}, Records.{held_at}};
+ghost use Rattle.std.specs.Prelude.{◌≡◌, ◌+◌, ◌<◌, ◌≤◌, [], false, Err, IfOk, OnErr, Option, is_some, length, vec_capacity};
+ghost use Rattle.ulfm_model.specs.Records.{held_at};
+ghost use Rattle.ulfm_model.specs.declared.contribution.Slot.{Slot};
 ghost use Rattle.ulfm_model.specs.declared.refusal.Refusal.TheVariants.{OutOfMemory as NoMemory};
-ghost use Rattle.ulfm_words.specs.Places.{IsCell};
+ghost use Rattle.ulfm_words.specs.{Blocks.{FindsSlot}, Places.{IsCell}};
 ghost use Rattle.ulfm_words.specs.Steps.{view_of, IsView, Goes, limits_in, seen_in, steps_in};
 ghost use Rattle.ulfm_steps.specs.Rounds.{IsRoundIn};
 ghost use Rattle.ulfm_comm.specs.Local.{local, FitsView};
@@ -16,22 +17,12 @@ use ulfm_model::call::Request;
 use ulfm_model::refusal::Refusal;
 use ulfm_words::{Found, Words, load_arrival, load_slot};
 
-// Whether a member is settled in an agreement round, by one load of its place.
+// Whether what a load of a member's place in an agreement round found says that the member is settled.
 #[inline(always)]
-fn load_settled<P: Packed, A: Allocator, W: Words<P, A>>(
-    words: &W,
-    pass: &mut W::Pass,
-    comm: u16,
-    round: u16,
-    rank: u16,
-) -> bool
-    requires of { IsView P.meld (view_of P.pack (W.name words.now) (W.sight pass.old)) }
-    requires within { IsCell (limits_in (view_of P.pack (W.name words.now) (W.sight pass.old))) comm round rank }
-    ensures goes { Goes P.meld W.alone false 1 (view_of P.pack (W.name words.now) (W.sight pass.old)) (view_of P.pack (W.name words.now) (W.sight pass.new)) }
-    ensures steps { steps_in (view_of P.pack (W.name words.now) (W.sight pass.new)) ≡ steps_in (view_of P.pack (W.name words.now) (W.sight pass.old)) + 1 }
-    ensures settled { result ≡ is_some (slot (seen_in (view_of P.pack (W.name words.now) (W.sight pass.new))) comm round rank) }
+fn is_settled<P: Packed>(found: Found<P>) -> bool
+    ensures { (at : Option (Slot P)) → FindsSlot P.pack at found → result ≡ is_some at }
 {
-    match load_slot(words, pass, comm, round, rank) {
+    match found {
         Found::Nothing => false,
         Found::Marked(_) => true,
         Found::First(_) => true,
@@ -54,8 +45,8 @@ fn load_come<P: Packed, A: Allocator, W: Words<P, A>>(
     ensures come { result ≡ has_come (seen_in (view_of P.pack (W.name words.now) (W.sight pass.new))) comm request rank }
 {
     match request {
-        Request::Agree { round } => load_settled(words, pass, comm, round, rank),
-        Request::Shrink { round } => load_settled(words, pass, comm, round, rank),
+        Request::Agree { round } => is_settled(load_slot(words, pass, comm, round, rank)),
+        Request::Shrink { round } => is_settled(load_slot(words, pass, comm, round, rank)),
         Request::Barrier { round } => load_arrival(words, pass, comm, round, rank),
     }
 }

@@ -5,9 +5,8 @@ ghost use Rattle.ulfm_model.specs.{History.{has}, Records.{Held, held_at}, Terms
 ghost use Rattle.ulfm_model.specs.declared.{contribution.MarkCount.{MarkCount}, event.Caller.TheVariants.{Rank as OfRank}};
 ghost use Rattle.ulfm_model.specs.declared.event.Event.TheVariants.{Mark as MarkedAt, Spawn as MadeOf};
 ghost use Rattle.ulfm_steps.specs.declared.item.Item.TheVariants.{Comm as OfComm};
-ghost use Rattle.ulfm_comm.specs.{Local.{local}, Phase.{MayStep, StillStands, under_way}, Proposals.{OffersOwn, Proposes, proposes}};
+ghost use Rattle.ulfm_comm.specs.{Local.{local}, Phase.{MayStep}, Proposals.{OffersOwn, Proposes, proposes}};
 ghost use Rattle.ulfm_words.specs.Steps.{view_of, IsView};
-ghost use Rattle.ulfm_comm.specs.Prepared.{Prepared};
 
 use crate::phases::phase::{Doing, Phase, Way};
 use crate::rank::{LocalState, Rank};
@@ -82,22 +81,20 @@ impl<P: Packed, A: Allocator> LocalState<P, A> {
         }
     }
 
-    // The event that a call's next exchange is for, by what it does next.
-    fn proposed<W: Words<P, A>>(
+    // The event that a call's next exchange is for, by where it stands.
+    fn proposed_by<W: Words<P, A>>(
         &self,
         _words: &W,
         _pass: &W::Pass,
-        asked: &Call<P>,
-        phase: &Phase<P>,
+        way: &Way<P, A>,
     ) -> Option<Event<P>>
         requires of { IsView P.meld (view_of P.pack (W.name _words.now) (W.sight _pass.now)) }
-        requires stands { (prepared : Prepared) × StillStands P.meld (under_way asked.now phase.now prepared)
-            (local self.now (view_of P.pack (W.name _words.now) (W.sight _pass.now))) }
-        ensures when { is_some result ≡ proposes phase.now }
-        ensures event { IfSome result (Proposes self.now asked.now phase.now) }
+        requires stood { MayStep P.meld way.now (local self.now (view_of P.pack (W.name _words.now) (W.sight _pass.now))) }
+        ensures when { is_some result ≡ proposes way.now.phase }
+        ensures event { IfSome result (Proposes self.now way.now.asked way.now.phase) }
     {
-        let comm = comm_of(asked);
-        match phase {
+        let comm = comm_of(&way.asked);
+        match &way.phase {
             Phase::Spreading { offer, .. } => Some(self.given_to(comm, *offer)),
             Phase::Settling { offer, .. } => Some(self.given_to(comm, *offer)),
             Phase::Arriving { round } => Some(Event::Arrive {
@@ -110,21 +107,6 @@ impl<P: Packed, A: Allocator> LocalState<P, A> {
             Phase::Spawning { append, .. } => spawned_by(append),
             _ => None,
         }
-    }
-
-    // .. of a call that stands so.
-    fn proposed_by<W: Words<P, A>>(
-        &self,
-        words: &W,
-        pass: &W::Pass,
-        way: &Way<P, A>,
-    ) -> Option<Event<P>>
-        requires of { IsView P.meld (view_of P.pack (W.name words.now) (W.sight pass.now)) }
-        requires stood { MayStep P.meld way.now (local self.now (view_of P.pack (W.name words.now) (W.sight pass.now))) }
-        ensures when { is_some result ≡ proposes way.now.phase }
-        ensures event { IfSome result (Proposes self.now way.now.asked way.now.phase) }
-    {
-        self.proposed(words, pass, &way.asked, &way.phase)
     }
 }
 

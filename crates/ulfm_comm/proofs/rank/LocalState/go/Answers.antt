@@ -14,6 +14,11 @@ still : {P : Type 0} {meld : P → P → P} {asked : Call P} {prepared : Prepare
 still {meld = meld} {asked = asked} {prepared = prepared} {at = at} is stands =
     subst (λ phase. StillStands meld (under_way asked phase prepared) at) is stands
 
+-- .. with something prepared
+still_so : {P : Type 0} {meld : P → P → P} {asked : Call P} {prepared : Prepared} {at : Local P} {phase here : Phase P} → phase ≡ here
+    → StillStands meld (under_way asked phase prepared) at → (some : Prepared) × StillStands meld (under_way asked here some) at
+still_so {prepared = prepared} is stands = (prepared, still is stands)
+
 module _ {P : Type 0} {meld : P → P → P} {quiet whole : Bool} {was : UnderWay P} {old : Local P} {comes : Coming P} {new : Local P} where
   -- a call that isn't over goes on by its turn, where it finds who is missing as its phase asks, and wins its exchange
   goes : (was.phase ≡ Over → ⊥) → FoundNow (FindsMissing meld quiet (midway was old) new) was.phase comes.next
@@ -113,31 +118,31 @@ returns-in-Checking g c =
     (c.go_checking.ensures.turn c.args.prepared.now c.args.whole))
 
 pub go_begun-requires-clause-stands : goal.go_begun-requires-clause-stands
-go_begun-requires-clause-stands g c = (c.args.prepared.now, still c.in-Begun.is c.requires.stands)
+go_begun-requires-clause-stands g c = still_so c.in-Begun.is c.requires.stands
 
 pub go_looking-requires-clause-stands : goal.go_looking-requires-clause-stands
-go_looking-requires-clause-stands g c = (c.args.prepared.now, still c.in-Looking.is c.requires.stands)
+go_looking-requires-clause-stands g c = still_so c.in-Looking.is c.requires.stands
 
 pub go_spreading-requires-clause-stands : goal.go_spreading-requires-clause-stands
-go_spreading-requires-clause-stands g c = (c.args.prepared.now, still c.in-Spreading.is c.requires.stands)
+go_spreading-requires-clause-stands g c = still_so c.in-Spreading.is c.requires.stands
 
 pub go_settling-requires-clause-stands : goal.go_settling-requires-clause-stands
-go_settling-requires-clause-stands g c = (c.args.prepared.now, still c.in-Settling.is c.requires.stands)
+go_settling-requires-clause-stands g c = still_so c.in-Settling.is c.requires.stands
 
 pub go_arriving-requires-clause-stands : goal.go_arriving-requires-clause-stands
-go_arriving-requires-clause-stands g c = (c.args.prepared.now, still c.in-Arriving.is c.requires.stands)
+go_arriving-requires-clause-stands g c = still_so c.in-Arriving.is c.requires.stands
 
 pub go_revoking-requires-clause-stands : goal.go_revoking-requires-clause-stands
-go_revoking-requires-clause-stands g c = (c.args.prepared.now, still c.in-Revoking.is c.requires.stands)
+go_revoking-requires-clause-stands g c = still_so c.in-Revoking.is c.requires.stands
 
 pub go_asking-requires-clause-stands : goal.go_asking-requires-clause-stands
-go_asking-requires-clause-stands g c = (c.args.prepared.now, still c.in-Asking.is c.requires.stands)
+go_asking-requires-clause-stands g c = still_so c.in-Asking.is c.requires.stands
 
 pub go_peeking-requires-clause-stands : goal.go_peeking-requires-clause-stands
 go_peeking-requires-clause-stands g c = still c.in-Peeking.is c.requires.stands
 
 pub go_marking-requires-clause-stands : goal.go_marking-requires-clause-stands
-go_marking-requires-clause-stands g c = (c.args.prepared.now, still c.in-Marking.is c.requires.stands)
+go_marking-requires-clause-stands g c = still_so c.in-Marking.is c.requires.stands
 
 pub go_reading-requires-clause-stands : goal.go_reading-requires-clause-stands
 go_reading-requires-clause-stands g c = still c.in-Reading.is c.requires.stands
@@ -149,7 +154,7 @@ pub go_spawning-requires-clause-stands : goal.go_spawning-requires-clause-stands
 go_spawning-requires-clause-stands g c = still c.in-Spawning.is c.requires.stands
 
 pub go_waiting-requires-clause-stands : goal.go_waiting-requires-clause-stands
-go_waiting-requires-clause-stands g c = (c.args.prepared.now, still c.in-Waiting.is c.requires.stands)
+go_waiting-requires-clause-stands g c = still_so c.in-Waiting.is c.requires.stands
 
 pub go_checking-requires-clause-stands : goal.go_checking-requires-clause-stands
-go_checking-requires-clause-stands g c = (c.args.prepared.now, still c.in-Checking.is c.requires.stands)
+go_checking-requires-clause-stands g c = still_so c.in-Checking.is c.requires.stands

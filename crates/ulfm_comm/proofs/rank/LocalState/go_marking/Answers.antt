@@ -1,9 +1,9 @@
-use Rattle.std.proofs.Common.{rules, ◌≡◌, false, length, ap, sym, ◌∙◌, arith}
+use Rattle.std.proofs.Common.{rules, ◌≡◌, ◌<◌, ◌≤◌, false, length, ap, sym, ◌∙◌, arith}
 use Rattle.ulfm_words.proofs.Trails.{did_prefix}
 use Rattle.ulfm_comm.proofs.Wings.{turn_same}
 use Rattle.ulfm_words.specs.Steps.{over}
 use Rattle.ulfm_model.specs.Records.{Held, held_at}
-use Rattle.ulfm_comm.proofs.Agreement.{marking_any, marking_few, marking_goes, marking_may_on, marking_reads, marking_unknown}
+use Rattle.ulfm_comm.proofs.Agreement.{marking_goes, marking_may_on, marking_reads, marking_sized, marking_unknown}
 use Rattle.ulfm_comm.proofs.StepsLeft.{marks_read}
 use Rattle.ulfm_comm.proofs.StepAdds.{adds_marked}
 use Rattle.ulfm_steps.specs.Blocks.{AreSet}
@@ -78,25 +78,22 @@ returns-then-marks-seen-clause-turn g c =
 length_is : (g : _) (c : After-len-members g) → c.len-members.result ≡ length c.deref.result.now
 length_is g c = c.len-members.ensures ∙ sym c.deref.ensures.len
 
-pub overflow_cast-members : goal.overflow_cast-members
-overflow_cast-members g c =
+-- they are some, and no more than ranks
+sized : (g : _) (c : After-len-members g) → (0 < c.len-members.result) × (c.len-members.result ≤ 1024)
+sized g c =
     let stood = c.requires.stands in
     let stands = stood.1 in
-    let few = marking_few g.P.Meld.meld (over g.P.Packed.pack (g.W.Words.name c.args.words.now)) c.args.asked.now c.args.marks c.args.blocks c.args.shrinks stood.0
+    let size = marking_sized g.P.Meld.meld (over g.P.Packed.pack (g.W.Words.name c.args.words.now)) c.args.asked.now c.args.marks c.args.blocks c.args.shrinks stood.0
     c.args.self.now (g.W.Words.sight c.args.pass.now) c.requires.of
     c.held_comm-x.result.now c.comm_of.result c.held_comm-x.ensures c.comm_of.ensures c.deref.result.now c.failures-seen.result.now
-    (members g (goal.at.overflow_cast-members g c).After-deref) c.failures-seen.ensures false stands.0 stands.1 stands.2 in
-    omega (arith, few, length_is g (goal.at.overflow_cast-members g c).After-len-members)
+    (members g (goal.at.After-len-members g c).After-deref) c.failures-seen.ensures false stands.0 stands.1 stands.2 in
+    rw (length_is g c) size
+
+pub overflow_cast-members : goal.overflow_cast-members
+overflow_cast-members g c = let few = (sized g (goal.at.overflow_cast-members g c).After-len-members).1 in omega (arith, few)
 
 pub new-requires : goal.new-requires
-new-requires g c =
-    let stood = c.requires.stands in
-    let stands = stood.1 in
-    let some = marking_any g.P.Meld.meld (over g.P.Packed.pack (g.W.Words.name c.args.words.now)) c.args.asked.now c.args.marks c.args.blocks c.args.shrinks stood.0
-    c.args.self.now (g.W.Words.sight c.args.pass.now) c.requires.of
-    c.held_comm-x.result.now c.comm_of.result c.held_comm-x.ensures c.comm_of.ensures c.deref.result.now c.failures-seen.result.now
-    (members g (goal.at.new-requires g c).After-deref) c.failures-seen.ensures false stands.0 stands.1 stands.2 in
-    omega (arith, some, length_is g (goal.at.new-requires g c).After-len-members)
+new-requires g c = let some = (sized g (goal.at.new-requires g c).After-len-members).0 in omega (arith, some)
 
 pub returns-clause-turn : goal.returns-clause-turn
 returns-clause-turn g c =

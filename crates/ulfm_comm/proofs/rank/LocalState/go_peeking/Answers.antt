@@ -1,7 +1,7 @@
 use Rattle.std.proofs.lemmas.Bool.{false≢true}
 use Rattle.ulfm_words.proofs.Trails.{did_prefix}
-use Rattle.ulfm_comm.proofs.Wings.{turn_same}
-use Rattle.std.proofs.Common.{◌≡◌, ◌+◌, ◌<◌, ◌≤◌, ℕ, Some, true, false, [], length, refl, ap, subst, sym, ◌∙◌, arith}
+use Rattle.ulfm_comm.proofs.{Turning.{turn_past}, Wings.{turn_same}}
+use Rattle.std.proofs.Common.{Bool, IsTrue, ◌≡◌, ◌+◌, ◌<◌, ◌≤◌, ℕ, Some, true, false, [], length, refl, ap, subst, sym, ◌∙◌, arith}
 use Rattle.ulfm_model.specs.{Blocks.{IsSummed}, Records.{Held, Record, held_at}, Terms.{comm_of}}
 use Rattle.ulfm_steps.specs.{Blocks.{AllSet, AreSet, is_whole, peek_site}, Turns.{IsStepAt}}
 use Rattle.ulfm_steps.proofs.KnownBlocks.{all_known, set_later}
@@ -13,9 +13,9 @@ use Rattle.ulfm_comm.proofs.AlsoLeft.{also_peeks_on, also_peeks_over, also_whole
 use Rattle.ulfm_comm.proofs.{Known.{known_next, round_known}, Peeking.{peek_any, peek_ends, peek_few, peek_goes, peek_may, peek_named, peek_unread}}
 use Rattle.ulfm_comm.proofs.StepsLeft.{below_more, peeks_fewer, peeks_on, peeks_over, peeks_past, peeks_spend}
 use Rattle.ulfm_comm.proofs.rank.LocalState.go_peeking.Goals as goal
-use Rattle.ulfm_comm.proofs.rank.LocalState.go_peeking.Goals.{After-deref, After-advance, After-len-members, In-Some}
+use Rattle.ulfm_comm.proofs.rank.LocalState.go_peeking.Goals.{After-deref, After-advance, After-len-members, In-None, In-Some}
 use Rattle.ulfm_comm.specs.Local.{stance, local}
-use Rattle.ulfm_comm.specs.Phase.{under_way}
+use Rattle.ulfm_comm.specs.{Agreement.{HasPeeked, HasReadAll}, Phase.{Stands, under_way}, Requests.{polled_round}}
 use Rattle.ulfm_comm.specs.Step.{coming}
 use Rattle.ulfm_words.specs.Steps.{view_of, over, Goes, Sight}
 use Rattle.ulfm_comm.specs.Prepared.{Prepared}
@@ -30,11 +30,10 @@ members g c = c.deref.ensures.value ∙ ap (λ (y : Held). y.group) c.x.view_is
 
 pub advance-requires : goal.advance-requires
 advance-requires g c =
-    let stands = c.requires.stands in
     peek_may g.P.Meld.meld (over g.P.Packed.pack (g.W.Words.name c.args.words.now)) c.args.asked.now c.args.peek c.args.shrinks c.args.prepared.now c.args.self.now
     (g.W.Words.sight c.args.pass.now) c.requires.of
     c.held_comm-x.result.now c.comm_of.result c.held_comm-x.ensures c.comm_of.ensures c.deref.result.now (members g (goal.at.advance-requires g c).After-deref)
-    false stands.0 stands.1 stands.2
+    false c.requires.stands.0 c.requires.stands.1 c.requires.stands.2
 
 -- .. and their number
 length_is : (g : _) (c : After-len-members g) → c.len-members.result ≡ length c.deref.result.now
@@ -80,22 +79,10 @@ peeks : (g : _) (c : After-advance g) (most : ℕ) (after : Sight g.row.P.Denot)
     → TakesTurn g.P.Meld.meld g.W.Words.alone c.args.whole (under_way c.args.asked.now (Peeking c.args.peek c.args.shrinks) c.args.prepared.now) (local c.args.self.now (view_of g.P.Packed.pack (g.W.Words.name c.args.words.now) (g.W.Words.sight c.args.pass.now))) (coming next left) (local new (view_of g.P.Packed.pack (g.W.Words.name c.args.words.now) after))
 peeks g c most after goes one next left new nearer spends further sees leads also knows turns =
     let now = g.W.Words.sight c.args.pass.now in
-    record {
-      walks = record { of = goes.of; own = []; did = goes.did; onward = goes.onward; cached = goes.cached };
-      beside = turn_same _ _ _ _ _ (λ w. w) (did_prefix g.W.Words.alone _ _ _ goes.did) goes.caches;
-      named = λ single. peek_named c.args.peek c.args.shrinks c.args.self.now.number (comm_of c.args.asked.now) now
-          after c.requires.stands.2.at.1.there (one single);
-      nearer = nearer;
-      spends = spends;
-      also = also;
-      further = further;
-      adds = λ single. goes.did;
-      sees = sees;
-      looks = λ at. absurd (cc at);
-      knows = knows;
-      leads = leads;
-      turns = turns;
-    }
+    turn_past refl (record { of = goes.of; own = []; did = goes.did; onward = goes.onward; cached = goes.cached })
+    (turn_same _ _ _ _ _ (λ w. w) (did_prefix g.W.Words.alone _ _ _ goes.did) goes.caches)
+    (λ single. (peek_named c.args.peek c.args.shrinks c.args.self.now.number (comm_of c.args.asked.now) now after c.requires.stands.2.at.1.there (one single), nearer single))
+    spends also further goes.did sees knows leads turns
 
 pub returns-then-not-advance : goal.returns-then-not-advance
 returns-then-not-advance g c =
@@ -124,20 +111,28 @@ returns-then-not-advance g c =
     g.W.Words.alone only (g.W.Words.sight c.advance.new.pass) c.advance.ensures.goes.of c.advance.ensures.goes.did c.advance.ensures.goes.onward
     c.advance.new.self c.advance.ensures.comm c.advance.ensures.round c.advance.ensures.are (c.if-not-advance.ensures.some refl) (c.if-not-advance.ensures.first refl))
 
+-- a call that stood so
+abbrev StoodAt : (g : _) → After-advance g → Bool → Record → Sight g.row.P.Denot → Type 0
+StoodAt g c alone old before = Stands g.P.Meld.meld alone (local old (view_of g.P.Packed.pack (g.W.Words.name c.args.words.now) before)) (under_way c.args.asked.now (Peeking c.args.peek c.args.shrinks) c.args.prepared.now) (local c.args.self.now (view_of g.P.Packed.pack (g.W.Words.name c.args.words.now) (g.W.Words.sight c.args.pass.now)))
+
+-- not all were set
+not_all : (g : _) (c : In-None g) → is_whole c.advance.new.self.blocks (length c.deref.result.now) ≡ false
+not_all g c = ap (is_whole c.advance.new.self.blocks) (sym (length_is g (goal.at.In-None g c).After-len-members)) ∙ sym c.in-None.ensures.whole
+
+unread : (g : _) (c : In-None g) (alone : Bool) → (IsTrue alone → IsTrue g.W.Words.alone) → (old : Record) (before : Sight g.row.P.Denot)
+    → StoodAt g (goal.at.In-None g c).After-advance alone old before
+    → HasPeeked g.P.Meld.meld alone c.args.asked.now c.args.shrinks c.advance.new.self (local old (view_of g.P.Packed.pack (g.W.Words.name c.args.words.now) before)) (local c.args.self.now (view_of g.P.Packed.pack (g.W.Words.name c.args.words.now) (g.W.Words.sight c.advance.new.pass)))
+unread g c alone only old before stands =
+    peek_unread g.P.Meld.meld (over g.P.Packed.pack (g.W.Words.name c.args.words.now)) c.args.asked.now c.args.peek c.args.shrinks c.args.prepared.now c.args.self.now
+    (g.W.Words.sight c.args.pass.now) c.requires.of
+    c.held_comm-x.result.now c.comm_of.result c.held_comm-x.ensures c.comm_of.ensures c.deref.result.now (members g (goal.at.In-None g c).After-deref)
+    alone old before stands g.W.Words.alone only (g.W.Words.sight c.advance.new.pass) c.advance.ensures.goes.of c.advance.ensures.goes.did
+    c.advance.ensures.goes.onward c.advance.new.self c.advance.ensures.comm c.advance.ensures.round c.advance.ensures.are (not_all g c)
+
 pub go_unread-requires-clause-peeked : goal.go_unread-requires-clause-peeked
 go_unread-requires-clause-peeked g c =
-    let stands = c.requires.stands in
-    let here : is_whole c.advance.new.self.blocks (length c.deref.result.now) ≡ false = ap (is_whole c.advance.new.self.blocks)
-    (sym (length_is g (goal.at.go_unread-requires-clause-peeked g c).After-len-members)) ∙ sym c.in-None.ensures.whole in (
-      stands.0,
-      stands.1,
-      peek_unread g.P.Meld.meld (over g.P.Packed.pack (g.W.Words.name c.args.words.now)) c.args.asked.now c.args.peek c.args.shrinks c.args.prepared.now c.args.self.now
-          (g.W.Words.sight c.args.pass.now) c.requires.of
-          c.held_comm-x.result.now c.comm_of.result c.held_comm-x.ensures c.comm_of.ensures c.deref.result.now
-          (members g (goal.at.go_unread-requires-clause-peeked g c).After-deref) false stands.0 stands.1 stands.2
-          g.W.Words.alone (λ here. absurd (false≢true here)) (g.W.Words.sight c.advance.new.pass) c.advance.ensures.goes.of c.advance.ensures.goes.did
-          c.advance.ensures.goes.onward c.advance.new.self c.advance.ensures.comm c.advance.ensures.round c.advance.ensures.are here,
-    )
+    let s = c.requires.stands in
+    (s.0, s.1, unread g (goal.at.go_unread-requires-clause-peeked g c).In-None false (λ here. absurd (false≢true here)) s.0 s.1 s.2)
 
 pub returns-in-None : goal.returns-in-None
 returns-in-None g c =
@@ -150,8 +145,7 @@ returns-in-None g c =
     let first = c.advance.ensures.goes in
     let then = c.go_unread.ensures in
     let at = (goal.at.returns-in-None g c).After-deref in
-    let here : is_whole c.advance.new.self.blocks (length c.deref.result.now) ≡ false = ap (is_whole c.advance.new.self.blocks)
-    (sym (length_is g (goal.at.returns-in-None g c).After-len-members)) ∙ sym c.in-None.ensures.whole in
+    let here = not_all g (goal.at.returns-in-None g c).In-None in
     peeks g (goal.at.returns-in-None g c).After-advance 5 after (goes_then g.P.Meld.meld g.W.Words.alone name 4 1 start mid after first then.goes)
     (λ single. subst (λ s. IsStepAt (peek_site c.args.peek) true start s) (sym (then.single single)) (takes.one single)) _ _ _
     (λ single. peeks_past limits c.args.self.now c.args.asked.now c.held_comm-x.result.now (held g at) c.args.shrinks c.deref.result.now (members g at) c.args.peek
@@ -165,12 +159,7 @@ returns-in-None g c =
     (λ known. then.knows after.cached (set_later mid.cached after.cached c.advance.new.self.comm c.advance.new.self.round c.advance.new.self.blocks then.goes.cached
     (rw (c.advance.ensures.comm, c.advance.ensures.round) (c.advance.ensures.sets known))))
     (λ alone only old before stands.
-    then.turns c.args.prepared.now alone only old before
-    (peek_unread g.P.Meld.meld name c.args.asked.now c.args.peek c.args.shrinks c.args.prepared.now c.args.self.now start c.requires.of
-    c.held_comm-x.result.now c.comm_of.result c.held_comm-x.ensures c.comm_of.ensures c.deref.result.now (members g at)
-    alone old before stands
-    g.W.Words.alone only mid first.of first.did first.onward
-    c.advance.new.self c.advance.ensures.comm c.advance.ensures.round c.advance.ensures.are here))
+    then.turns c.args.prepared.now alone only old before (unread g (goal.at.returns-in-None g c).In-None alone only old before stands))
 
 -- all were: this is what they say
 said : (g : _) (c : In-Some g) → IsSummed g.P.Meld.meld (g.W.Words.sight c.advance.new.pass).seen c.args.peek.comm c.args.peek.round c.deref.result.now
@@ -178,19 +167,20 @@ said : (g : _) (c : In-Some g) → IsSummed g.P.Meld.meld (g.W.Words.sight c.adv
 said g c = c.in-Some.ensures.tells (g.W.Words.sight c.advance.new.pass).seen c.args.peek.comm c.args.peek.round c.deref.result.now
     (c.deref.ensures.len ∙ sym c.len-members.ensures) c.advance.ensures.are
 
+all_said : (g : _) (c : In-Some g) (alone : Bool) → (IsTrue alone → IsTrue g.W.Words.alone) → (old : Record) (before : Sight g.row.P.Denot)
+    → StoodAt g (goal.at.In-Some g c).After-advance alone old before
+    → HasReadAll g.P.Meld.meld alone c.args.asked.now (polled_round c.args.shrinks c.advance.new.self.round) c.in-Some.all (local old (view_of g.P.Packed.pack (g.W.Words.name c.args.words.now) before)) (local c.args.self.now (view_of g.P.Packed.pack (g.W.Words.name c.args.words.now) (g.W.Words.sight c.advance.new.pass)))
+all_said g c alone only old before stands =
+    peek_ends g.P.Meld.meld (over g.P.Packed.pack (g.W.Words.name c.args.words.now)) c.args.asked.now c.args.peek c.args.shrinks c.args.prepared.now c.args.self.now
+    (g.W.Words.sight c.args.pass.now) c.requires.of
+    c.held_comm-x.result.now c.comm_of.result c.held_comm-x.ensures c.comm_of.ensures c.deref.result.now (members g (goal.at.In-Some g c).After-deref)
+    alone old before stands g.W.Words.alone only (g.W.Words.sight c.advance.new.pass) c.advance.ensures.goes.of c.advance.ensures.goes.did
+    c.advance.ensures.goes.onward c.advance.new.self c.advance.ensures.comm c.advance.ensures.round c.advance.ensures.are c.in-Some.all (said g c)
+
 pub decided-requires-clause-read : goal.decided-requires-clause-read
 decided-requires-clause-read g c =
-    let stands = c.requires.stands in (
-      stands.0,
-      stands.1,
-      peek_ends g.P.Meld.meld (over g.P.Packed.pack (g.W.Words.name c.args.words.now)) c.args.asked.now c.args.peek c.args.shrinks c.args.prepared.now c.args.self.now
-          (g.W.Words.sight c.args.pass.now) c.requires.of
-          c.held_comm-x.result.now c.comm_of.result c.held_comm-x.ensures c.comm_of.ensures c.deref.result.now
-          (members g (goal.at.decided-requires-clause-read g c).After-deref) false stands.0 stands.1 stands.2
-          g.W.Words.alone (λ here. absurd (false≢true here)) (g.W.Words.sight c.advance.new.pass) c.advance.ensures.goes.of c.advance.ensures.goes.did
-          c.advance.ensures.goes.onward c.advance.new.self c.advance.ensures.comm c.advance.ensures.round c.advance.ensures.are c.in-Some.all
-          (said g (goal.at.decided-requires-clause-read g c).In-Some),
-    )
+    let s = c.requires.stands in
+    (s.0, s.1, all_said g (goal.at.decided-requires-clause-read g c).In-Some false (λ here. absurd (false≢true here)) s.0 s.1 s.2)
 
 -- so the round's blocks are all known to be set
 known : (g : _) (c : After-advance g) (next : Next g.row.P.Denot) → NextBelow 5 next
@@ -200,7 +190,7 @@ known g c next below all =
     let before = (goal.at.After-advance g c).After-deref in
     let at = c.requires.stands.2.at in
     let x = c.held_comm-x.result.now in
-    let both : Some x ≡ Some at.1.x = sym (held g before) ∙ at.1.held in
+    let both : Some x ≡ Some at.1.x = sym (held g before) ∙ at.1.since.held in
     let same : x ≡ at.1.x = cc both in
     let cached = (g.W.Words.sight c.advance.new.pass).cached in
     known_next c.args.self.now c.args.asked.now cached next below
@@ -228,10 +218,4 @@ returns-in-Some g c =
     (all_known after.cached c.args.peek.comm c.args.peek.round c.deref.result.now c.advance.new.self.blocks (c.advance.ensures.sets are)
     (ap (is_whole c.advance.new.self.blocks) (sym (length_is g (goal.at.returns-in-Some g c).After-len-members)) ∙ sym c.in-Some.ensures.whole)))
     (λ alone only old before stands.
-    c.decided.ensures.turns alone old before
-    (peek_ends g.P.Meld.meld (over g.P.Packed.pack (g.W.Words.name c.args.words.now)) c.args.asked.now c.args.peek c.args.shrinks c.args.prepared.now c.args.self.now
-    (g.W.Words.sight c.args.pass.now) c.requires.of
-    c.held_comm-x.result.now c.comm_of.result c.held_comm-x.ensures c.comm_of.ensures c.deref.result.now (members g (goal.at.returns-in-Some g c).After-deref)
-    alone old before stands
-    g.W.Words.alone only (g.W.Words.sight c.advance.new.pass) c.advance.ensures.goes.of c.advance.ensures.goes.did c.advance.ensures.goes.onward
-    c.advance.new.self c.advance.ensures.comm c.advance.ensures.round c.advance.ensures.are c.in-Some.all (said g (goal.at.returns-in-Some g c).In-Some)))
+    c.decided.ensures.turns alone old before (all_said g (goal.at.returns-in-Some g c).In-Some alone only old before stands))

@@ -1,6 +1,6 @@
 use Rattle.std.proofs.Common.{refl, rules, ◌≡◌, Some, true, false, [], ap, subst, sym, ◌∙◌, arith}
 use Rattle.ulfm_words.proofs.Trails.{did_prefix}
-use Rattle.ulfm_comm.proofs.Wings.{turn_blocks}
+use Rattle.ulfm_comm.proofs.{Turning.{turn_past}, Wings.{turn_blocks}}
 use Rattle.ulfm_model.specs.{Records.{Held, Record, held_at}, Terms.{comm_of}}
 use Rattle.ulfm_steps.specs.Blocks.{AllSet, AreSet}
 use Rattle.ulfm_comm.specs.{Known.{KnowsNext}, Phase.{IsFurther, IsPast, NextBelow, Turns}, Requests.{agreement}, Step.{TakesTurn}}
@@ -63,24 +63,16 @@ reads g c next left new nearer spends further sees leads knows turns =
     let now = g.W.Words.sight c.args.pass.now in
     let stands = c.requires.stands in
     let at = stands.2.at.1 in
-    record {
-      walks = record { of = goes.of; own = []; did = goes.did; onward = goes.onward; cached = goes.cached };
-      beside = turn_blocks _ _ _ _ _ (λ w. w) (did_prefix g.W.Words.alone _ _ _ goes.did)
-          (agreement_caches c.args.self.now c.args.asked.now stands.0.number stands.2.at.0 at.x at.marked.held c.args.shrinks c.args.reading.round at.marked.open_is)
-          goes.caches;
-      named = λ single. reads_named c.deref.result.now c.args.reading c.args.shrinks c.args.self.now.number (comm_of c.args.asked.now) now
-          (g.W.Words.sight c.advance.new.pass) c.requires.stands.2.at.1.there (c.advance.ensures.takes.one single);
-      nearer = nearer;
-      spends = spends;
-      also = λ never. absurd never;
-      further = further;
-      adds = λ single. goes.did;
-      sees = sees;
-      looks = λ at. absurd (cc at);
-      knows = knows;
-      leads = leads;
-      turns = turns;
-    }
+    turn_past refl (record { of = goes.of; own = []; did = goes.did; onward = goes.onward; cached = goes.cached })
+    (turn_blocks _ _ _ _ _ (λ w. w) (did_prefix g.W.Words.alone _ _ _ goes.did)
+    (agreement_caches c.args.self.now c.args.asked.now stands.0.number stands.2.at.0 at.x at.marked.since.held c.args.shrinks c.args.reading.round at.marked.open_is)
+    goes.caches)
+    (λ single. (
+      reads_named c.deref.result.now c.args.reading c.args.shrinks c.args.self.now.number (comm_of c.args.asked.now) now
+          (g.W.Words.sight c.advance.new.pass) c.requires.stands.2.at.1.there (c.advance.ensures.takes.one single),
+      nearer single,
+    ))
+    spends (λ never. absurd never) further goes.did sees knows leads turns
 
 pub returns-in-None : goal.returns-in-None
 returns-in-None g c =
@@ -127,7 +119,7 @@ known g c next below all =
     let before = (goal.at.After-advance g c).After-deref in
     let at = c.requires.stands.2.at in
     let x = c.held_comm-x.result.now in
-    let both : Some x ≡ Some at.1.x = sym (held g before) ∙ at.1.marked.held in
+    let both : Some x ≡ Some at.1.x = sym (held g before) ∙ at.1.marked.since.held in
     let same : x ≡ at.1.x = cc both in
     let cached = (g.W.Words.sight c.advance.new.pass).cached in
     known_next c.args.self.now c.args.asked.now cached next below

@@ -1,12 +1,12 @@
 use Rattle.std.proofs.Common.{rules, ◌≤◌, [], ap, arith, refl, subst, sym, ◌∙◌, IsTrue, Bool, false}
 use Rattle.ulfm_words.proofs.Trails.{did_prefix}
-use Rattle.ulfm_comm.proofs.Wings.{turn_same}
+use Rattle.ulfm_comm.proofs.{Turning.{turn_past}, Wings.{turn_same}}
 use mathlib.Core.List.{IsPrefix}
 use Rattle.ulfm_model.specs.Records.{held_at, Record}
 use Rattle.ulfm_model.specs.Terms.{comm_of}
 use Rattle.ulfm_words.specs.Steps.{view_of, Sight, over}
 use Rattle.ulfm_steps.specs.ReadsOn.{AtFailure}
-use Rattle.ulfm_comm.specs.{Spawning.{HasReached}, Phase.{Stands}}
+use Rattle.ulfm_comm.specs.{Spawning.{HasReached}, Phase.{Stands}, Step.{Walks}}
 use Rattle.ulfm_comm.specs.declared.phases.phase.Phase.TheVariants.{ReadingOn as AtReadingOn}
 use Rattle.ulfm_comm.proofs.{AlsoLeft.{also_reached, also_reads_on}, Known.{blocks_later, known_next}, StepsLeft.{below_more}}
 use Rattle.ulfm_comm.proofs.Spawning.{has_reached, held_is, may_read_on, reads_further}
@@ -71,60 +71,43 @@ reached-requires-clause-reached g c =
       reached g (goal.at.reached-requires-clause-reached g c).After-read_on false (λ here. absurd (cc here)) stands.0 stands.1 stands.2 c.if-on-made.false,
     )
 
+-- the loads add nothing
+walks : (g : _) (c : After-read_on g) → Walks g.P.Meld.meld g.W.Words.alone c.args.self.now.number (view_of g.P.Packed.pack (g.W.Words.name c.args.words.now) (g.W.Words.sight c.args.pass.now)) (view_of g.P.Packed.pack (g.W.Words.name c.args.words.now) (g.W.Words.sight c.read_on.new.pass))
+walks g c = let goes = c.read_on.ensures.goes in record { of = goes.of; own = []; did = goes.did; onward = goes.onward; cached = goes.cached }
+
 pub returns-then-on-made : goal.returns-then-on-made
 returns-then-on-made g c =
-    record {
-      walks = let goes = c.read_on.ensures.goes in
-          record { of = goes.of; own = []; did = goes.did; onward = goes.onward; cached = goes.cached };
-      beside = turn_same _ _ _ _ _ (λ w. w) (did_prefix g.W.Words.alone _ _ _ c.read_on.ensures.goes.did) c.read_on.ensures.goes.caches;
-      named = search rules;
-      nearer = search rules;
-      spends = search rules;
-      also = λ all. also_reads_on (g.W.Words.name c.args.words.now).limits c.args.asked.now c.args.self.now c.read_on.new.self c.read_on.new.self
-          (g.W.Words.sight c.args.pass.now) (g.W.Words.sight c.read_on.new.pass) c.args.on c.args.made _ c.read_on.ensures.further refl (omega arith)
-          (omega arith);
-      further = search rules;
-      adds = search rules;
-      sees = c.read_on.ensures.goes_on;
-      looks = λ at. absurd (cc at);
-      knows = λ stand. blocks_later c.args.self.now c.args.asked.now (g.W.Words.sight c.args.pass.now).cached (g.W.Words.sight c.read_on.new.pass).cached
-          c.read_on.ensures.goes.cached stand;
-      leads = search rules;
-      turns = λ alone only old before s.
-          let now = g.W.Words.sight c.args.pass.now in
-          let after = g.W.Words.sight c.read_on.new.pass in
-          let ensures = c.read_on.ensures in
-          reads_further g.P.Meld.meld alone (over g.P.Packed.pack (g.W.Words.name c.args.words.now)) c.args.asked.now c.args.on c.args.made c.args.prepared.now old before
-          c.args.self.now now s c.read_on.new.self after
-          (did_loosely alone g.W.Words.alone only [] now.seen after.seen ensures.goes.did) ensures.goes.onward ensures.kept ensures.goes_on ensures.begins
-          c.read_on.new.on c.args.prepared.now
-          (at_failure g (goal.at.returns-then-on-made g c).After-read_on alone old before s) c.if-on-made.true;
-    }
+    let now = g.W.Words.sight c.args.pass.now in
+    let after = g.W.Words.sight c.read_on.new.pass in
+    turn_past refl (walks g (goal.at.returns-then-on-made g c).After-read_on)
+    (turn_same _ _ _ _ _ (λ w. w) (did_prefix g.W.Words.alone _ _ _ c.read_on.ensures.goes.did) c.read_on.ensures.goes.caches) (λ single. (search rules, search rules))
+    (search rules)
+    (λ all. also_reads_on (g.W.Words.name c.args.words.now).limits c.args.asked.now c.args.self.now c.read_on.new.self c.read_on.new.self
+    now after c.args.on c.args.made _ c.read_on.ensures.further refl (omega arith) (omega arith))
+    (search rules) c.read_on.ensures.goes.did c.read_on.ensures.goes_on
+    (λ stand. blocks_later c.args.self.now c.args.asked.now now.cached after.cached c.read_on.ensures.goes.cached stand) (search rules)
+    (λ alone only old before s.
+    let ensures = c.read_on.ensures in
+    reads_further g.P.Meld.meld alone (over g.P.Packed.pack (g.W.Words.name c.args.words.now)) c.args.asked.now c.args.on c.args.made c.args.prepared.now old before
+    c.args.self.now now s c.read_on.new.self after
+    (did_loosely alone g.W.Words.alone only [] now.seen after.seen ensures.goes.did) ensures.goes.onward ensures.kept ensures.goes_on ensures.begins
+    c.read_on.new.on c.args.prepared.now
+    (at_failure g (goal.at.returns-then-on-made g c).After-read_on alone old before s) c.if-on-made.true)
 
 pub returns : goal.returns
 returns g c =
-    record {
-      walks = let goes = c.read_on.ensures.goes in
-          record { of = goes.of; own = []; did = goes.did; onward = goes.onward; cached = goes.cached };
-      beside = turn_same _ _ _ _ _ (λ w. w) (did_prefix g.W.Words.alone _ _ _ c.read_on.ensures.goes.did) c.read_on.ensures.goes.caches;
-      named = search rules;
-      nearer = search rules;
-      spends = search rules;
-      also = λ all.
-          also_reads_on (g.W.Words.name c.args.words.now).limits c.args.asked.now c.args.self.now c.read_on.new.self c.reached.new.self
-          (g.W.Words.sight c.args.pass.now) (g.W.Words.sight c.read_on.new.pass) c.args.on c.args.made c.reached.result c.read_on.ensures.further
-          c.reached.ensures.sees
-          (also_reached (g.W.Words.name c.args.words.now).limits c.reached.new.self c.args.asked.now c.reached.result c.reached.ensures.further
-          c.reached.ensures.nearer) (below_more 4 5 (omega arith) c.reached.result c.reached.ensures.further);
-      further = search rules;
-      adds = search rules;
-      sees = subst (IsPrefix c.args.self.now.seen) (sym c.reached.ensures.sees) c.read_on.ensures.goes_on;
-      looks = λ at. absurd (cc at);
-      knows = λ stand.
-          let cached = (g.W.Words.sight c.read_on.new.pass).cached in
-          known_next c.args.self.now c.args.asked.now cached c.reached.result (below_more 4 5 (omega arith) c.reached.result c.reached.ensures.further)
-          (blocks_later c.args.self.now c.args.asked.now (g.W.Words.sight c.args.pass.now).cached cached c.read_on.ensures.goes.cached stand);
-      leads = search rules;
-      turns = λ alone only old before s.
-          c.reached.ensures.turns alone old before (reached g (goal.at.returns g c).After-read_on alone only old before s c.if-on-made.false);
-    }
+    let cached = (g.W.Words.sight c.read_on.new.pass).cached in
+    turn_past refl (walks g (goal.at.returns g c).After-read_on)
+    (turn_same _ _ _ _ _ (λ w. w) (did_prefix g.W.Words.alone _ _ _ c.read_on.ensures.goes.did) c.read_on.ensures.goes.caches) (λ single. (search rules, search rules))
+    (search rules)
+    (λ all.
+    also_reads_on (g.W.Words.name c.args.words.now).limits c.args.asked.now c.args.self.now c.read_on.new.self c.reached.new.self
+    (g.W.Words.sight c.args.pass.now) (g.W.Words.sight c.read_on.new.pass) c.args.on c.args.made c.reached.result c.read_on.ensures.further
+    c.reached.ensures.sees
+    (also_reached (g.W.Words.name c.args.words.now).limits c.reached.new.self c.args.asked.now c.reached.result c.reached.ensures.further
+    c.reached.ensures.nearer) (below_more 4 5 (omega arith) c.reached.result c.reached.ensures.further))
+    (search rules) c.read_on.ensures.goes.did (subst (IsPrefix c.args.self.now.seen) (sym c.reached.ensures.sees) c.read_on.ensures.goes_on)
+    (λ stand. known_next c.args.self.now c.args.asked.now cached c.reached.result (below_more 4 5 (omega arith) c.reached.result c.reached.ensures.further)
+    (blocks_later c.args.self.now c.args.asked.now (g.W.Words.sight c.args.pass.now).cached cached c.read_on.ensures.goes.cached stand))
+    (search rules)
+    (λ alone only old before s. c.reached.ensures.turns alone old before (reached g (goal.at.returns g c).After-read_on alone only old before s c.if-on-made.false))

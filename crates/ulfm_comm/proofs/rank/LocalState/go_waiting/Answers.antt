@@ -1,9 +1,9 @@
 use Rattle.std.proofs.Common.{◌≡◌, ◌+◌, ◌<◌, ◌≤◌, ℕ, List, [], Some, true, false, refl, ap, sym, ◌∙◌, subst, arith}
 use Rattle.ulfm_words.proofs.Trails.{did_prefix}
-use Rattle.ulfm_comm.proofs.Wings.{turn_same}
+use Rattle.ulfm_comm.proofs.{Turning.{turn_past}, Wings.{turn_same}}
 use Rattle.std.proofs.lemmas.Bool.{false≢true}
-use Rattle.ulfm_comm.specs.{Phase.{IsFurther, LeadsTo, Turns, next_step}, Step.{TakesTurn}, StepsLeft.{FewerLeft, MakesStep, Spends, group_of, steps_left}}
-use Rattle.ulfm_comm.specs.declared.{phases.phase.Next.{Next}, phases.phase.Phase.TheVariants.{Waiting}}
+use Rattle.ulfm_comm.specs.{Phase.{IsFurther, LeadsTo, Turns, next_step}, Step.{TakesTurn}, StepsLeft.{MakesStep, group_of, steps_left}}
+use Rattle.ulfm_comm.specs.declared.{phases.phase.Next.TheVariants.{Goes}, phases.phase.Phase.{Phase}, phases.phase.Phase.TheVariants.{Waiting}}
 use Rattle.ulfm_model.specs.Terms.{comm_of}
 use Rattle.ulfm_model.specs.Records.{Held, Record, held_at}
 use Rattle.ulfm_model.specs.declared.{call.Call.{Call}, limits.Limits.{Limits}, place.Place.TheVariants.{Arrival}}
@@ -95,72 +95,56 @@ held : (g : _) (c : After-deref g) → held_at c.args.self.now (comm_of c.args.a
 held g c = ap (held_at c.args.self.now) (sym c.comm_of.ensures) ∙ c.held_comm-x.ensures
 
 -- the loads leave what the rank holds and has seen
-waits : (g : _) (c : After-advance g) (next : Next g.row.P.Denot) → (c.args.whole ≡ false
-    → FewerLeft (steps_left (g.W.Words.name c.args.words.now).limits c.args.self.now c.args.asked.now (Waiting c.args.arrivals))
-    (g.W.Words.name c.args.words.now).limits c.args.self.now c.args.asked.now next)
-    → Spends (steps_left (g.W.Words.name c.args.words.now).limits c.args.self.now c.args.asked.now (Waiting c.args.arrivals))
-    (g.W.Words.name c.args.words.now).limits c.args.self.now c.args.asked.now next (g.W.Words.sight c.args.pass.now)
-    (g.W.Words.sight c.advance.new.pass)
-    → (c.args.whole ≡ true → IsFurther (Waiting c.args.arrivals) next) → LeadsTo (Waiting c.args.arrivals) next
-    → KnowsNext c.args.self.now c.args.asked.now (g.W.Words.sight c.advance.new.pass).cached next
-    → AlsoSpends (also_left (g.W.Words.name c.args.words.now).limits c.args.self.now c.args.asked.now (Waiting c.args.arrivals)) (g.W.Words.name c.args.words.now).limits c.args.asked.now (stance c.args.self.now (g.W.Words.sight c.args.pass.now)) next (stance c.args.self.now (g.W.Words.sight c.advance.new.pass))
-    → ((prepared : Prepared) → Turns g.P.Meld.meld g.W.Words.alone (under_way c.args.asked.now (Waiting c.args.arrivals) prepared) (local c.args.self.now (view_of g.P.Packed.pack (g.W.Words.name c.args.words.now) (g.W.Words.sight c.args.pass.now))) next prepared (local c.args.self.now (view_of g.P.Packed.pack (g.W.Words.name c.args.words.now) (g.W.Words.sight c.advance.new.pass))))
-    → (prepared : Prepared) → TakesTurn g.P.Meld.meld g.W.Words.alone c.args.whole (under_way c.args.asked.now (Waiting c.args.arrivals) prepared) (local c.args.self.now (view_of g.P.Packed.pack (g.W.Words.name c.args.words.now) (g.W.Words.sight c.args.pass.now))) (coming next prepared) (local c.args.self.now (view_of g.P.Packed.pack (g.W.Words.name c.args.words.now) (g.W.Words.sight c.advance.new.pass)))
-waits g c next nearer spends further leads knows also turns = λ prepared.
+waits : (g : _) (c : After-advance g) (phase : Phase g.row.P.Denot) → (g.W.Words.sight c.advance.new.pass).steps + steps_left (g.W.Words.name c.args.words.now).limits c.args.self.now c.args.asked.now phase
+    ≤ (g.W.Words.sight c.args.pass.now).steps + steps_left (g.W.Words.name c.args.words.now).limits c.args.self.now c.args.asked.now (Waiting c.args.arrivals)
+    → (g.W.Words.sight c.args.pass.now).steps < (g.W.Words.sight c.advance.new.pass).steps
+    → (c.args.whole ≡ true → IsFurther (Waiting c.args.arrivals) (Goes phase)) → LeadsTo (Waiting c.args.arrivals) (Goes phase)
+    → KnowsNext c.args.self.now c.args.asked.now (g.W.Words.sight c.advance.new.pass).cached (Goes phase)
+    → AlsoSpends (also_left (g.W.Words.name c.args.words.now).limits c.args.self.now c.args.asked.now (Waiting c.args.arrivals)) (g.W.Words.name c.args.words.now).limits c.args.asked.now (stance c.args.self.now (g.W.Words.sight c.args.pass.now)) (Goes phase) (stance c.args.self.now (g.W.Words.sight c.advance.new.pass))
+    → ((prepared : Prepared) → Turns g.P.Meld.meld g.W.Words.alone (under_way c.args.asked.now (Waiting c.args.arrivals) prepared) (local c.args.self.now (view_of g.P.Packed.pack (g.W.Words.name c.args.words.now) (g.W.Words.sight c.args.pass.now))) (Goes phase) prepared (local c.args.self.now (view_of g.P.Packed.pack (g.W.Words.name c.args.words.now) (g.W.Words.sight c.advance.new.pass))))
+    → (prepared : Prepared) → TakesTurn g.P.Meld.meld g.W.Words.alone c.args.whole (under_way c.args.asked.now (Waiting c.args.arrivals) prepared) (local c.args.self.now (view_of g.P.Packed.pack (g.W.Words.name c.args.words.now) (g.W.Words.sight c.args.pass.now))) (coming (Goes phase) prepared) (local c.args.self.now (view_of g.P.Packed.pack (g.W.Words.name c.args.words.now) (g.W.Words.sight c.advance.new.pass)))
+waits g c phase spends some further leads knows also turns = λ prepared.
     let goes = c.advance.ensures.goes in
-    record {
-      walks = record { of = goes.of; own = []; did = goes.did; onward = goes.onward; cached = goes.cached };
-      beside = turn_same _ _ _ _ _ (λ w. w) (did_prefix g.W.Words.alone _ _ _ goes.did) goes.caches;
-      named = λ single. wait_named c.args.arrivals c.args.self.now.number (comm_of c.args.asked.now) _ (g.W.Words.sight c.args.pass.now)
-          (g.W.Words.sight c.advance.new.pass) c.requires.stands.1.2.at.1 (c.advance.ensures.takes.one single);
-      nearer = nearer;
-      spends = spends;
-      also = λ all. also;
-      further = further;
-      adds = λ single. goes.did;
-      sees = refl;
-      looks = λ at. absurd (cc at);
-      knows = λ known. knows;
-      leads = leads;
-      turns = turns prepared;
-    }
+    let now = g.W.Words.sight c.args.pass.now in
+    let after = g.W.Words.sight c.advance.new.pass in
+    turn_past refl (record { of = goes.of; own = []; did = goes.did; onward = goes.onward; cached = goes.cached })
+    (turn_same _ _ _ _ _ (λ w. w) (did_prefix g.W.Words.alone _ _ _ goes.did) goes.caches)
+    (λ single. (
+      wait_named c.args.arrivals c.args.self.now.number (comm_of c.args.asked.now) _ now after c.requires.stands.1.2.at.1
+          (c.advance.ensures.takes.one single),
+      fewer after.steps (steps_left (g.W.Words.name c.args.words.now).limits c.args.self.now c.args.asked.now phase) now.steps
+          (steps_left (g.W.Words.name c.args.words.now).limits c.args.self.now c.args.asked.now (Waiting c.args.arrivals)) spends some,
+    ))
+    spends (λ all. also) further goes.did refl (λ known. knows) leads (turns prepared)
 
 pub returns-in-None-clause-turn : goal.returns-in-None-clause-turn
 returns-in-None-clause-turn g c =
     let at = (goal.at.returns-in-None-clause-turn g c).After-deref in
     let limits = (g.W.Words.name c.args.words.now).limits in
-    let now = g.W.Words.sight c.args.pass.now in
-    let after = g.W.Words.sight c.advance.new.pass in
-    let takes = c.in-None.ensures.takes in
     let spends = waits_on limits c.args.self.now c.args.asked.now c.held_comm-x.result.now (held g at) c.deref.result.now c.failures.result.now
-    (members g at) c.failures.ensures c.args.arrivals now.steps after.steps c.advance.new.self takes.turns in
-    waits g (goal.at.returns-in-None-clause-turn g c).After-advance _ (λ single. fewer after.steps
-    (steps_left limits c.args.self.now c.args.asked.now (Waiting c.advance.new.self)) now.steps
-    (steps_left limits c.args.self.now c.args.asked.now (Waiting c.args.arrivals)) spends takes.some) spends
+    (members g at) c.failures.ensures c.args.arrivals _ _ c.advance.new.self c.in-None.ensures.takes.turns in
+    waits g (goal.at.returns-in-None-clause-turn g c).After-advance _ spends c.in-None.ensures.takes.some
     (λ whole. absurd (false≢true (sym c.in-None.ensures.done ∙ whole))) refl tt
-    (also_waits limits c.args.asked.now c.args.self.now now after c.args.arrivals c.advance.new.self spends) (λ prepared alone only old before stands.
+    (also_waits limits c.args.asked.now c.args.self.now _ _ c.args.arrivals c.advance.new.self spends) (λ prepared alone only old before stands.
     waiting_goes g.P.Meld.meld (over g.P.Packed.pack (g.W.Words.name c.args.words.now)) c.args.asked.now c.args.arrivals prepared c.args.self.now
     (g.W.Words.sight c.args.pass.now) c.requires.of
     c.held_comm-x.result.now c.comm_of.result c.held_comm-x.ensures c.comm_of.ensures c.deref.result.now c.failures.result.now
-    (members g (goal.at.returns-in-None-clause-turn g c).After-deref) c.failures.ensures alone old before stands
+    (members g at) c.failures.ensures alone old before stands
     g.W.Words.alone only (g.W.Words.sight c.advance.new.pass) c.advance.ensures.goes.did c.advance.ensures.goes.onward c.advance.new.self c.advance.ensures.comm
     c.advance.ensures.round c.in-None.ensures.at)
 
 pub returns-in-Some-clause-turn : goal.returns-in-Some-clause-turn
 returns-in-Some-clause-turn g c =
     let at = (goal.at.returns-in-Some-clause-turn g c).After-deref in
-    let limits = (g.W.Words.name c.args.words.now).limits in
-    let now = g.W.Words.sight c.args.pass.now in
     let after = g.W.Words.sight c.advance.new.pass in
-    let takes = c.in-Some.ensures.takes in
-    let spends = waits_over limits c.args.self.now c.args.asked.now c.held_comm-x.result.now (held g at) c.deref.result.now c.failures.result.now
-    (members g at) c.failures.ensures c.args.arrivals now.steps after.steps (ended after.steps _ takes.turns) in
-    waits g (goal.at.returns-in-Some-clause-turn g c).After-advance _ (λ single. fewer after.steps 1 now.steps
-    (steps_left limits c.args.self.now c.args.asked.now (Waiting c.args.arrivals)) spends takes.some) spends (λ whole. nearest) refl tt
-    (also_checks limits c.args.asked.now c.args.self.now now after c.args.arrivals c.in-Some.missing spends) (λ prepared alone only old before stands.
+    let spends = waits_over (g.W.Words.name c.args.words.now).limits c.args.self.now c.args.asked.now c.held_comm-x.result.now (held g at) c.deref.result.now
+    c.failures.result.now (members g at) c.failures.ensures c.args.arrivals _ after.steps (ended after.steps _ c.in-Some.ensures.takes.turns) in
+    waits g (goal.at.returns-in-Some-clause-turn g c).After-advance _ spends c.in-Some.ensures.takes.some (λ whole. nearest) refl tt
+    (also_checks (g.W.Words.name c.args.words.now).limits c.args.asked.now c.args.self.now _ after c.args.arrivals c.in-Some.missing spends)
+    (λ prepared alone only old before stands.
     waiting_ends g.P.Meld.meld (over g.P.Packed.pack (g.W.Words.name c.args.words.now)) c.args.asked.now c.args.arrivals prepared c.args.self.now
     (g.W.Words.sight c.args.pass.now) c.requires.of
     c.held_comm-x.result.now c.comm_of.result c.held_comm-x.ensures c.comm_of.ensures c.deref.result.now c.failures.result.now
-    (members g (goal.at.returns-in-Some-clause-turn g c).After-deref) c.failures.ensures alone old before stands
+    (members g at) c.failures.ensures alone old before stands
     g.W.Words.alone only (g.W.Words.sight c.advance.new.pass) c.advance.ensures.goes.did c.advance.ensures.goes.onward c.in-Some.missing c.in-Some.ensures.are
     c.advance.ensures.goes.of.legal)

@@ -37,7 +37,7 @@ pub returns-then-has_rank-clause-turns : goal.returns-then-has_rank-clause-turns
 returns-then-has_rank-clause-turns g c = λ alone old before r.
     ends_self_failed g.P.Meld.meld alone (over g.P.Packed.pack (g.W.Words.name c.args.words.now)) c.args.asked.now c.args.made.round c.args.made.mask r.x c.args.made.count
     c.args.reach old before c.args.self.now (g.W.Words.sight c.args.pass.now)
-    c.requires.of r.onward r.fits r.polls r.decided r.reads c.refuse.new.self
+    c.requires.of r.on.onward r.on.fits r.on.polls r.decided r.reads c.refuse.new.self
     (sym (among g (goal.at.returns-then-has_rank-clause-turns g c).After-has_rank) ∙ c.if-has_rank.true) c.refuse.ensures
 
 pub returns-then-is_err-clause-turns : goal.returns-then-is_err-clause-turns
@@ -45,7 +45,7 @@ returns-then-is_err-clause-turns g c = λ alone old before r.
     let now = g.W.Words.sight c.args.pass.now in
     let name = over g.P.Packed.pack (g.W.Words.name c.args.words.now) in
     ends_out g.P.Meld.meld alone name c.args.asked.now c.args.made.round c.args.made.mask r.x c.args.made.count c.args.reach old before c.args.self.now now
-    c.requires.of r.onward r.fits r.polls r.decided r.reads
+    c.requires.of r.on.onward r.on.fits r.on.polls r.decided r.reads
     (sym (among g (goal.at.returns-then-is_err-clause-turns g c).After-has_rank) ∙ c.if-has_rank.false)
 
 pub returns-then-limits-eq1-clause-turns : goal.returns-then-limits-eq1-clause-turns
@@ -55,7 +55,7 @@ returns-then-limits-eq1-clause-turns g c = λ alone old before r.
     let one : name.limits.comms ≡ 1 = ap (λ (l : Limits). l.comms) (sym c.limits.ensures.limits) ∙ c.if-limits-eq1.true in
     let there = among g (goal.at.returns-then-limits-eq1-clause-turns g c).After-has_rank in
     ends_full g.P.Meld.meld alone name c.args.asked.now c.args.made.round c.args.made.mask r.x c.args.made.count c.args.reach old before c.args.self.now now
-    c.requires.of r.onward r.fits r.polls r.decided r.reads c.close.new.self now
+    c.requires.of r.on.onward r.on.fits r.on.polls r.decided r.reads alone (λ same. same) c.close.new.self now
     (full_alone g.P.Meld.meld alone name (comm_of c.args.asked.now) c.args.made.round now c.requires.of one) (sym there ∙ c.if-has_rank.false)
     (c.close.ensures ∙ ap (closed c.args.self.now) c.comm_of-comm.ensures)
 
@@ -93,8 +93,8 @@ returns-clause-turns g c = λ alone old before r.
     let limits = ap (λ (l : Limits). l.comms) c.limits.ensures.limits in
     let several = c.if-limits-eq1.false in
     let prepared = prepares g (goal.at.returns-clause-turns g c).After-is_err c.if-is_err.false in
-    polls_stand r.fits r.polls r.onward (
-      r.polls,
+    polls_stand r.on.fits r.on.polls r.on.onward (
+      r.on.polls,
       record {
         x = r.x;
         round = c.args.made.round;

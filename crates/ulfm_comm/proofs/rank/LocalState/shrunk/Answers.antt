@@ -45,7 +45,7 @@ new-on-requires g c =
     let r = read.2 in
     let rises = group_goes_up g.P.Meld.meld false (over g.P.Packed.pack (g.W.Words.name c.args.words.now)) c.args.asked.now c.args.round c.args.all read.0 read.1 c.args.self.now
     (g.W.Words.sight c.args.pass.now) c.requires.of r in
-    subst IsStrictlyIncreasing (sym (group_is g (goal.at.new-on-requires g c).After-deref r.x r.marked.held)) rises
+    subst IsStrictlyIncreasing (sym (group_is g (goal.at.new-on-requires g c).After-deref r.x r.marked.since.held)) rises
 
 -- how far the failures that were seen reach
 at_failure : (g : _) (c : After-new-on g) → (x : Held) → c.deref.result.now ≡ x.group
@@ -57,13 +57,13 @@ at_failure g c x group =
 pub returns-then-on-count-clause-turns : goal.returns-then-on-count-clause-turns
 returns-then-on-count-clause-turns g c = λ alone old before r.
     let some = c.if-mask-eq0.false in
-    polls_stand r.fits r.polls r.onward (
-      r.polls,
+    polls_stand r.on.fits r.on.polls r.on.onward (
+      r.on.polls,
       r.x,
       decided_first g.P.Meld.meld alone (over g.P.Packed.pack (g.W.Words.name c.args.words.now)) c.args.asked.now c.args.round c.args.all old before c.args.self.now
           (g.W.Words.sight c.args.pass.now) c.requires.of r c.in-Ctx.mask c.in-Ctx.is (omega (arith, some)),
       at_failure g (goal.at.returns-then-on-count-clause-turns g c).After-new-on r.x
-          (group_is g (goal.at.returns-then-on-count-clause-turns g c).After-deref r.x r.marked.held),
+          (group_is g (goal.at.returns-then-on-count-clause-turns g c).After-deref r.x r.marked.since.held),
       c.if-on-count.true,
     )
 
@@ -77,7 +77,7 @@ reached-requires-clause-reached g c =
       reached_first g.P.Meld.meld false (over g.P.Packed.pack (g.W.Words.name c.args.words.now)) c.args.asked.now c.args.round c.args.all read.0 read.1 c.args.self.now
           (g.W.Words.sight c.args.pass.now) c.requires.of r c.in-Ctx.mask c.new-on.result
           c.in-Ctx.is (omega (arith, some)) (at_failure g (goal.at.reached-requires-clause-reached g c).After-new-on r.x
-          (group_is g (goal.at.reached-requires-clause-reached g c).After-deref r.x r.marked.held)) c.if-on-count.false,
+          (group_is g (goal.at.reached-requires-clause-reached g c).After-deref r.x r.marked.since.held)) c.if-on-count.false,
     )
 
 pub returns-clause-turns : goal.returns-clause-turns
@@ -87,7 +87,7 @@ returns-clause-turns g c = λ alone old before r.
     (reached_first g.P.Meld.meld alone (over g.P.Packed.pack (g.W.Words.name c.args.words.now)) c.args.asked.now c.args.round c.args.all old before c.args.self.now
     (g.W.Words.sight c.args.pass.now) c.requires.of r c.in-Ctx.mask c.new-on.result
     c.in-Ctx.is (omega (arith, some)) (at_failure g (goal.at.returns-clause-turns g c).After-new-on r.x
-    (group_is g (goal.at.returns-clause-turns g c).After-deref r.x r.marked.held)) c.if-on-count.false)
+    (group_is g (goal.at.returns-clause-turns g c).After-deref r.x r.marked.since.held)) c.if-on-count.false)
 
 pub returns-clause-also : goal.returns-clause-also
 returns-clause-also g c = also_reached (g.W.Words.name c.args.words.now).limits c.reached.new.self c.args.asked.now c.reached.result

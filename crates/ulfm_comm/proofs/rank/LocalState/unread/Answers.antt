@@ -1,7 +1,7 @@
-use Rattle.std.proofs.Common.{◌≡◌, false, length, ap, sym, ◌∙◌, arith}
+use Rattle.std.proofs.Common.{◌≡◌, ◌<◌, ◌≤◌, false, length, ap, sym, ◌∙◌, arith}
 use Rattle.ulfm_words.specs.Steps.{over}
 use Rattle.ulfm_model.specs.Records.{Held}
-use Rattle.ulfm_comm.proofs.Peeking.{unread_few, unread_marking, unread_reading, unread_rises, unread_some}
+use Rattle.ulfm_comm.proofs.Peeking.{unread_marking, unread_reading, unread_rises, unread_sized}
 use Rattle.ulfm_comm.proofs.rank.LocalState.unread.Goals as goal
 use Rattle.ulfm_comm.proofs.rank.LocalState.unread.Goals.{After-deref, After-len-members}
 use Rattle.ulfm_comm.specs.Prepared.{unprepared}
@@ -22,21 +22,20 @@ new-marks-requires g c =
           c.deref.result.now c.failures-seen.result.now (members g (goal.at.new-marks-requires g c).After-deref) c.failures-seen.ensures;
     }
 
-pub overflow_cast-members : goal.overflow_cast-members
-overflow_cast-members g c =
+-- they are some, and no more than ranks
+sized : (g : _) (c : After-len-members g) → (0 < c.len-members.result) × (c.len-members.result ≤ 1024)
+sized g c =
     let k = c.requires.peeked in
-    let few = unread_few g.P.Meld.meld false (over g.P.Packed.pack (g.W.Words.name c.args.words.now)) c.args.asked.now c.args.shrinks c.args.peek k.0 k.1 c.args.self.now
+    let size = unread_sized g.P.Meld.meld false (over g.P.Packed.pack (g.W.Words.name c.args.words.now)) c.args.asked.now c.args.shrinks c.args.peek k.0 k.1 c.args.self.now
     (g.W.Words.sight c.args.pass.now) c.requires.of k.2 unprepared c.held_comm-x.result.now c.comm_of-comm.result c.held_comm-x.ensures c.comm_of-comm.ensures
-    c.deref.result.now c.failures-seen.result.now (members g (goal.at.overflow_cast-members g c).After-deref) c.failures-seen.ensures in
-    omega (arith, few, length_is g (goal.at.overflow_cast-members g c).After-len-members)
+    c.deref.result.now c.failures-seen.result.now (members g (goal.at.After-len-members g c).After-deref) c.failures-seen.ensures in
+    rw (length_is g c) size
+
+pub overflow_cast-members : goal.overflow_cast-members
+overflow_cast-members g c = let few = (sized g (goal.at.overflow_cast-members g c).After-len-members).1 in omega (arith, few)
 
 pub new-requires : goal.new-requires
-new-requires g c =
-    let k = c.requires.peeked in
-    let some = unread_some g.P.Meld.meld false (over g.P.Packed.pack (g.W.Words.name c.args.words.now)) c.args.asked.now c.args.shrinks c.args.peek k.0 k.1 c.args.self.now
-    (g.W.Words.sight c.args.pass.now) c.requires.of k.2 unprepared c.held_comm-x.result.now c.comm_of-comm.result c.held_comm-x.ensures c.comm_of-comm.ensures
-    c.deref.result.now c.failures-seen.result.now (members g (goal.at.new-requires g c).After-deref) c.failures-seen.ensures in
-    omega (arith, some, length_is g (goal.at.new-requires g c).After-len-members)
+new-requires g c = let some = (sized g (goal.at.new-requires g c).After-len-members).0 in omega (arith, some)
 
 pub returns-then-marks-seen-clause-turns : goal.returns-then-marks-seen-clause-turns
 returns-then-marks-seen-clause-turns g c = λ prepared alone old before h.

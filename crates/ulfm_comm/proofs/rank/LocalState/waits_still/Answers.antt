@@ -26,7 +26,7 @@ stood g c = subst (λ (phase : Phase g.row.P.Denot). StillStands g.P.Meld.meld (
 pub held_comm-x-requires : goal.held_comm-x-requires
 held_comm-x-requires g c =
     let at = (stood g (goal.at.held_comm-x-requires g c).After-comm_of).2.at.1 in
-    (at.x, ap (λ (w : Record). held_at w c.comm_of.result) c.take_awaited.ensures ∙ (ap (held_at c.args.self.now) c.comm_of.ensures ∙ at.marked.held))
+    (at.x, ap (λ (w : Record). held_at w c.comm_of.result) c.take_awaited.ensures ∙ (ap (held_at c.args.self.now) c.comm_of.ensures ∙ at.marked.since.held))
 
 pub load_missing-requires : goal.load_missing-requires
 load_missing-requires g c =
