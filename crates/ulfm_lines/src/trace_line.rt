@@ -8,7 +8,7 @@ ghost use Rattle.ulfm_lines.specs.Telling.{ListsRanks, TextTells};
 
 use crate::events::read_event;
 use crate::fields::{behind, caller_field, number_field, over, point_field, rank_field};
-use crate::replies::read_reply;
+use crate::replies::reply_field;
 use std::alloc::{AllocError, Allocator};
 use ulfm_laws::FlagAnd;
 use ulfm_model::{Line, Reply};
@@ -144,6 +144,6 @@ fn read_replied(text: Option<&[u8]>) -> Result<(Line<FlagAnd>, Option<&[u8]>), L
 {
     let (by, rest) = caller_field(text)?;
     let (point, rest) = point_field(rest)?;
-    let (reply, rest) = read_reply(rest)?;
+    let (reply, rest) = reply_field(rest)?;
     Ok((Line::Replied { by, point, reply }, rest))
 }
