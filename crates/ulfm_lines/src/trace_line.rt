@@ -1,5 +1,5 @@
 //! The lines of a trace, read.
-ghost use Rattle.std.specs.Prelude.{◌≡◌, List, ℕ, Some, IfOk, IfSome};
+ghost use Rattle.std.specs.Prelude.{◌≡◌, [], List, ℕ, Some, IfOk, IfSome};
 ghost use Rattle.ulfm_script.specs.Words.{Gives, rest_at};
 ghost use Rattle.ulfm_lines.specs.Fields.{at_field};
 ghost use Rattle.ulfm_lines.specs.LineReading.{called_line, happened_line, line_head, line_listing, looked_line, replied_line, reply_listing};
@@ -44,6 +44,41 @@ pub fn read_line<A: Allocator>(
             list(&mut told, group.len() as u16);
             Ok(Some(told))
         }
+    }
+}
+
+/// The look that a line tells, or none: what isn't read here, [`read_line`] reads. It is for who reads many lines, of which a third are looks: such a line
+/// is read in line, and nothing is kept of it in memory.
+#[inline(always)]
+pub fn read_look(line: &[u8]) -> Option<Line<FlagAnd>>
+    ensures { IfSome result (λ told. TextTells line.now [] told) }
+{
+    if LONGEST < line.len() {
+        return None;
+    }
+    let Some(fields) = behind(b"look ", line) else {
+        return None;
+    };
+    match read_looked(Some(fields)) {
+        Ok((Line::Looked { rank, failures }, None)) => Some(Line::Looked { rank, failures }),
+        _ => None,
+    }
+}
+
+/// The beginning of a call that a line tells, or none: what isn't read here, [`read_line`] reads. It is for who reads many lines, as [`read_look`] is.
+#[inline(always)]
+pub fn read_begin(line: &[u8]) -> Option<Line<FlagAnd>>
+    ensures { IfSome result (λ told. TextTells line.now [] told) }
+{
+    if LONGEST < line.len() {
+        return None;
+    }
+    let Some(text) = behind(b"call ", line) else {
+        return None;
+    };
+    match read_called(text) {
+        Ok((Line::Called { call, padded }, None)) => Some(Line::Called { call, padded }),
+        _ => None,
     }
 }
 
