@@ -82,6 +82,23 @@ pub fn read_begin(line: &[u8]) -> Option<Line<FlagAnd>>
     }
 }
 
+/// The event that a line tells, or none: what isn't read here, [`read_line`] reads. It is for who reads many lines, as [`read_look`] is.
+#[inline(always)]
+pub fn read_happening(line: &[u8]) -> Option<Line<FlagAnd>>
+    ensures { IfSome result (λ told. TextTells line.now [] told) }
+{
+    if LONGEST < line.len() {
+        return None;
+    }
+    let Some(fields) = behind(b"event ", line) else {
+        return None;
+    };
+    match read_happened(Some(fields)) {
+        Ok((Line::Happened { by, event }, None)) => Some(Line::Happened { by, event }),
+        _ => None,
+    }
+}
+
 /// The ranks that stand there, in the place of what the group had; false where anything else does.
 fn read_ranks<A: Allocator>(
     ranks: Option<&[u8]>,

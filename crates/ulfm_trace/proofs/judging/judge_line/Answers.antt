@@ -14,6 +14,12 @@ returns-in-Some-read_begin g c = λ now stands.
     let few : c.args.number ≤ 5000000 = omega (arith, c.if-number-gt-LAST_LINE.false) in
     judged now c.args.number c.args.line.now [] [] c.in-Some-read_begin.call (g.J.LineJudge.Stands c.take-in-Some-read_begin.new.self) c.take-in-Some-read_begin.result few tells refl (c.take-in-Some-read_begin.ensures now stands)
 
+pub returns-in-Some-read_happening : goal.returns-in-Some-read_happening
+returns-in-Some-read_happening g c = λ now stands.
+    let tells = rw c.in-Some-read_happening.is at c.read_happening.ensures in
+    let few : c.args.number ≤ 5000000 = omega (arith, c.if-number-gt-LAST_LINE.false) in
+    judged now c.args.number c.args.line.now [] [] c.in-Some-read_happening.event (g.J.LineJudge.Stands c.take-in-Some-read_happening.new.self) c.take-in-Some-read_happening.result few tells refl (c.take-in-Some-read_happening.ensures now stands)
+
 pub returns-in-Some-2 : goal.returns-in-Some-2
 returns-in-Some-2 g c = λ now stands.
     let tells = rw c.in-Some-2.is at c.in_ok-told.ensures.found in
