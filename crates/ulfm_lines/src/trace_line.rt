@@ -1,5 +1,5 @@
 //! The lines of a trace, read.
-ghost use Rattle.std.specs.Prelude.{◌≡◌, [], List, ℕ, Some, IfOk, IfSome};
+ghost use Rattle.std.specs.Prelude.{◌≡◌, ◌≤◌, ◌++◌, [], List, ℕ, Some, IfOk, IfSome, length};
 ghost use Rattle.ulfm_script.specs.Words.{Gives, rest_at};
 ghost use Rattle.ulfm_lines.specs.Fields.{at_field};
 ghost use Rattle.ulfm_lines.specs.LineReading.{called_line, happened_line, line_head, line_listing, looked_line, replied_line, reply_listing};
@@ -47,18 +47,24 @@ pub fn read_line<A: Allocator>(
     }
 }
 
+/// What stands behind this beginning of a line that isn't too long, if the line begins so.
+#[inline(always)]
+fn short_behind<'a>(beginning: &[u8], line: &'a [u8]) -> Option<&'a [u8]>
+    ensures { IfSome result (λ rest. (length line.now ≤ 8192) × (line.now ≡ beginning.now ++ rest.now)) }
+{
+    if LONGEST < line.len() {
+        return None;
+    }
+    behind(beginning, line)
+}
+
 /// The look that a line tells, or none: what isn't read here, [`read_line`] reads. It is for who reads many lines, of which a third are looks: such a line
 /// is read in line, and nothing is kept of it in memory.
 #[inline(always)]
 pub fn read_look(line: &[u8]) -> Option<Line<FlagAnd>>
     ensures { IfSome result (λ told. TextTells line.now [] told) }
 {
-    if LONGEST < line.len() {
-        return None;
-    }
-    let Some(fields) = behind(b"look ", line) else {
-        return None;
-    };
+    let fields = short_behind(b"look ", line)?;
     match read_looked(Some(fields)) {
         Ok((Line::Looked { rank, failures }, None)) => Some(Line::Looked { rank, failures }),
         _ => None,
@@ -70,12 +76,7 @@ pub fn read_look(line: &[u8]) -> Option<Line<FlagAnd>>
 pub fn read_begin(line: &[u8]) -> Option<Line<FlagAnd>>
     ensures { IfSome result (λ told. TextTells line.now [] told) }
 {
-    if LONGEST < line.len() {
-        return None;
-    }
-    let Some(text) = behind(b"call ", line) else {
-        return None;
-    };
+    let text = short_behind(b"call ", line)?;
     match read_called(text) {
         Ok((Line::Called { call, padded }, None)) => Some(Line::Called { call, padded }),
         _ => None,
@@ -87,12 +88,7 @@ pub fn read_begin(line: &[u8]) -> Option<Line<FlagAnd>>
 pub fn read_happening(line: &[u8]) -> Option<Line<FlagAnd>>
     ensures { IfSome result (λ told. TextTells line.now [] told) }
 {
-    if LONGEST < line.len() {
-        return None;
-    }
-    let Some(fields) = behind(b"event ", line) else {
-        return None;
-    };
+    let fields = short_behind(b"event ", line)?;
     match read_happened(Some(fields)) {
         Ok((Line::Happened { by, event }, None)) => Some(Line::Happened { by, event }),
         _ => None,
