@@ -5,14 +5,19 @@ use Rattle.ulfm_model.specs.declared.reply.Reply.TheVariants as reply
 use Rattle.ulfm_script.specs.declared.line_kind.LineKind.{LineKind}
 use Rattle.ulfm_script.specs.{Printed.{ranks_text, reply_text, shrunk_text}, Spelling.{SpellsAs, spelled_text}}
 use Rattle.ulfm_script.proofs.Spelled.{spelled_as}
-use Rattle.ulfm_lines.specs.{Fields.{Field}, LineReading.{SomeReply, line_head, line_listing}, LineTexts.{TraceLine, caller_text, event_text, line_text}, Telling.{LineFits, ListsRanks, TextTells, TellsLine, TellsReply}}
+use Rattle.ulfm_lines.specs.{Fields.{Field, is_word_text}, LineReading.{SomeReply, line_from, line_head, line_listing}, LineTexts.{TraceLine, caller_text, event_text, line_text}, Telling.{LineFits, ListsRanks, TextTells, TellsLine, TellsReply}}
 use Rattle.ulfm_model.specs.declared.line.Line.TheVariants.{Called, Looked, Happened, Replied}
-use Rattle.ulfm_lines.proofs.{FieldLemmas.{same_field}, LineLemmas.{line_again, line_found}, RankLemmas.{ranks_few, ranks_once}}
+use Rattle.ulfm_lines.proofs.{Beginnings.{line_ahead}, FieldLemmas.{same_field}, LineLemmas.{line_again, line_found}, RankLemmas.{ranks_few, ranks_once}}
 
 -- what was read is told
 pub found_line : (text group : List ℕ) (head : TraceLine) (rest : Option (List ℕ)) → line_head text ≡ Ok (head, rest) → ListsRanks rest group true → length text ≤ 8192
     → TextTells text group (line_listing (length group) head)
 found_line text group head rest read lists short = (short, line_found text head rest read group lists.0 lists.1)
+
+-- a line that lists nobody is told so by what is read behind its verb
+pub listless : (verb text rest : List ℕ) (head : TraceLine) → is_word_text verb ≡ true → (length text ≤ 8192) × (text ≡ verb ++ 32 ∷ rest) → line_from (verb, Some rest) ≡ Ok (head, None)
+    → TextTells text [] (line_listing 0 head)
+listless verb text rest head word ahead read = found_line text [] head None (sym (line_ahead verb text rest word ahead.1) ∙ read) (tt, refl) ahead.0
 
 -- a line that is told is read, with its ranks
 pub only_line : (text group : List ℕ) (head : TraceLine) (rest : Option (List ℕ)) (told : TraceLine) (ranks : List ℕ) → line_head text ≡ Ok (head, rest) → ListsRanks rest group true → TextTells text ranks told

@@ -18,4 +18,4 @@ pub use step_line::read_step_line;
 pub use step_machine::{Reach, StepMachine, Taken, count_up};
 pub use step_name::{read_step_name, step_word};
 pub use teller::Teller;
-pub use trace_line::read_line;
+pub use trace_line::{read_begin, read_happening, read_line, read_look};

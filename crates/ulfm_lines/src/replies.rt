@@ -15,10 +15,25 @@ use ulfm_model::{Refusal, Reply, refusal_number};
 use ulfm_script::LineKind;
 use ulfm_script::words::{is_word, next_word};
 
-/// A reply, or none where it tells a context id that no communicator has; and the ranks that it lists, where it does.
-pub(crate) fn read_reply(
+/// A reply as [`read_reply`] reads it: those that most lines of a trace tell are compared first, as whole texts.
+pub(crate) fn reply_field(
     text: Option<&[u8]>,
 ) -> Result<(Option<Reply<FlagAnd>>, Option<&[u8]>), LineKind>
+    ensures { Gives at_field result (some_reply_of (rest_at text.entry)) }
+{
+    if let Some(word) = text {
+        if is_word(word, b"pending") {
+            return Ok((Some(Reply::Pending), None));
+        }
+        if is_word(word, b"started") {
+            return Ok((Some(Reply::Started), None));
+        }
+    }
+    read_reply(text)
+}
+
+/// A reply, or none where it tells a context id that no communicator has; and the ranks that it lists, where it does.
+fn read_reply(text: Option<&[u8]>) -> Result<(Option<Reply<FlagAnd>>, Option<&[u8]>), LineKind>
     ensures { Gives at_field result (some_reply_of (rest_at text.entry)) }
 {
     let Some(text) = text else {

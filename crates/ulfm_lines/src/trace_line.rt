@@ -1,5 +1,5 @@
 //! The lines of a trace, read.
-ghost use Rattle.std.specs.Prelude.{◌≡◌, List, ℕ, Some, IfOk, IfSome};
+ghost use Rattle.std.specs.Prelude.{◌≡◌, ◌≤◌, ◌++◌, [], List, ℕ, Some, IfOk, IfSome, length};
 ghost use Rattle.ulfm_script.specs.Words.{Gives, rest_at};
 ghost use Rattle.ulfm_lines.specs.Fields.{at_field};
 ghost use Rattle.ulfm_lines.specs.LineReading.{called_line, happened_line, line_head, line_listing, looked_line, replied_line, reply_listing};
@@ -8,7 +8,7 @@ ghost use Rattle.ulfm_lines.specs.Telling.{ListsRanks, TextTells};
 
 use crate::events::read_event;
 use crate::fields::{behind, caller_field, number_field, over, point_field, rank_field};
-use crate::replies::read_reply;
+use crate::replies::reply_field;
 use std::alloc::{AllocError, Allocator};
 use ulfm_laws::FlagAnd;
 use ulfm_model::{Line, Reply};
@@ -44,6 +44,54 @@ pub fn read_line<A: Allocator>(
             list(&mut told, group.len() as u16);
             Ok(Some(told))
         }
+    }
+}
+
+/// What stands behind this beginning of a line that isn't too long, if the line begins so.
+#[inline(always)]
+fn short_behind<'a>(beginning: &[u8], line: &'a [u8]) -> Option<&'a [u8]>
+    ensures { IfSome result (λ rest. (length line.now ≤ 8192) × (line.now ≡ beginning.now ++ rest.now)) }
+{
+    if LONGEST < line.len() {
+        return None;
+    }
+    behind(beginning, line)
+}
+
+/// The look that a line tells, or none: what isn't read here, [`read_line`] reads. It is for who reads many lines, of which a third are looks: such a line
+/// is read in line, and nothing is kept of it in memory.
+#[inline(always)]
+pub fn read_look(line: &[u8]) -> Option<Line<FlagAnd>>
+    ensures { IfSome result (λ told. TextTells line.now [] told) }
+{
+    let fields = short_behind(b"look ", line)?;
+    match read_looked(Some(fields)) {
+        Ok((Line::Looked { rank, failures }, None)) => Some(Line::Looked { rank, failures }),
+        _ => None,
+    }
+}
+
+/// The beginning of a call that a line tells, or none: what isn't read here, [`read_line`] reads. It is for who reads many lines, as [`read_look`] is.
+#[inline(always)]
+pub fn read_begin(line: &[u8]) -> Option<Line<FlagAnd>>
+    ensures { IfSome result (λ told. TextTells line.now [] told) }
+{
+    let text = short_behind(b"call ", line)?;
+    match read_called(text) {
+        Ok((Line::Called { call, padded }, None)) => Some(Line::Called { call, padded }),
+        _ => None,
+    }
+}
+
+/// The event that a line tells, or none: what isn't read here, [`read_line`] reads. It is for who reads many lines, as [`read_look`] is.
+#[inline(always)]
+pub fn read_happening(line: &[u8]) -> Option<Line<FlagAnd>>
+    ensures { IfSome result (λ told. TextTells line.now [] told) }
+{
+    let fields = short_behind(b"event ", line)?;
+    match read_happened(Some(fields)) {
+        Ok((Line::Happened { by, event }, None)) => Some(Line::Happened { by, event }),
+        _ => None,
     }
 }
 
@@ -144,6 +192,6 @@ fn read_replied(text: Option<&[u8]>) -> Result<(Line<FlagAnd>, Option<&[u8]>), L
 {
     let (by, rest) = caller_field(text)?;
     let (point, rest) = point_field(rest)?;
-    let (reply, rest) = read_reply(rest)?;
+    let (reply, rest) = reply_field(rest)?;
     Ok((Line::Replied { by, point, reply }, rest))
 }

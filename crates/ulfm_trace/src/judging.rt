@@ -8,7 +8,7 @@ use crate::line_judge::LineJudge;
 use crate::verdict::{CheckFault, Verdict};
 use std::alloc::{AllocError, Allocator};
 use std::io::Read;
-use ulfm_lines::read_line;
+use ulfm_lines::{read_begin, read_happening, read_line, read_look};
 use ulfm_model::Why;
 use ulfm_script::{HeaderKind, Input, LineEnd, RunFault, read_header};
 
@@ -127,6 +127,15 @@ fn judge_line<J: LineJudge<A>, A: Allocator>(
 {
     if number > LAST_LINE {
         return Ok(Some(Why::Text));
+    }
+    if let Some(look) = read_look(line) {
+        return judge.take(&look, &[]);
+    }
+    if let Some(call) = read_begin(line) {
+        return judge.take(&call, &[]);
+    }
+    if let Some(event) = read_happening(line) {
+        return judge.take(&event, &[]);
     }
     match read_line(line, group)? {
         Some(told) => judge.take(&told, group),
