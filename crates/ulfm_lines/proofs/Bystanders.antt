@@ -1,7 +1,8 @@
 -- What a line of a trace changes for a rank: another's line nothing but the history, and its own reply its record.
 use Rattle.std.proofs.Common.{◌≡◌, ℕ, zero, suc, ◌+◌, ◌<◌, ◌==◌, Bool, true, false, List, [], ◌∷◌, ◌++◌, find, map, take, Option, Some, None, is_some, refl, ap, sym, ◌∙◌, arith, append-nil, if◌then◌else◌}
 use Rattle.std.proofs.lemmas.Bool.{eqb-false, ne_eqb}
-use Rattle.std.proofs.lemmas.List.{map-append}
+use Rattle.std.proofs.lemmas.{List.{map-append}, List.Folds.{find-append}}
+use Rattle.std.specs.Option.{option_or}
 use Rattle.ulfm_model.specs.declared.{event.Caller.{Caller}, limits.Limits.{Limits}, reply.Reply.{Reply}}
 use Rattle.ulfm_model.specs.declared.line.Line.{Line}
 use Rattle.ulfm_model.specs.{History.{History, first_ranks}, Records.{Record, new_record}}
@@ -9,15 +10,6 @@ use Rattle.ulfm_model.specs.Traces.{Traced, Under, after, after_reply, call_by, 
 use Rattle.ulfm_model.proofs.{Kept.{find_other_record}, LeftRuns.{left_keeps}}
 use Rattle.ulfm_lines.specs.Callers.{line_by}
 use Rattle.ulfm_lines.proofs.Calls.{find_behind, find_kept, find_unchanged, keeps_asked}
-
--- a call that begins is found where none was
-pub find_push : {X : Type 0} (p : X → Bool) (xs : List X) (x : X) → find p xs ≡ None → p x ≡ true → find p (xs ++ x ∷ []) ≡ Some x
-find_push p [] x none is = ap (λ (b : Bool). if b then Some x else None) is
-find_push {X} p (y ∷ ys) x none is = go (p y) none (λ more. find_push p ys x more is)
-  where
-    go : (b : Bool) → (if b then Some y else find p ys) ≡ None → (find p ys ≡ None → find p (ys ++ x ∷ []) ≡ Some x) → (if b then Some y else find p (ys ++ x ∷ [])) ≡ Some x
-    go true none more = absurd (cc none)
-    go false none more = more none
 
 -- the record that is changed is found
 pub find_changed : (r : ℕ) (f : Record → Record) → ((own : Record) → (f own).number ≡ own.number) → (records : List Record) (own : Record) → find (λ x. x.number == r) records ≡ Some own
@@ -37,21 +29,15 @@ find_changed r f keeps (x ∷ xs) own is = go (x.number == r) refl is (λ more. 
 
 -- what is found in a list is found with more behind it
 pub find_append : {X : Type 0} (p : X → Bool) (xs ys : List X) (x : X) → find p xs ≡ Some x → find p (xs ++ ys) ≡ Some x
-find_append p [] ys x is = absurd (cc is)
-find_append {X} p (y ∷ xs) ys x is = go (p y) is (find_append p xs ys x)
-  where
-    go : (b : Bool) → (if b then Some y else find p xs) ≡ Some x → (find p xs ≡ Some x → find p (xs ++ ys) ≡ Some x) → (if b then Some y else find p (xs ++ ys)) ≡ Some x
-    go true is more = is
-    go false is more = more is
+find_append p xs ys x is = find-append p xs ys ∙ ap (λ o. option_or o (find p ys)) is
 
 -- what is not found there is looked for behind it
 find_beyond : {X : Type 0} (p : X → Bool) (xs ys : List X) → find p xs ≡ None → find p (xs ++ ys) ≡ find p ys
-find_beyond p [] ys none = refl
-find_beyond {X} p (y ∷ xs) ys none = go (p y) none (find_beyond p xs ys)
-  where
-    go : (b : Bool) → (if b then Some y else find p xs) ≡ None → (find p xs ≡ None → find p (xs ++ ys) ≡ find p ys) → (if b then Some y else find p (xs ++ ys)) ≡ find p ys
-    go true none more = absurd (cc none)
-    go false none more = more none
+find_beyond p xs ys none = find-append p xs ys ∙ ap (λ o. option_or o (find p ys)) none
+
+-- a call that begins is found where none was
+pub find_push : {X : Type 0} (p : X → Bool) (xs : List X) (x : X) → find p xs ≡ None → p x ≡ true → find p (xs ++ x ∷ []) ≡ Some x
+find_push p xs x none is = find_beyond p xs (x ∷ []) none ∙ ap (λ (b : Bool). if b then Some x else None) is
 
 -- the records of the first n ranks
 module _ (limits : Limits) where

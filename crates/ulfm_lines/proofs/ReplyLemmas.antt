@@ -98,21 +98,8 @@ refusal_found number name found e =
 -- the name of a refusal can be a word, and both are read
 refusal_again : (one : Refusal) → IsTold one → ((printed one).0 < 10000) × IsWord (printed one).1 × (read_refusal (printed one).0 (printed one).1 ≡ Ok one)
 unfolding read_refusal
-refusal_again refusal.SelfFailed h = (omega arith, literal _ refl, refl)
-refusal_again refusal.NoSuchComm h = (omega arith, literal _ refl, refl)
-refusal_again refusal.Busy h = (omega arith, literal _ refl, refl)
-refusal_again refusal.ShrinkOpen h = (omega arith, literal _ refl, refl)
-refusal_again refusal.RoundsUsedUp h = (omega arith, literal _ refl, refl)
-refusal_again refusal.Idle h = (omega arith, literal _ refl, refl)
-refusal_again refusal.Mismatch h = (omega arith, literal _ refl, refl)
-refusal_again refusal.NoContext h = (omega arith, literal _ refl, refl)
-refusal_again refusal.NoRoom h = (omega arith, literal _ refl, refl)
-refusal_again refusal.IsRevoked h = (omega arith, literal _ refl, refl)
-refusal_again refusal.ProcFailed h = (omega arith, literal _ refl, refl)
-refusal_again refusal.WorldKept h = (omega arith, literal _ refl, refl)
-refusal_again refusal.NoSuchRank h = (omega arith, literal _ refl, refl)
 refusal_again refusal.OutOfMemory h = absurd (h refl)
-refusal_again refusal.Twice h = (omega arith, literal _ refl, refl)
+refusal_again _ h = (omega arith, literal _ refl, refl)
 
 abbrev with_rest : {A : Type 0} → A → Option (List ℕ) → Field A
 with_rest x rest = Ok (x, rest)

@@ -41,33 +41,11 @@ names_found word (Err kind) e = tt
 pub name_again : (found : StepName) → read_step_name (step_text found) ≡ Ok found
 unfolding read_step_name
 name_again name.List = refl
-name_again name.Settle = refl
-name_again name.Block = refl
-name_again name.Mark = refl
-name_again name.Slot = refl
-name_again name.Cache = refl
-name_again name.Wing = refl
-name_again name.Comm = refl
-name_again name.Spawn = refl
-name_again name.Arrive = refl
-name_again name.Arrival = refl
-name_again name.Revoke = refl
-name_again name.Revocation = refl
+name_again _ = refl
 
 name_is_word : (found : StepName) → IsWord (step_text found)
 name_is_word name.List = literal _ refl
-name_is_word name.Settle = literal _ refl
-name_is_word name.Block = literal _ refl
-name_is_word name.Mark = literal _ refl
-name_is_word name.Slot = literal _ refl
-name_is_word name.Cache = literal _ refl
-name_is_word name.Wing = literal _ refl
-name_is_word name.Comm = literal _ refl
-name_is_word name.Spawn = literal _ refl
-name_is_word name.Arrive = literal _ refl
-name_is_word name.Arrival = literal _ refl
-name_is_word name.Revoke = literal _ refl
-name_is_word name.Revocation = literal _ refl
+name_is_word _ = literal _ refl
 
 -- lines
 

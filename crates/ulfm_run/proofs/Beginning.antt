@@ -1,5 +1,5 @@
 -- A call that begins.
-use Rattle.std.proofs.Common.{◌≡◌, Bool, true, false, List, [], ◌∷◌, ◌++◌, length, find, take, Some, None, refl, ap, sym, ◌∙◌, subst, arith, inl, if◌then◌else◌}
+use Rattle.std.proofs.Common.{◌≡◌, Bool, true, false, [], length, Some, None, refl, ap, sym, ◌∙◌, subst, arith, inl}
 use Rattle.ulfm_model.specs.declared.{call.Call.{Call}, event.Caller.TheVariants.{Rank}, refusal.Refusal.TheVariants.{SelfFailed}, reply.Reply.{Reply}, reply.Reply.TheVariants.{Refused}}
 use Rattle.ulfm_model.specs.{Answers.{comm_of, traits_of}, Records.{Record}}
 use Rattle.ulfm_words.specs.Steps.{Sight, Over, view_at}
@@ -7,20 +7,11 @@ use Rattle.ulfm_comm.specs.Phase.{Stands, UnderWay, is_looking}
 use Rattle.ulfm_comm.specs.declared.phases.phase.{Phase.TheVariants.{Begun}}
 use Rattle.ulfm_comm.specs.Local.{local}
 use Rattle.ulfm_model.specs.declared.line.Line.TheVariants.{Called}
-use Rattle.ulfm_model.proofs.LeftRuns.{left_keeps}
 use Rattle.ulfm_model.specs.Traces.{AnswersRank, MayCome, Traced, Under, after, after_reply, call_by, same_caller, taken_in}
 use Rattle.ulfm_run.specs.Stepping.{HasBegun, IsIdle}
-use Rattle.ulfm_run.proofs.{Ending.{find_changed, find_gone}, Reseen.{reseen}, Turns.{EndsSo}}
+use Rattle.ulfm_lines.proofs.{Bystanders.{find_push, own_record}, Calls.{find_left_out}}
+use Rattle.ulfm_run.proofs.{Reseen.{reseen}, Turns.{EndsSo}}
 use Rattle.ulfm_model.proofs.Callers.{same_rank}
-
--- what is put behind a list without such an element is found
-pub find_push : {X : Type 0} (p : X → Bool) (xs : List X) (x : X) → find p xs ≡ None → p x ≡ true → find p (xs ++ x ∷ []) ≡ Some x
-find_push p [] x none is = ap (λ (b : Bool). if b then Some x else None) is
-find_push {X} p (y ∷ ys) x none is = go (p y) none (λ more. find_push p ys x more is)
-  where
-    go : (b : Bool) → (if b then Some y else find p ys) ≡ None → (find p ys ≡ None → find p (ys ++ x ∷ []) ≡ Some x) → (if b then Some y else find p (ys ++ x ∷ [])) ≡ Some x
-    go true none more = absurd (cc none)
-    go false none more = more none
 
 module _ {P : Type 0} (meld : P → P → P) (name : Over P) (now : Traced P) (pass : Sight P) (own : Record) (idle : IsIdle meld name now pass own) (asked : Call P) (mine : (traits_of asked).by ≡ Rank own.number) where
   abbrev told : Traced P
@@ -39,17 +30,19 @@ module _ {P : Type 0} (meld : P → P → P) (name : Over P) (now : Traced P) (p
   pub begun : (doing : UnderWay P) → doing.asked ≡ asked → own.refused ≡ false → doing.phase ≡ Begun → Stands meld false (local own (view_at name pass)) doing (local own (view_at name pass)) → HasBegun meld name told pass own doing
   begun doing asked_is in_use phase stands =
       record {
-        limits = idle.limits;
-        history = idle.history;
         u = u;
-        call = call_is;
-        asked = sym asked_is;
         old = own;
-        seen = idle.seen;
-        record_is = idle.record_is;
+        known = record {
+          limits = idle.limits;
+          history = idle.history;
+          call = call_is;
+          asked_is = sym asked_is;
+          seen = idle.seen;
+          record_is = idle.record_is;
+          in_use = in_use;
+        };
         number = refl;
         looking = ap is_looking phase;
-        in_use = in_use;
         stands = stands;
         begun = omega (arith, ap length idle.history);
         look = refl;
@@ -69,10 +62,9 @@ module _ {P : Type 0} (meld : P → P → P) (name : Over P) (now : Traced P) (p
         record {
           limits = idle.limits;
           history = idle.history;
-          free = find_gone (Rank own.number) told.calls;
+          free = find_left_out (Rank own.number) told.calls;
           seen = idle.seen;
-          record_is = find_changed own.number (taken_in told u (length pass.seen) answer) (λ x. (left_keeps told.limits.ranks (take (length pass.seen) told.history) (reseen x x.seen) asked answer).0) told.records (reseen own idle.seen) idle.record_is
-              ∙ ap Some same;
+          record_is = own_record told own.number u (length pass.seen) answer (reseen own idle.seen) idle.record_is ∙ ap Some same;
           fits = idle.fits;
         }
 

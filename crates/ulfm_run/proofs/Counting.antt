@@ -53,7 +53,7 @@ sits_next name now pass own found doing (inr called) =
     has_next doing.phase
     (λ is.
     let at = subst (λ phase. StandsAt flag_meld false doing.asked (local called.old (view_at (flag_words name) called.before)) phase doing.prepared (local own (view_at (flag_words name) called.stood))) is called.stands.at in
-    absurd (cc (at.0, called.in_use)))
+    absurd (cc (at.0, called.known.in_use)))
 
 -- the step that is named is one atomic step
 pub counted : (name : Name) (now : Traced FlagAnd) (pass after : Sight FlagAnd) (seat : FlagSeat) (r c : ℕ) → Sits flag_meld (flag_words name) now pass seat → IsTrue (is_some seat.call) → MakesStep (next_in seat.call) r c pass after → after.steps ≡ pass.steps + 1

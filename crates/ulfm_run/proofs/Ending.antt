@@ -13,6 +13,7 @@ use Rattle.ulfm_comm.specs.Ends.{IsEndRun}
 use Rattle.ulfm_comm.proofs.ReplyKinds.{answered_on, counted_seen}
 use Rattle.ulfm_model.specs.declared.line.Line.TheVariants.{Replied}
 use Rattle.ulfm_model.specs.Traces.{AnswersRank, MayCome, Traced, Under, after_reply, call_by, caller_of, found_by, listed, record_in, same_caller, taken_in}
+use Rattle.ulfm_lines.proofs.{Bystanders.{own_record}, Calls.{find_left_out}}
 use Rattle.ulfm_run.specs.{Seats.{HoldsGroup, MayList}, Stepping.{IsIdle, is_early}}
 use Rattle.ulfm_run.proofs.{Reseen.{answer_reseen, left_reseen, reseen}, Turns.{EndsSo}}
 
@@ -21,32 +22,6 @@ pub found_is : {P : Type 0} (now : Traced P) (u : Under P) (start : History P) �
 found_is now u start look begins =
     let more = failures_begin start now.history begins in
     ap (λ (n : Option ℕ). take (unwrap_or n 0) (failures now.history)) look ∙ (ap (take (length (failures start))) (sym more.1) ∙ take-append_seam (failures start) more.0)
-
--- whose calls are taken out is not found
-pub find_gone : {P : Type 0} (by : Caller) (calls : List (Under P)) → find (λ v. same_caller (caller_of v) by) (filter (λ v. not (same_caller (caller_of v) by)) calls) ≡ None
-find_gone by [] = refl
-find_gone {P} by (u ∷ calls) = go (same_caller (caller_of u) by) refl (find_gone by calls)
-  where
-    go : (b : Bool) → same_caller (caller_of u) by ≡ b → find (λ v. same_caller (caller_of v) by) (filter (λ v. not (same_caller (caller_of v) by)) calls) ≡ None
-        → find (λ v. same_caller (caller_of v) by) (if not b then u ∷ filter (λ v. not (same_caller (caller_of v) by)) calls else filter (λ v. not (same_caller (caller_of v) by)) calls) ≡ None
-    go true is none = none
-    go false is none = ap (λ (b : Bool). if b then Some u else find (λ v. same_caller (caller_of v) by) (filter (λ v. not (same_caller (caller_of v) by)) calls)) is ∙ none
-
--- the record that is changed is found
-pub find_changed : (r : ℕ) (f : Record → Record) → ((own : Record) → (f own).number ≡ own.number) → (records : List Record) (own : Record) → find (λ x. x.number == r) records ≡ Some own
-    → find (λ x. x.number == r) (map (λ x. if x.number == r then f x else x) records) ≡ Some (f own)
-find_changed r f keeps [] own is = absurd (cc is)
-find_changed r f keeps (x ∷ xs) own is = go (x.number == r) refl is (λ more. find_changed r f keeps xs own more)
-  where
-    others : List Record
-    others = map (λ y. if y.number == r then f y else y) xs
-
-    go : (b : Bool) → x.number == r ≡ b → (if b then Some x else find (λ y. y.number == r) xs) ≡ Some own → (find (λ y. y.number == r) xs ≡ Some own → find (λ y. y.number == r) others ≡ Some (f own))
-        → find (λ y. y.number == r) ((if b then f x else x) ∷ others) ≡ Some (f own)
-    go true here is more =
-        let same : x ≡ own = cc is in
-        ap (λ (b : Bool). if b then Some (f x) else find (λ y. y.number == r) others) (ap (λ n. n == r) (keeps x) ∙ here) ∙ ap (λ w. Some (f w)) same
-    go false here is more = ap (λ (b : Bool). if b then Some x else find (λ y. y.number == r) others) here ∙ more is
 
 -- what is put last is found, or something before it
 find_some : (c : ℕ) (xs : List Held) (y : Held) → y.comm == c ≡ true → (x : Held) × (find (λ z. z.comm == c) (xs ++ y ∷ []) ≡ Some x)
@@ -81,35 +56,13 @@ module _ {P : Type 0} (meld : P → P → P) (limits : Limits) (start at : Histo
         holds_group meld limits at new fits (comm_of asked) on.x (ap (λ (w : Record). held_at w (comm_of asked)) run.answer.leaves.record_is ∙ on.held),
         counted_seen meld limits false start at old asked (reply_of.FailedGroup count) new run count refl ∙ ap failures ended.at_end,
       )
-  may_list reply_of.Started ended = tt
-  may_list reply_of.Pending ended = tt
-  may_list (reply_of.Agreed value count raised) ended = tt
-  may_list reply_of.Done ended = tt
-  may_list (reply_of.Acked count) ended = tt
-  may_list reply_of.Declared ended = tt
-  may_list reply_of.AlreadyFailed ended = tt
-  may_list reply_of.Revoked ended = tt
-  may_list reply_of.AlreadyRevoked ended = tt
-  may_list (reply_of.Standing revoked) ended = tt
-  may_list reply_of.Freed ended = tt
-  may_list (reply_of.Refused refusal) ended = tt
+  may_list _ ended = tt
 
 -- an early reply lists nobody
 pub lists_none : {P : Type 0} (ranks : ℕ) (h : History P) (c : ℕ) (reply : Reply P) (own : Record) → is_early reply ≡ true → MayList ranks h c reply own
 lists_none ranks h c (reply_of.Shrunk j context size) own early = absurd (cc early)
 lists_none ranks h c (reply_of.FailedGroup count) own early = absurd (cc early)
-lists_none ranks h c reply_of.Started own early = tt
-lists_none ranks h c reply_of.Pending own early = tt
-lists_none ranks h c (reply_of.Agreed value count raised) own early = tt
-lists_none ranks h c reply_of.Done own early = tt
-lists_none ranks h c (reply_of.Acked count) own early = tt
-lists_none ranks h c reply_of.Declared own early = tt
-lists_none ranks h c reply_of.AlreadyFailed own early = tt
-lists_none ranks h c reply_of.Revoked own early = tt
-lists_none ranks h c reply_of.AlreadyRevoked own early = tt
-lists_none ranks h c (reply_of.Standing revoked) own early = tt
-lists_none ranks h c reply_of.Freed own early = tt
-lists_none ranks h c (reply_of.Refused refusal) own early = tt
+lists_none ranks h c _ own early = tt
 
 -- The judge's test of a reply holds at `at`, of which the pass has seen more, `later`; the look was made at `start`. Then its line may come.
 module _ {P : Type 0} (meld : P → P → P) (name : Over P) (t : Traced P) (after_it : Sight P) (r : ℕ) (old : Record) (seen : List ℕ) (u : Under P) (asked : Call P) (start at rest later : History P) (reply : Reply P) (new : Record)
@@ -164,18 +117,15 @@ module _ {P : Type 0} (meld : P → P → P) (name : Over P) (t : Traced P) (aft
       ∙ (ap (λ a. left_by name.limits.ranks at (reseen old (failures start)) a reply) asked_t
       ∙ (left_reseen name.limits.ranks at (reseen old new.seen) (failures start) asked reply ∙ ap (λ w. reseen w (failures start)) (sym left)))))
 
-  keeps : (own : Record) → (taken_in t u (length at) reply own).number ≡ own.number
-  keeps own = (left_keeps t.limits.ranks (take (length at) t.history) (reseen own (if is_some u.look then found_by t u else own.seen)) u.asked reply).0
-
   idle : IsIdle meld name (after_reply t (Rank r) (length at) reply (Some u)) after_it new
   idle =
       record {
         limits = limits_t;
         history = history_t;
-        free = subst (λ n. find (λ v. same_caller (caller_of v) (Rank n)) (filter (λ v. not (same_caller (caller_of v) (Rank r))) t.calls) ≡ None) (sym number_is) (find_gone (Rank r) t.calls);
+        free = subst (λ n. find (λ v. same_caller (caller_of v) (Rank n)) (filter (λ v. not (same_caller (caller_of v) (Rank r))) t.calls) ≡ None) (sym number_is) (find_left_out (Rank r) t.calls);
         seen = failures start;
         record_is = subst (λ n. find (λ own. own.number == n) (map (λ own. if own.number == r then taken_in t u (length at) reply own else own) t.records) ≡ Some (reseen new (failures start))) (sym number_is)
-            (find_changed r (taken_in t u (length at) reply) keeps t.records (reseen old seen) record_t ∙ ap Some taken);
+            (own_record t r u (length at) reply (reseen old seen) record_t ∙ ap Some taken);
         fits = fits;
       }
 

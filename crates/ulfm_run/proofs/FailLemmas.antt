@@ -10,9 +10,10 @@ use Rattle.ulfm_script.specs.Ends.{HasFault, HasRunAll, KnownText, RunSoFar, Tak
 use Rattle.ulfm_model.specs.declared.{line.Line.{Line}, step_line.StepLine.TheVariants.{Before, Called, Failed, Finished, Stepped}}
 use Rattle.ulfm_model.specs.{Follows.{EndsInReply, Follows, IsAtOnce, IsPiece, fail_piece, is_reply, steps_in, takes_step}, Traces.{AreLegalAfter, IsOpen, Told, Under, after, after_reply, call_by, nothing, said_by}}
 use Rattle.ulfm_model.proofs.Parts.{legal_append, said_append}
-use Rattle.ulfm_lines.proofs.{Calls.{opens_all, opens_append, said_opens}, Joined.{all_append, ends_append, lines_append, steps_append}, Taking.{taken_steps}}
+use Rattle.ulfm_lines.proofs.{Calls.{opens_all, opens_append, said_opens}, Joined.{all_append, ends_append, lines_append, steps_append}, Taking.{taken_as, taken_steps}}
 use Rattle.ulfm_lines.specs.{LineTexts.{lines_text}, StepLines.{ScriptStep, step_line_of}, Stepped.{IsOpenCall, TellsStep, TraceState}, Walked.{IsCountOf, IsTaken, TellsSteps, to_the_end}}
 use Rattle.ulfm_lines.specs.declared.step_machine.{Reach.{Reach}, Taken.{Taken}, Taken.TheVariants.{Open as IsOpenStill, Run}}
+use Rattle.ulfm_script.proofs.RunLemmas.{ran_all_as}
 use Rattle.ulfm_run.specs.{FailingScripts.{DeclaresIfDue, EngineState, FailsAfter, FindsOpenBehind, HasFailed, LeavesDue, LeavesOut, LeavesSoFar, Lines, RestsAt, RunsFailing, RunsStep, StandsSoFar, TakesStepLine, TellsWalk, behind_of, failing_scripts, fewer, ranks_event, ranks_events, up_to}, StepScripts.{first_line, trace_text}}
 use Rattle.ulfm_run.specs.declared.plan.Failing.{Failing}
 use Rattle.ulfm_run.proofs.TraceLemmas.{follows_append}
@@ -365,25 +366,16 @@ not_cut at made n sum (inr full) most early = λ is. absurd (omega (arith, full.
 module _ (After : TraceState → Type 0) (now : TraceState) (q : ℕ) (reach : Reach) where
   -- a walk that was cut to the steps before the declaration, and ended before
   pub taken_cut : (left n : ℕ) (old new : List ℕ) (t : TellsSteps After now q (up_to left reach) n old new) → n ≢ left → IsTaken now q reach t.piece
-  taken_cut left n old new t other = record {
-    by = t.by;
-    few = λ most is. few most is;
-    before = t.before;
-    ends = λ is was. t.ends was (over is (t.stops (ap (λ (x : Reach). x.name) is)));
-  }
+  taken_cut left n old new t other = taken_as After now q (up_to left reach) reach n old new t refl few unreached
     where
-      few : (most : ℕ) → reach.most ≡ Some most → steps_in t.piece ≤ most
-      few most is =
-          let one = t.within (fewer left reach.most) refl in
-          let two = fewer_most left reach.most most is in
-          let three = t.few in omega (arith, one, two, three)
+      few : (most : ℕ) → reach.most ≡ Some most → t.count ≤ most
+      few most is = let one = t.within (fewer left reach.most) refl in let two = fewer_most left reach.most most is in omega (arith, one, two)
 
-      over : reach ≡ to_the_end → (¬ IsOpen (said_by now t.piece) (Caller.Rank q)) ⊎ (Some (fewer left reach.most) ≡ Some n) → ¬ IsOpen (said_by now t.piece) (Caller.Rank q)
-      over is (inl closed) = closed
-      over is (inr reached) =
+      unreached : reach ≡ to_the_end → Some (fewer left reach.most) ≢ Some n
+      unreached is reached =
           let left_is : fewer left reach.most ≡ left = ap (λ (x : Reach). fewer left x.most) is in
           let same : fewer left reach.most ≡ n = cc reached in
-          absurd (other (sym same ∙ left_is))
+          other (sym same ∙ left_is)
 
   -- a walk in two parts, with the declaration in between
   module _ (Later : TraceState → Type 0) (next : TraceState) (left n m : ℕ) (fits : left ≤ 4294967295) (old new mid last : List ℕ) (t : TellsSteps After now q (up_to left reach) n old new)
@@ -428,7 +420,7 @@ within_plan steps made at count left (inl is) below fits left_is few = omega (ar
 within_plan steps made at count left (inr full) below fits left_is few = omega (arith, full.0, full.1, below, fits, left_is, few)
 
 -- the first part of a walk, up to the declaration
-pub stands_first_part : (was : EngineState) (After : TraceState → Type 0) (limits : Limits) (trace rest : Lines) (at : StandsSoFar was limits trace rest) (q : ℕ) (reach : Reach) (left n sum : ℕ) (new : List ℕ)
+stands_first_part : (was : EngineState) (After : TraceState → Type 0) (limits : Limits) (trace rest : Lines) (at : StandsSoFar was limits trace rest) (q : ℕ) (reach : Reach) (left n sum : ℕ) (new : List ℕ)
     (t : TellsSteps After (said_by (nothing limits) trace) q (up_to left reach) n was.text new) → IsCountOf (was.made + n) sum → left ≡ was.plan.at - was.made → was.plan.at ≤ 4294967295
     → StandsSoFar (further was After sum new) limits (trace ++ t.piece) (rest ++ t.piece)
 stands_first_part was After limits trace rest at q reach left n sum new t all left_is fits =
@@ -458,7 +450,7 @@ module _ (limits : Limits) (q : ℕ) (reach : Reach) (trace rest : Lines) where
   }
 
   -- one that ended before the declaration
-  pub walk_cut : (was later : EngineState) (After : TraceState → Type 0) (left n : ℕ) (new : List ℕ) (t : TellsSteps After said q (up_to left reach) n was.text new)
+  walk_cut : (was later : EngineState) (After : TraceState → Type 0) (left n : ℕ) (new : List ℕ) (t : TellsSteps After said q (up_to left reach) n was.text new)
       → n ≢ left → RestsAt later limits (trace ++ t.piece) (rest ++ t.piece) → later.text ≡ new → TellsWalk was later limits trace rest q reach
   walk_cut was later After left n new t other at same = record {
     whole = t.piece;
@@ -499,7 +491,7 @@ module _ (limits : Limits) (q : ℕ) (reach : Reach) (trace rest : Lines) where
         ∙ (append_assoc was.text (lines_text t.piece) (lines_text declaration ++ lines_text u.piece)
         ∙ ap (λ (x : List ℕ). was.text ++ x) (ap (λ (x : List ℕ). lines_text t.piece ++ x) (sym (lines_append declaration u.piece)) ∙ sym (lines_append t.piece (declaration ++ u.piece))))))
 
-    pub walk_both : TellsWalk was (further mid Later sum last) limits trace rest q reach
+    walk_both : TellsWalk was (further mid Later sum last) limits trace rest q reach
     walk_both = record {
       whole = whole;
       piece = t.piece ++ u.piece;
@@ -507,6 +499,32 @@ module _ (limits : Limits) (q : ℕ) (reach : Reach) (trace rest : Lines) where
       taken = taken_both After said q reach Later (said_by (nothing limits) ((trace ++ t.piece) ++ declaration)) left n m fits was.text new mid.text last t u then_same;
       told = texts;
     }
+
+  -- a walk whose first part goes up to the declaration, and what is said of that declaration then
+  module _ (was new : EngineState) (After : TraceState → Type 0) (at : StandsSoFar was limits trace rest) (left n sum : ℕ) (text : List ℕ)
+      (tells : (now : TraceState) → was.Says now → TellsSteps After now q (up_to left reach) n was.text text) (all : IsCountOf (was.made + n) sum)
+      (left_is : left ≡ was.plan.at - was.made) (fits : was.plan.at ≤ 4294967295) (due : Bool)
+      (declares : (told behind : Lines) → StandsSoFar (further was After sum text) limits told behind → DeclaresIfDue (further was After sum text) new limits told behind due) where
+    abbrev first : TellsSteps After said q (up_to left reach) n was.text text
+    first = tells said at.says
+
+    declared_then : DeclaresIfDue (further was After sum text) new limits (trace ++ first.piece) (rest ++ first.piece) due
+    declared_then = declares (trace ++ first.piece) (rest ++ first.piece) (stands_first_part was After limits trace rest at q reach left n sum text first all left_is fits)
+
+    -- it wasn't due, and the walk was over
+    pub walk_before : due ≡ false → sum < was.plan.at → TellsWalk was new limits trace rest q reach
+    walk_before is early =
+        let d = not_due (further was After sum text) new limits (trace ++ first.piece) (rest ++ first.piece) due is declared_then in
+        let other = not_cut was.plan.at was.made n sum all fits early in
+        walk_cut was new After left n text first (λ same. other (same ∙ left_is)) d.0 d.1
+
+    -- it was due, and the walk goes on behind it
+    pub walk_behind : due ≡ true → (Later : TraceState → Type 0) (m total : ℕ) (last : List ℕ)
+        → ((now : TraceState) → new.Says now → TellsSteps Later now q (behind_of n reach) m new.text last) → IsCountOf (new.made + m) total → TellsWalk was (further new Later total last) limits trace rest q reach
+    walk_behind is Later m total last goes counted =
+        let d = is_due (further was After sum text) new limits (trace ++ first.piece) (rest ++ first.piece) due is declared_then in
+        walk_both was new Later After d.0 left n m total (omega (arith, left_is, fits)) text last first d.1 d.2 d.3.stands d.4
+        (goes (said_by (nothing limits) ((trace ++ first.piece) ++ d.1)) d.3.stands.says) counted
 
 -- a walk is the piece of its line
 pub walk_step : (old new : EngineState) (limits : Limits) (trace rest : Lines) (q : ℕ) (reach : Reach) (step : ScriptStep)
@@ -569,14 +587,16 @@ cleared was text = record was { text = text }
 module _ (plan : Failing) (was own : EngineState) (before : RunSoFar failing_scripts) (line : List ℕ) (step : ScriptStep)
     (h : HasFailed plan was before.heading.limits before.items before.out) (e : step_line_of line ≡ Ok step) where
   -- the lines that were told before stand
-  pub rests_cleared : (text : List ℕ) → RestsAt (cleared was text) before.heading.limits h.trace h.rest
+  rests_cleared : (text : List ℕ) → RestsAt (cleared was text) before.heading.limits h.trace h.rest
   rests_cleared text = retold was text before.heading.limits h.trace h.rest h.rests
 
   -- a line was run
-  pub takes_failing : (text : List ℕ) → text ≡ [] → own.plan ≡ was.plan → RunsStep (cleared was text) own before.heading.limits h.trace h.rest step
+  pub takes_failing : (text : List ℕ) → text ≡ [] → own.plan ≡ was.plan
+      → (RestsAt (cleared was text) before.heading.limits h.trace h.rest → RunsStep (cleared was text) own before.heading.limits h.trace h.rest step)
       → TakesItem failing_scripts (λ heading. HasFailed plan own heading.limits) before (step_line_of line) own.text (Ok tt)
-  takes_failing text none same t =
+  takes_failing text none same runs =
       let limits = before.heading.limits in
+      let t = runs (rests_cleared text) in
       let told : own.text ≡ lines_text t.whole = t.told ∙ ap (λ (x : List ℕ). x ++ lines_text t.whole) none in
       let follows : Follows (nothing limits) (before.items ++ step ∷ []) (h.rest ++ t.piece) =
       follows_append (nothing limits) before.items (step ∷ []) h.rest t.piece h.follows
@@ -596,9 +616,11 @@ module _ (plan : Failing) (was own : EngineState) (before : RunSoFar failing_scr
       )
 
   -- a line begins a call of a rank that has one under way
-  pub finds_failing : IsOpenCall (said_by (nothing before.heading.limits) h.trace) step → HasFault failing_scripts before (step_line_of line) Open
+  pub finds_failing : (text : List ℕ) → (RestsAt (cleared was text) before.heading.limits h.trace h.rest → IsOpenCall (said_by (nothing before.heading.limits) h.trace) step × (own.text ≡ text))
+      → HasFault failing_scripts before (step_line_of line) Open
   unfolding fails_after
-  finds_failing is =
+  finds_failing text finds =
+      let is = (finds (rests_cleared text)).0 in
       let lines : List ScriptStep = before.items in
       let found : (behind : List ScriptStep) → FindsOpenBehind before.heading.limits (lines ++ step ∷ behind) (length lines + 2) Open before.out = λ behind. record {
         first = lines;
@@ -619,14 +641,5 @@ module _ (plan : Failing) (was own : EngineState) (before : RunSoFar failing_scr
 -- what was run by a plan fails its rank
 pub all_failing : (plan : Failing) (own : EngineState) (known old new : KnownText) → HasRunAll failing_scripts (λ heading. HasFailed plan own heading.limits) known (Appends old new)
     → RunsFailing plan.at plan.rank own.made known old new
-all_failing plan own known old new h =
-    record {
-      text = h.text;
-      heading = h.heading;
-      items = h.items;
-      out = h.out;
-      whole = h.whole;
-      script_is = h.script_is;
-      has_run = subst (λ (x : Failing). FailsAfter x.at x.rank own.made h.heading.limits h.items h.out) h.has_run.plan_is (fails_after plan own h.heading.limits h.items h.out h.has_run);
-      told = h.told;
-    }
+all_failing plan own known old new h = ran_all_as h (λ heading items out has. subst (λ (x : Failing). FailsAfter x.at x.rank own.made heading.limits items out) has.plan_is
+    (fails_after plan own heading.limits items out has)) (λ out told. told)

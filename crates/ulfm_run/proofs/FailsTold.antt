@@ -8,10 +8,10 @@ use Rattle.ulfm_model.proofs.Histories.{legal_parts}
 use Rattle.ulfm_words.specs.Steps.{Sight, Over, view_at}
 use Rattle.ulfm_comm.specs.Fails.{Fails}
 use Rattle.ulfm_model.specs.declared.{line.Line.{Line}, step_line.StepLine.{StepLine}}
-use Rattle.ulfm_model.specs.{Follows.{Runs, fail_piece}, Traces.{MayCome, Traced, Under, after, after_reply, call_by, caller_of, is_owned, listed, said_by, same_caller, view_at as point_at, with_event}}
+use Rattle.ulfm_model.specs.{Follows.{Runs, fail_piece}, Traces.{MayCome, Traced, Under, after, after_reply, call_by, caller_of, listed, said_by, same_caller, view_at as point_at, with_event}}
 use Rattle.ulfm_model.proofs.Callers.{find_change}
 use Rattle.ulfm_run.specs.Failing.{TellsFail}
-use Rattle.ulfm_run.proofs.Beginning.{find_push}
+use Rattle.ulfm_lines.proofs.{Bystanders.{find_push}, Calls.{keeps_asked}}
 
 module _ {P : Type 0} (meld : P → P → P) (name : Over P) (r : ℕ) (old new : Sight P) (now : Traced P) (limits : now.limits ≡ name.limits) (history : now.history ≡ old.seen) (free : call_by now Caller.Outside ≡ None) where
   abbrev u : Under P
@@ -39,18 +39,11 @@ module _ {P : Type 0} (meld : P → P → P) (name : Over P) (r : ℕ) (old new 
     history_then : told.history ≡ new.seen
     history_then = ap (λ h. h ++ record { by = Caller.Outside; event = Event.Fail r } ∷ []) history ∙ added
 
-    keeps_asked : (v : Under P) → (with_event (Event.Fail r) v).asked ≡ v.asked
-    keeps_asked v = go (is_owned v (Event.Fail r))
-      where
-        go : (b : Bool) → (let w : Under P = if b then record v { own = v.own ++ Event.Fail r ∷ [] } else v in w.asked) ≡ v.asked
-        go true = refl
-        go false = refl
-
     u_then : with_event (Event.Fail r) u ≡ record u { own = Event.Fail r ∷ [] }
     u_then = ap (λ (b : Bool). if b then record u { own = Event.Fail r ∷ [] } else u) (eq-eqb r r refl)
 
     call_then : call_by told Caller.Outside ≡ Some (record u { own = Event.Fail r ∷ [] })
-    call_then = find_change Caller.Outside (with_event (Event.Fail r)) keeps_asked begun.calls u call_is ∙ ap Some u_then
+    call_then = find_change Caller.Outside (with_event (Event.Fail r)) (keeps_asked (Event.Fail r)) begun.calls u call_is ∙ ap Some u_then
 
     may_reply : MayCome meld told [] (Line.Replied Caller.Outside (length new.seen) (Some Reply.Declared))
     may_reply =

@@ -8,7 +8,7 @@ use Rattle.ulfm_run.specs.Seats.{next_in}
 use Rattle.ulfm_lines.specs.{Progress.{GoesFar, IsReached, Progress}, Walked.{IsCountOf}}
 use Rattle.ulfm_lines.specs.declared.step_machine.Reach.{Reach}
 use Rattle.ulfm_run.specs.{Table.{seat_next, progress_of}, Walks.{FlagSeat, WalksUntil}}
-use Rattle.ulfm_run.proofs.Standing.{get_there}
+use Rattle.std.proofs.lemmas.Option.{slice_get-get_or}
 use Rattle.ulfm_run.specs.Walks.{stage}
 
 -- there is no element past the last
@@ -34,7 +34,7 @@ module _ (pass : Sight FlagAnd) (seats : List FlagSeat) (r : ℕ) (reach : Reach
 
   -- of one without a call
   pub no_step : (d : FlagSeat) → r < length seats → (get_or seats r d).call ≡ None → seat_next (slice_get seats r) ≡ None
-  no_step d below none = ap seat_next (get_there seats r d below) ∙ ap next_in none
+  no_step d below none = ap seat_next (slice_get-get_or seats r d below) ∙ ap next_in none
 
   -- steps of its call
   pub goes_until : (made : ℕ) (name : Name) (seat : FlagSeat) (text : List ℕ) (after : Sight FlagAnd) (left : FlagSeat) (more : List ℕ) → r < length seats → WalksUntil reach made name (stage pass seat text) (stage after left more)

@@ -90,21 +90,8 @@ module _ {P : Type 0} (meld : P → P → P) (alone : Bool) (name : Over P) (bef
     pub refused_step : (asks : ℕ → Call P) (refusal : Refusal) → (traits_of (asks i)).by ≡ Rank i → (refusal ≡ OutOfMemory → ⊥)
         → EndsBy meld alone (asks (get_or ranks i d).number) (local (get_or ranks i d) (view_at name before)) refusal (is_out_of_memory refusal) (local new (view_at name after))
         → StepsBy meld alone (asks i) (crew (view_at name before) ranks) (Refused refusal) (crew (view_at name after) (set ranks i new))
-    refused_step asks SelfFailed by other ends = calls_step asks (Refused SelfFailed) by ends
-    refused_step asks NoSuchComm by other ends = calls_step asks (Refused NoSuchComm) by ends
-    refused_step asks Busy by other ends = calls_step asks (Refused Busy) by ends
-    refused_step asks ShrinkOpen by other ends = calls_step asks (Refused ShrinkOpen) by ends
-    refused_step asks RoundsUsedUp by other ends = calls_step asks (Refused RoundsUsedUp) by ends
-    refused_step asks Idle by other ends = calls_step asks (Refused Idle) by ends
-    refused_step asks Mismatch by other ends = calls_step asks (Refused Mismatch) by ends
-    refused_step asks NoContext by other ends = calls_step asks (Refused NoContext) by ends
-    refused_step asks NoRoom by other ends = calls_step asks (Refused NoRoom) by ends
-    refused_step asks IsRevoked by other ends = calls_step asks (Refused IsRevoked) by ends
-    refused_step asks ProcFailed by other ends = calls_step asks (Refused ProcFailed) by ends
-    refused_step asks WorldKept by other ends = calls_step asks (Refused WorldKept) by ends
-    refused_step asks NoSuchRank by other ends = calls_step asks (Refused NoSuchRank) by ends
     refused_step asks OutOfMemory by other ends = absurd (other refl)
-    refused_step asks Twice by other ends = calls_step asks (Refused Twice) by ends
+    refused_step asks refusal by other ends = calls_step asks (Refused refusal) by ends
 
   -- a call of a rank that the world doesn't have
   pub missing_step : (asked : Call P) (i : ℕ) → (traits_of asked).by ≡ Rank i → length ranks ≤ i

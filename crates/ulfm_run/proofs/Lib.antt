@@ -1,6 +1,7 @@
 pub mod MadeFew
 pub mod ShrinkHolds
 pub mod Jobs
+pub mod Knowing
 pub mod Lacking
 pub mod OtherRanks
 pub mod Applying

@@ -14,26 +14,18 @@ use Rattle.ulfm_model.proofs.Callers.{same_rank}
 use Rattle.ulfm_lines.specs.{LineTexts.{lines_text}, Progress.{IsReached}, StepLines.{IsByRank}, Stepped.{TellsStep}, Walked.{TellsSteps}}
 use Rattle.ulfm_lines.specs.declared.step_machine.Reach.{Reach}
 use Rattle.ulfm_lines.specs.declared.step_machine.Taken.TheVariants.{Open, Run}
+use Rattle.ulfm_lines.proofs.Bystanders.{find_push}
 use Rattle.ulfm_run.specs.Stepping.{reply_told}
 use Rattle.ulfm_run.specs.{Seats.{Sits, SitsAt as SitsWith, begun_piece, next_in, reply_piece}, declared.told.Answer.{Answer}}
 use Rattle.ulfm_run.specs.{StepLines.{BeginsCall, unknown_piece}, Table.{IsNobody, StandsFor}, Walks.{FlagSeat, flag_words, SitsOn, WalksUntil}}
-use Rattle.ulfm_run.proofs.{Pieces.{AllBy, are_by, find_no_record, piece_call, piece_entries, piece_history}, Standing.{find_last, get_there, ranks_differ, reply_frees, stands_on, stands_seat, tells_step}}
+use Rattle.std.proofs.lemmas.Option.{slice_get-get_or}
+use Rattle.ulfm_run.proofs.{Pieces.{AllBy, are_by, find_no_record, others_of, piece_call, piece_entries, piece_history}, Standing.{ranks_differ, reply_frees, stands_on, stands_seat, tells_step}}
 use Rattle.ulfm_run.specs.Walks.{stage}
 
 -- a call of a rank is its own
 pub by_its_rank : (asked : Call FlagAnd) → IsByRank asked → (traits_of asked).by ≡ Caller.Rank (rank_of asked)
 by_its_rank (call.Fail rank) own = absurd (own rank refl)
-by_its_rank (call.GetFailed rank c) own = refl
-by_its_rank (call.FailureGetAcked rank c) own = refl
-by_its_rank (call.Ack rank c count) own = refl
-by_its_rank (call.FailureAck rank c) own = refl
-by_its_rank (call.Agree rank c value) own = refl
-by_its_rank (call.Shrink rank c) own = refl
-by_its_rank (call.Barrier rank c) own = refl
-by_its_rank (call.Poll rank c) own = refl
-by_its_rank (call.Revoke rank c) own = refl
-by_its_rank (call.IsRevoked rank c) own = refl
-by_its_rank (call.Free rank c) own = refl
+by_its_rank _ own = refl
 
 module _ (name : Name) (pass : Sight FlagAnd) (seats : List FlagSeat) (now : Traced FlagAnd) (stands : StandsFor name pass seats now) where
   -- a call of a rank that the world doesn't have
@@ -54,7 +46,7 @@ module _ (name : Name) (pass : Sight FlagAnd) (seats : List FlagSeat) (now : Tra
     nobody = stands.beyond r above
 
     call_is : call_by begun (Caller.Rank r) ≡ Some u
-    call_is = find_last (λ (v : Under FlagAnd). same_caller (caller_of v) (Caller.Rank r)) now.calls u nobody.free (ap (λ c. same_caller c (Caller.Rank r)) mine ∙ same_rank r)
+    call_is = find_push (λ (v : Under FlagAnd). same_caller (caller_of v) (Caller.Rank r)) now.calls u nobody.free (ap (λ c. same_caller c (Caller.Rank r)) mine ∙ same_rank r)
 
     may_refuse : MayCome flag_meld begun [] (Line.Replied (Caller.Rank r) (length pass.seen) (Some refused))
     may_refuse =
@@ -90,7 +82,7 @@ module _ (name : Name) (pass : Sight FlagAnd) (seats : List FlagSeat) (now : Tra
     unknown_tells text more told =
         tells_step (StandsFor name pass seats) now (Called asked padded) unknown text more unknown_legal unknown_is
         (stands_on name pass seats now stands unknown (Caller.Rank r) unknown_by pass (piece_history now unknown ∙ (append-nil now.history ∙ stands.history)) stands.of (omega arith) ([], append-nil pass.cached)
-        (piece_call now unknown (Caller.Rank r) Caller.Outside unknown_by refl ∙ stands.no_declaration) (λ s below. ranks_differ r s (λ same. absurd (omega (arith, same, below, above)))) (λ s over same. still_nobody s same))
+        (piece_call now unknown Caller.Outside (others_of (Caller.Rank r) Caller.Outside unknown unknown_by refl) ∙ stands.no_declaration) (λ s below. ranks_differ r s (λ same. absurd (omega (arith, same, below, above)))) (λ s over same. still_nobody s same))
         told
 
   -- a rank that the world has
@@ -128,8 +120,8 @@ module _ (name : Name) (pass : Sight FlagAnd) (seats : List FlagSeat) (now : Tra
 
     there_open : (t : Traced FlagAnd) (later : Sight FlagAnd) (own : Record) (found : ℕ) (call : Option (UnderWay FlagAnd)) → SitsWith flag_meld (flag_words name) t later own found call → IsTrue (is_some call) → IsOpen t (Caller.Rank own.number)
     there_open t later own found None sits is = absurd (cc is)
-    there_open t later own found (Some doing) (inl begun) is = ap is_some begun.call
-    there_open t later own found (Some doing) (inr called) is = ap is_some called.call
+    there_open t later own found (Some doing) (inl begun) is = ap is_some begun.known.call
+    there_open t later own found (Some doing) (inr called) is = ap is_some called.known.call
 
     -- a call of a rank that has one under way
     pub open_tells : (asked : Call FlagAnd) (padded : Bool) (text : List ℕ) (left : List FlagSeat) → (traits_of asked).by ≡ Caller.Rank r → IsTrue (is_some seat.call) → TellsStep (StandsFor name pass left) now (Called asked padded) Open text text
@@ -139,8 +131,8 @@ module _ (name : Name) (pass : Sight FlagAnd) (seats : List FlagSeat) (now : Tra
     -- what lines say is what the pass has seen
     said_seen : (t : Traced FlagAnd) (later : Sight FlagAnd) (own : Record) (found : ℕ) (call : Option (UnderWay FlagAnd)) → SitsWith flag_meld (flag_words name) t later own found call → t.history ≡ later.seen
     said_seen t later own found None sits = sits.history
-    said_seen t later own found (Some doing) (inl begun) = begun.history
-    said_seen t later own found (Some doing) (inr called) = called.history
+    said_seen t later own found (Some doing) (inl begun) = begun.known.history
+    said_seen t later own found (Some doing) (inr called) = called.known.history
 
     -- no step of a rank without a call
     pub closed_there : seat.call ≡ None → ¬ IsOpen now (Caller.Rank r)
@@ -228,10 +220,10 @@ module _ (name : Name) (pass : Sight FlagAnd) (seats : List FlagSeat) (now : Tra
   above_all over = omega (arith, over, stands.size)
 
   pub number_there : r < length seats → (get_or seats r d).own.number ≡ r
-  number_there below = (stands.each r (get_or seats r d) (get_there seats r d below)).number
+  number_there below = (stands.each r (get_or seats r d) (slice_get-get_or seats r d below)).number
 
   pub sits_there : r < length seats → Sits flag_meld (flag_words name) now pass (get_or seats r d)
-  sits_there below = (stands.each r (get_or seats r d) (get_there seats r d below)).sits
+  sits_there below = (stands.each r (get_or seats r d) (slice_get-get_or seats r d below)).sits
 
 -- a seat without a call
 pub no_call : {X : Type 0} (call : Option X) → is_some call ≡ false → call ≡ None

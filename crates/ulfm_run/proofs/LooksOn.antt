@@ -16,8 +16,8 @@ use Rattle.ulfm_comm.specs.Local.{frame, local}
 use Rattle.ulfm_model.specs.declared.line.Line.TheVariants.{Looked}
 use Rattle.ulfm_model.specs.Traces.{MayCome, Traced, Under, after, call_by, record_in}
 use Rattle.ulfm_model.proofs.Callers.{find_change}
-use Rattle.ulfm_run.specs.Stepping.{FoundAt, HasBegun, HasCalled}
-use Rattle.ulfm_run.proofs.{ByPhase.{found_by_check, in_look}, Ending.{ends_so, may_list}, LookedAt.{begins_again, found_all, found_by_phase, squeeze}, Replying.{reply_answers}, Reseen.{reseen}, Turns.{EndsSo, LooksOn}}
+use Rattle.ulfm_run.specs.Stepping.{FoundAt, HasBegun, HasCalled, KnowsCall}
+use Rattle.ulfm_run.proofs.{ByPhase.{found_by_check, in_look}, Ending.{ends_so, may_list}, Knowing.{known_then}, LookedAt.{begins_again, found_all, found_by_phase, squeeze}, Replying.{reply_answers}, Reseen.{reseen}, Turns.{EndsSo, LooksOn}}
 use Rattle.ulfm_comm.specs.Prepared.{Prepared}
 
 -- a look makes no event
@@ -55,7 +55,7 @@ module _ {P : Type 0} (meld : P → P → P) (name : Over P) (now : Traced P) (p
   still = sym (no_event own doing.asked doing.phase result pass.seen after_it.seen h.looking adds)
 
   history' : now.history ≡ after_it.seen
-  history' = h.history ∙ still
+  history' = h.known.history ∙ still
 
   -- the look goes on
   goes_on : is_looking doing'.phase ≡ true → Stands meld false (local h.old (view_at name pass)) doing' (local own' (view_at name after_it)) → (own'.number ≡ own.number) × HasBegun meld name now after_it own' doing'
@@ -63,17 +63,11 @@ module _ {P : Type 0} (meld : P → P → P) (name : Over P) (now : Traced P) (p
       let number' : own'.number ≡ own.number = same_number meld name doing'.asked h.old pass doing'.prepared own' after_it doing'.phase looking stands.at ∙ sym h.number in (
         number',
         record {
-          limits = h.limits;
-          history = history';
           u = h.u;
-          call = subst (λ n. call_by now (Rank n) ≡ Some h.u) (sym number') h.call;
-          asked = h.asked ∙ sym asked';
           old = h.old;
-          seen = h.seen;
-          record_is = subst (λ n. record_in now n ≡ Some (reseen h.old h.seen)) (sym number') h.record_is;
+          known = known_then h.known (sym number') (sym asked') still;
           number = number' ∙ h.number;
           looking = looking;
-          in_use = h.in_use;
           stands = begins_again meld name h.old pass doing' own' after_it looking stands of ([], append-nil pass.seen ∙ still);
           begun = subst (λ w. h.u.begun ≤ length w) still h.begun;
           look = h.look;
@@ -90,10 +84,22 @@ module _ {P : Type 0} (meld : P → P → P) (name : Over P) (now : Traced P) (p
     u' = record h.u { look = Some (length own'.seen) }
 
     may_look : MayCome meld now [] (Looked own.number (length own'.seen))
-    may_look = (record { call = h.u; is_open = h.call; first = h.look; own = reseen h.old h.seen; has_record = h.record_is; in_use = h.in_use }, ap length (seen' ∙ ap failures (sym history')))
+    may_look = (record { call = h.u; is_open = h.known.call; first = h.look; own = reseen h.old h.known.seen; has_record = h.known.record_is; in_use = h.known.in_use }, ap length (seen' ∙ ap failures (sym history')))
 
     call' : call_by told (Rank own.number) ≡ Some u'
-    call' = find_change (Rank own.number) (λ u. record u { look = Some (length own'.seen) }) (λ u. refl) now.calls h.u h.call
+    call' = find_change (Rank own.number) (λ u. record u { look = Some (length own'.seen) }) (λ u. refl) now.calls h.u h.known.call
+
+    known' : KnowsCall name told after_it own doing.asked u' h.old
+    known' =
+        record {
+          limits = h.known.limits;
+          history = history';
+          call = call';
+          asked_is = h.known.asked_is;
+          seen = h.known.seen;
+          record_is = h.known.record_is;
+          in_use = h.known.in_use;
+        }
 
     look' : u'.look ≡ Some (length (failures pass.seen))
     look' = ap (λ s. Some (length s)) (seen' ∙ ap failures (sym still))
@@ -105,20 +111,14 @@ module _ {P : Type 0} (meld : P → P → P) (name : Over P) (now : Traced P) (p
         let number' : own'.number ≡ own.number = ap (λ (w : Record). w.number) same ∙ sym h.number in (
           number',
           record {
-            limits = h.limits;
-            history = history';
             u = u';
-            call = subst (λ n. call_by told (Rank n) ≡ Some u') (sym number') call';
-            asked = h.asked ∙ sym asked';
             old = h.old;
-            seen = h.seen;
-            record_is = subst (λ n. record_in now n ≡ Some (reseen h.old h.seen)) (sym number') h.record_is;
+            known = known_then known' (sym number') (sym asked') refl;
             before = pass;
             stood = after_it;
             stands = stands;
             waits = waits_none after_it;
             past = past;
-            in_use = h.in_use;
             own_same = same;
             sees = λ other. seen' ∙ ap failures (sym still);
             begun = h.begun;
@@ -139,7 +139,7 @@ module _ {P : Type 0} (meld : P → P → P) (name : Over P) (now : Traced P) (p
     ends_reply reply ended fits =
         let answers = reply_answers meld name.limits pass.seen after_it.seen h.old doing.asked reply own' ended [] (append-nil pass.seen ∙ still) [] refl (λ no_poll. inl refl) (λ other. seen' ∙ ap failures (sym still)) in
         let there = subst (λ es. IsSelfFailed (record { look = failures pass.seen; history = after_it.seen; own = es; spread = true }) h.old doing.asked reply ⊎ IsReply meld name.limits (record { look = failures pass.seen; history = after_it.seen; own = es; spread = true }) h.old doing.asked reply) (sym h.own_is) answers in
-        ends_so meld name told after_it own.number h.old h.seen u' doing.asked pass.seen after_it.seen [] [] reply own' h.limits history' call' h.record_is h.number h.in_use h.asked h.begun look' (append-nil pass.seen ∙ still) (append-nil after_it.seen)
+        ends_so meld name told after_it own.number h.old h.known.seen u' doing.asked pass.seen after_it.seen [] [] reply own' h.known.limits history' call' h.known.record_is h.number h.known.in_use h.known.asked_is h.begun look' (append-nil pass.seen ∙ still) (append-nil after_it.seen)
         there ended fits (may_list meld name.limits pass.seen after_it.seen h.old doing.asked own' fits reply ended)
 
   -- what the reply says was seen
@@ -166,7 +166,7 @@ module _ {P : Type 0} (meld : P → P → P) (name : Over P) (now : Traced P) (p
       go : (b : Bool) → is_looking doing'.phase ≡ b → Comes None
       go true looking = let on = goes_on looking stands in inl (refl, on.0, on.1)
       go false past =
-          let f = found_by_phase meld name doing'.asked h.old pass doing'.prepared own' after_it h.in_use doing'.phase past stands.at in
+          let f = found_by_phase meld name doing'.asked h.old pass doing'.prepared own' after_it h.known.in_use doing'.phase past stands.at in
           let all = found_all doing'.asked h.old own' pass.seen after_it.seen f still in
           inr (may_look all.1, ends_on all.1 past stands f.same (subst (λ s. IsFalse (has s h.old.number)) all.0 f.not_declared) f.not_refused)
 
@@ -178,12 +178,12 @@ module _ {P : Type 0} (meld : P → P → P) (name : Over P) (now : Traced P) (p
 
       by_calls : Fits meld name.limits after_it.seen own'
           → (IsRefusedAgain h.old reply own' × (after_it ≡ pass)) ⊎ (IsEndRun meld name.limits false (moment h.old pass.seen) doing.asked reply (moment own' after_it.seen) ⊎ IsEarlyRun meld name.limits false (moment h.old pass.seen) doing.asked reply (moment own' after_it.seen)) → Comes (Some reply)
-      by_calls fits (inl again) = absurd (cc (again.0.refused, h.in_use))
+      by_calls fits (inl again) = absurd (cc (again.0.refused, h.known.in_use))
       by_calls fits (inr (inl ended)) = ending ended fits
       by_calls fits (inr (inr early)) = ending (ended_now reply early) fits
 
       go : (IsRefusedAgain h.old reply own' × Idles false pass after_it) ⊎ HasReplied meld false doing.asked (local h.old (view_at name pass)) reply (local own' (view_at name after_it)) → Comes (Some reply)
-      go (inl again) = absurd (cc (again.0.refused, h.in_use))
+      go (inl again) = absurd (cc (again.0.refused, h.known.in_use))
       go (inr e) = let calls = subst (λ b. RepliedAs meld false doing.asked (local h.old (view_at name pass)) reply b (local own' (view_at name after_it))) has_memory e in by_calls calls.fits calls.ends
 
   pub looks_on : ((reply : Reply P) → result ≡ Some reply → wants_memory reply ≡ false) → MatchOption result (Stands meld false (local h.old (view_at name pass)) doing' (local own' (view_at name after_it))) (λ reply. Answered meld false doing.asked (local h.old (view_at name pass)) reply (local own' (view_at name after_it))) → Comes result

@@ -1,5 +1,5 @@
 -- A machine to which nothing has happened.
-use Rattle.std.proofs.Common.{◌≡◌, ℕ, zero, suc, ◌<◌, ◌≤◌, List, [], ◌∷◌, get_or, length, map, Some, refl, ap, sym, ◌∙◌, subst, arith}
+use Rattle.std.proofs.Common.{◌≡◌, ℕ, zero, suc, ◌<◌, ◌≤◌, List, [], ◌∷◌, length, map, option_map, Option, Some, None, refl, ap, sym, ◌∙◌, subst, arith}
 use Rattle.std.specs.{List.{AllByRecursion}, Prelude.{slice_get}}
 use Rattle.std.proofs.lemmas.List.{length-map}
 use Rattle.ulfm_laws.specs.Flags.{flag_meld}
@@ -13,13 +13,15 @@ use Rattle.ulfm_comm.proofs.InOrder.{rank_missing}
 use Rattle.ulfm_model.specs.Traces.{nothing}
 use Rattle.ulfm_run.proofs.Newly.{sits_new}
 use Rattle.ulfm_run.specs.{Table.{IsNobody, IsSeatOf, StandsFor, idle_seat}, Walks.{FlagSeat, flag_words}}
-use Rattle.ulfm_run.proofs.Standing.{get_below, get_there}
+use Rattle.std.proofs.lemmas.Option.{get_or_from_slice_get, slice_get-map, slice_get_within}
 
 -- the element of a mapped list
 get_map : {X Y : Type 0} (f : X → Y) (xs : List X) (i : ℕ) (y : Y) → slice_get (map f xs) i ≡ Some y → (x : X) × (slice_get xs i ≡ Some x) × (y ≡ f x)
-get_map f [] i y is = absurd (cc is)
-get_map f (x ∷ xs) zero y is = (x, refl, cc is)
-get_map f (x ∷ xs) (suc i) y is = get_map f xs i y is
+get_map {X} {Y} f xs i y is = go (slice_get xs i) (sym (slice_get-map f xs i) ∙ is)
+  where
+    go : (o : Option X) → option_map f o ≡ Some y → (x : X) × (o ≡ Some x) × (y ≡ f x)
+    go None is = absurd (cc is)
+    go (Some x) is = (x, refl, cc is)
 
 -- what holds of each of a mapped list holds of the one at an index
 all_get : {X Y : Type 0} (Q : Y → Type 0) (f : X → Y) (xs : List X) (i : ℕ) (x : X) → AllByRecursion Q (map f xs) → slice_get xs i ≡ Some x → Q (f x)
@@ -30,10 +32,8 @@ all_get Q f (y ∷ ys) (suc i) x all is = all_get Q f ys i x all.1 is
 -- the ranks of a world in their order
 first_get : (n i r : ℕ) → slice_get (first_ranks n) i ≡ Some r → (r ≡ i) × (i < n)
 first_get n i r is =
-    let below : i < n = omega (arith, get_below (first_ranks n) i r is, first_length n) in
-    let there : slice_get (first_ranks n) i ≡ Some (get_or (first_ranks n) i 0) = get_there (first_ranks n) i 0 (get_below (first_ranks n) i r is) in
-    let same : r ≡ get_or (first_ranks n) i 0 = cc (is, there) in
-    (same ∙ first_at n i below, below)
+    let below : i < n = omega (arith, slice_get_within (first_ranks n) i r is, first_length n) in
+    (sym (get_or_from_slice_get (first_ranks n) i r 0 is) ∙ first_at n i below, below)
 
 numbers : (limits : Limits) (ranks : List ℕ) → map (λ (x : Record). x.number) (map (new_record limits) ranks) ≡ ranks
 numbers limits [] = refl

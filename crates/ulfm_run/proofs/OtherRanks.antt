@@ -20,34 +20,8 @@ use Rattle.ulfm_run.proofs.{Lacking.{keeps_set, polls_shrink}, MadeFew.{IsOfFew,
 
 -- a reply that doesn't say that memory ran out
 kept_memory : {P : Type 0} (reply : Reply P) → (reply ≡ Refused OutOfMemory → ⊥) → wants_memory reply ≡ false
-kept_memory Started other = refl
-kept_memory Pending other = refl
-kept_memory (Agreed value count raised) other = refl
-kept_memory (Shrunk j context size) other = refl
-kept_memory Done other = refl
-kept_memory (FailedGroup count) other = refl
-kept_memory (Acked count) other = refl
-kept_memory Declared other = refl
-kept_memory AlreadyFailed other = refl
-kept_memory Revoked other = refl
-kept_memory AlreadyRevoked other = refl
-kept_memory (Standing revoked) other = refl
-kept_memory Freed other = refl
-kept_memory (Refused SelfFailed) other = refl
-kept_memory (Refused NoSuchComm) other = refl
-kept_memory (Refused Busy) other = refl
-kept_memory (Refused ShrinkOpen) other = refl
-kept_memory (Refused RoundsUsedUp) other = refl
-kept_memory (Refused Idle) other = refl
-kept_memory (Refused Mismatch) other = refl
-kept_memory (Refused NoContext) other = refl
-kept_memory (Refused NoRoom) other = refl
-kept_memory (Refused IsRevoked) other = refl
-kept_memory (Refused ProcFailed) other = refl
-kept_memory (Refused WorldKept) other = refl
-kept_memory (Refused NoSuchRank) other = refl
 kept_memory (Refused OutOfMemory) other = absurd (other refl)
-kept_memory (Refused Twice) other = refl
+kept_memory _ other = refl
 
 module _ {P : Type 0} where
   -- it is a rank's
@@ -55,15 +29,7 @@ module _ {P : Type 0} where
   by_rank (call.Fail rank) other = absurd other
   by_rank (call.GetFailed rank c) other = absurd other
   by_rank (call.FailureGetAcked rank c) other = absurd other
-  by_rank (call.Ack rank c count) other = refl
-  by_rank (call.FailureAck rank c) other = refl
-  by_rank (call.Agree rank c value) other = refl
-  by_rank (call.Shrink rank c) other = refl
-  by_rank (call.Barrier rank c) other = refl
-  by_rank (call.Poll rank c) other = refl
-  by_rank (call.Revoke rank c) other = refl
-  by_rank (call.IsRevoked rank c) other = refl
-  by_rank (call.Free rank c) other = refl
+  by_rank _ other = refl
 
   -- neither a declaration nor a query of the failed group
   pub is_other : (asked : Call P) → ((rank : ℕ) → asked ≡ call.Fail rank → ⊥) → ((rank c : ℕ) → asked ≡ call.GetFailed rank c → ⊥)
@@ -71,30 +37,12 @@ module _ {P : Type 0} where
   is_other (call.Fail rank) declares queries lists = absurd (declares rank refl)
   is_other (call.GetFailed rank c) declares queries lists = absurd (queries rank c refl)
   is_other (call.FailureGetAcked rank c) declares queries lists = absurd (lists rank c refl)
-  is_other (call.Ack rank c count) declares queries lists = tt
-  is_other (call.FailureAck rank c) declares queries lists = tt
-  is_other (call.Agree rank c value) declares queries lists = tt
-  is_other (call.Shrink rank c) declares queries lists = tt
-  is_other (call.Barrier rank c) declares queries lists = tt
-  is_other (call.Poll rank c) declares queries lists = tt
-  is_other (call.Revoke rank c) declares queries lists = tt
-  is_other (call.IsRevoked rank c) declares queries lists = tt
-  is_other (call.Free rank c) declares queries lists = tt
+  is_other _ declares queries lists = tt
 
   -- what polls is a poll
   pub asks_poll : (asked : Call P) → IsTrue (traits_of asked).polls → (rank : ℕ) × (c : ℕ) × (asked ≡ call.Poll rank c)
-  asks_poll (call.Fail rank) polls = absurd (cc polls)
-  asks_poll (call.GetFailed rank c) polls = absurd (cc polls)
-  asks_poll (call.FailureGetAcked rank c) polls = absurd (cc polls)
-  asks_poll (call.Ack rank c count) polls = absurd (cc polls)
-  asks_poll (call.FailureAck rank c) polls = absurd (cc polls)
-  asks_poll (call.Agree rank c value) polls = absurd (cc polls)
-  asks_poll (call.Shrink rank c) polls = absurd (cc polls)
-  asks_poll (call.Barrier rank c) polls = absurd (cc polls)
   asks_poll (call.Poll rank c) polls = (rank, c, refl)
-  asks_poll (call.Revoke rank c) polls = absurd (cc polls)
-  asks_poll (call.IsRevoked rank c) polls = absurd (cc polls)
-  asks_poll (call.Free rank c) polls = absurd (cc polls)
+  asks_poll _ polls = absurd (cc polls)
 
   -- only a poll makes a communicator
   shrunk_polls : (asked : Call P) (j context size : ℕ) → IsOther asked → IsKind asked (Shrunk j context size)
@@ -102,48 +50,22 @@ module _ {P : Type 0} where
   shrunk_polls (call.Fail rank) j context size other kind = absurd other
   shrunk_polls (call.GetFailed rank c) j context size other kind = absurd other
   shrunk_polls (call.FailureGetAcked rank c) j context size other kind = absurd other
-  shrunk_polls (call.Ack rank c count) j context size other kind = absurd kind
-  shrunk_polls (call.FailureAck rank c) j context size other kind = absurd kind
-  shrunk_polls (call.Agree rank c value) j context size other kind = absurd kind
-  shrunk_polls (call.Shrink rank c) j context size other kind = absurd kind
-  shrunk_polls (call.Barrier rank c) j context size other kind = absurd kind
   shrunk_polls (call.Poll rank c) j context size other kind = (rank, c, refl)
-  shrunk_polls (call.Revoke rank c) j context size other kind = absurd kind
-  shrunk_polls (call.IsRevoked rank c) j context size other kind = absurd kind
-  shrunk_polls (call.Free rank c) j context size other kind = absurd kind
+  shrunk_polls _ j context size other kind = absurd kind
 
   -- and none of them counts failures
   counts_none : (asked : Call P) (count : ℕ) → IsOther asked → IsKind asked (FailedGroup count) → ⊥
   counts_none (call.Fail rank) count other kind = other
   counts_none (call.GetFailed rank c) count other kind = other
   counts_none (call.FailureGetAcked rank c) count other kind = other
-  counts_none (call.Ack rank c limit) count other kind = kind
-  counts_none (call.FailureAck rank c) count other kind = kind
-  counts_none (call.Agree rank c value) count other kind = kind
-  counts_none (call.Shrink rank c) count other kind = kind
-  counts_none (call.Barrier rank c) count other kind = kind
-  counts_none (call.Poll rank c) count other kind = kind
-  counts_none (call.Revoke rank c) count other kind = kind
-  counts_none (call.IsRevoked rank c) count other kind = kind
-  counts_none (call.Free rank c) count other kind = kind
+  counts_none _ count other kind = kind
 
   -- a reply about no group
   about_none : (state : State P) (c : ℕ) (group : List ℕ) (reply : Reply P) → ((j context size : ℕ) → reply ≡ Shrunk j context size → ⊥)
       → ((count : ℕ) → reply ≡ FailedGroup count → ⊥) → IsAbout state c group group reply
-  about_none state c group Started made counted = refl
-  about_none state c group Pending made counted = refl
-  about_none state c group (Agreed value count raised) made counted = refl
   about_none state c group (Shrunk j context size) made counted = absurd (made j context size refl)
-  about_none state c group Done made counted = refl
   about_none state c group (FailedGroup count) made counted = absurd (counted count refl)
-  about_none state c group (Acked count) made counted = refl
-  about_none state c group Declared made counted = refl
-  about_none state c group AlreadyFailed made counted = refl
-  about_none state c group Revoked made counted = refl
-  about_none state c group AlreadyRevoked made counted = refl
-  about_none state c group (Standing revoked) made counted = refl
-  about_none state c group Freed made counted = refl
-  about_none state c group (Refused refusal) made counted = refl
+  about_none state c group _ made counted = refl
 
 module _ {P : Type 0} (meld : P → P → P) (alone : Bool) (name : Over P) (before : Sight P) (ranks : List Ranked) (job : IsJob meld alone (view_at name before) (records_of ranks))
     (asked : Call P) (other : IsOther asked) (i : ℕ) (d : Ranked) (is_rank : i ≡ rank_of asked) (below : i < length ranks) where

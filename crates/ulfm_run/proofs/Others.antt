@@ -1,10 +1,9 @@
 -- What others do leaves a rank where it sits.
-use Rattle.std.proofs.Common.{◌≡◌, ℕ, ◌≤◌, ◌==◌, not, Bool, true, false, List, [], ◌∷◌, ◌++◌, length, filter, find, take, Option, Some, None, is_some, refl, ap, sym, ◌∙◌, subst, IsTrue, arith, append-nil, append_assoc, length-append, inl, inr, if◌then◌else◌}
-use Rattle.std.proofs.lemmas.Bool.{eqb-false, ne_eqb}
+use Rattle.std.proofs.Common.{◌≡◌, ℕ, ◌≤◌, false, List, [], ◌++◌, length, Option, Some, None, is_some, ap, sym, ◌∙◌, subst, IsTrue, arith, append-nil, append_assoc, length-append, inl, inr}
 use mathlib.Core.List.{IsPrefix}
-use Rattle.ulfm_model.specs.declared.{call.Call.{Call}, event.Caller.{Caller}, event.Caller.TheVariants.{Outside, Rank}, limits.Limits.{Limits}, reply.Reply.{Reply}}
-use Rattle.ulfm_model.specs.{Answers.{comm_of, traits_of}, History.{History}, Records.{Record}}
-use Rattle.ulfm_model.proofs.{LeftRuns.{left_keeps}, Lists.{prefix_trans}, Stable.{fits_stays}}
+use Rattle.ulfm_model.specs.declared.{call.Call.{Call}, event.Caller.TheVariants.{Rank}, limits.Limits.{Limits}}
+use Rattle.ulfm_model.specs.{Answers.{comm_of}, History.{History}, Records.{Record}}
+use Rattle.ulfm_model.proofs.{Lists.{prefix_trans}, Stable.{fits_stays}}
 use Rattle.ulfm_model.specs.Records.{moment}
 use Rattle.ulfm_words.specs.Steps.{IsView, Sight, Over, view_at}
 use Rattle.ulfm_words.proofs.Trails.{did_wait}
@@ -12,106 +11,28 @@ use Rattle.ulfm_steps.specs.declared.arrivals.Missing.{Missing}
 use Rattle.ulfm_comm.specs.Phase.{UnderWay, Waits}
 use Rattle.ulfm_comm.specs.declared.phases.phase.{Phase.{Phase}, Phase.TheVariants.{Checking}}
 use Rattle.ulfm_comm.proofs.{Stands.{stands_lasts}, AmongOthers.{did_among}}
-use Rattle.ulfm_model.specs.declared.line.{Line.{Line}, Line.TheVariants.{Called, Happened, Looked, Replied}}
-use Rattle.ulfm_model.specs.Follows.{AreOf, is_of}
-use Rattle.ulfm_model.specs.Traces.{Told, Traced, Under, after, after_reply, call_by, caller_of, change_by, found_by, record_in, records_after, said_by, same_caller, taken_in, with_event}
-use Rattle.ulfm_model.proofs.{Callers.{same_is}, Kept.{find_other_record, limits_stay}}
-use Rattle.ulfm_run.specs.{Seats.{AreOthers, Seated, Sits, SitsAt, line_by}, Stepping.{FoundAt, HasBegun, HasCalled, IsIdle, events_by}}
-use Rattle.ulfm_run.proofs.{ByPhase.{found_by_check}, LookedAt.{begins_again}, Replying.{by_append}, Stepped.{keeps_asked}}
+use Rattle.ulfm_model.specs.Follows.{AreOf}
+use Rattle.ulfm_model.specs.Traces.{Told, Traced, Under, call_by, record_in, said_by, same_caller}
+use Rattle.ulfm_model.proofs.Kept.{limits_stay}
+use Rattle.ulfm_run.specs.{Seats.{AreOthers, Seated, Sits, SitsAt}, Stepping.{FoundAt, HasBegun, HasCalled, IsIdle, KnowsCall, events_by}}
+use Rattle.ulfm_run.proofs.{ByPhase.{found_by_check}, LookedAt.{begins_again}, Pieces.{are_by, others_of, piece_call, piece_entries, piece_events, piece_history, piece_record}, Replying.{by_append}}
 
--- who is another caller isn't this rank
-apart : (n : ℕ) (by : Caller) → same_caller by (Rank n) ≡ false → (c : Caller) → same_caller c by ≡ true → same_caller c (Rank n) ≡ true → ⊥
-apart n by differ c there here = let same = ap (λ d. same_caller d (Rank n)) (same_is c by there) in cc (same, here, differ)
+-- what a line of another changes for rank n: nothing but the history, which gets no event of its
+record Stays {P : Type 0} (n : ℕ) (now t : Traced P) : Type 0 where
+  pub call : call_by t (Rank n) ≡ call_by now (Rank n)
+  pub record_is : record_in t n ≡ record_in now n
+  pub more : History P
+  pub grown : now.history ++ more ≡ t.history
+  pub others : events_by (Rank n) more ≡ []
 
-module _ {P : Type 0} (n : ℕ) where
-  abbrev is_mine : Under P → Bool
-  is_mine v = same_caller (caller_of v) (Rank n)
-
-  find_push_other : (xs : List (Under P)) (x : Under P) → is_mine x ≡ false → find is_mine (xs ++ x ∷ []) ≡ find is_mine xs
-  find_push_other [] x other = ap (λ (b : Bool). if b then Some x else None) other
-  find_push_other (y ∷ ys) x other = ap (λ more. if is_mine y then Some y else more) (find_push_other ys x other)
-
-  -- a change to another's call changes nothing for this one
-  find_other : (by : Caller) → same_caller by (Rank n) ≡ false → (f : Under P → Under P) → ((u : Under P) → (f u).asked ≡ u.asked) → (xs : List (Under P)) → find is_mine (change_by by f xs) ≡ find is_mine xs
-  find_other by differ f keeps [] = refl
-  find_other by differ f keeps (x ∷ xs) = go (same_caller (caller_of x) by) refl (find_other by differ f keeps xs)
-    where
-      not_mine : (b : Bool) → is_mine x ≡ b → same_caller (caller_of x) by ≡ true → b ≡ false
-      not_mine true is there = absurd (apart n by differ (caller_of x) there is)
-      not_mine false is there = refl
-
-      go : (b : Bool) → same_caller (caller_of x) by ≡ b → find is_mine (change_by by f xs) ≡ find is_mine xs
-          → find is_mine (if b then f x ∷ xs else x ∷ change_by by f xs) ≡ (if is_mine x then Some x else find is_mine xs)
-      go true there rest =
-          let none = not_mine (is_mine x) refl there in
-          let gone : is_mine (f x) ≡ false = ap (λ (a : Call P). same_caller (traits_of a).by (Rank n)) (keeps x) ∙ none in
-          ap (λ (b : Bool). if b then Some (f x) else find is_mine xs) gone ∙ sym (ap (λ (b : Bool). if b then Some x else find is_mine xs) none)
-      go false there rest = ap (λ more. if is_mine x then Some x else more) rest
-
-  -- nor does its end
-  find_left : (by : Caller) → same_caller by (Rank n) ≡ false → (xs : List (Under P)) → find is_mine (filter (λ v. not (same_caller (caller_of v) by)) xs) ≡ find is_mine xs
-  find_left by differ [] = refl
-  find_left by differ (x ∷ xs) = go (same_caller (caller_of x) by) refl (find_left by differ xs)
-    where
-      not_mine : (b : Bool) → is_mine x ≡ b → same_caller (caller_of x) by ≡ true → b ≡ false
-      not_mine true is there = absurd (apart n by differ (caller_of x) there is)
-      not_mine false is there = refl
-
-      go : (b : Bool) → same_caller (caller_of x) by ≡ b → find is_mine (filter (λ v. not (same_caller (caller_of v) by)) xs) ≡ find is_mine xs
-          → find is_mine (if not b then x ∷ filter (λ v. not (same_caller (caller_of v) by)) xs else filter (λ v. not (same_caller (caller_of v) by)) xs) ≡ (if is_mine x then Some x else find is_mine xs)
-      go true there rest = rest ∙ sym (ap (λ (b : Bool). if b then Some x else find is_mine xs) (not_mine (is_mine x) refl there))
-      go false there rest = ap (λ more. if is_mine x then Some x else more) rest
-
-  -- what a line of another changes for this rank: nothing but the history, which gets no event of its
-  pub record Stays (now t : Traced P) : Type 0 where
-    pub call : call_by t (Rank n) ≡ call_by now (Rank n)
-    pub record_is : record_in t n ≡ record_in now n
-    pub more : History P
-    pub grown : now.history ++ more ≡ t.history
-    pub others : events_by (Rank n) more ≡ []
-
-  stays_same : (now t : Traced P) → call_by t (Rank n) ≡ call_by now (Rank n) → record_in t n ≡ record_in now n → t.history ≡ now.history → Stays now t
-  stays_same now t call same history = record { call = call; record_is = same; more = []; grown = append-nil now.history ∙ sym history; others = refl }
-
-  left_records : (now : Traced P) (by : Caller) (v : Under P) (point : ℕ) (reply : Reply P) → same_caller by (Rank n) ≡ false → find (λ x. x.number == n) (records_after now by v point reply) ≡ record_in now n
-  left_records now Outside v point reply differ = refl
-  left_records now (Rank r) v point reply differ =
-      find_other_record (λ (a b : P). a) r n (taken_in now v point reply) (λ own. (left_keeps now.limits.ranks (take point now.history) (record own { seen = if is_some v.look then found_by now v else own.seen }) v.asked reply).0)
-      (ne_eqb n r (λ e. eqb-false r n differ (sym e))) now.records
-
-  stays_reply : (now : Traced P) (by : Caller) (point : ℕ) (reply : Reply P) (answered : Option (Under P)) → same_caller by (Rank n) ≡ false → Stays now (after_reply now by point reply answered)
-  stays_reply now by point reply None differ = stays_same now now refl refl refl
-  stays_reply now by point reply (Some v) differ =
-      stays_same now (after_reply now by point reply (Some v)) (find_left by differ now.calls) (left_records now by v point reply differ) refl
-
-  stays_after : (now : Traced P) (line : Line P) → same_caller (line_by line) (Rank n) ≡ false → Stays now (after now line)
-  stays_after now (Called asked padded) differ =
-      stays_same now (after now (Called asked padded)) (find_push_other now.calls (record { asked = asked; begun = length now.history; look = None; own = [] }) differ) refl refl
-  stays_after now (Looked r count) differ = stays_same now (after now (Looked r count)) (find_other (Rank r) differ (λ u. record u { look = Some count }) (λ u. refl) now.calls) refl refl
-  stays_after now (Happened by None) differ = stays_same now now refl refl refl
-  stays_after now (Happened by (Some event)) differ =
-      record {
-        call = find_other by differ (with_event event) (keeps_asked event) now.calls;
-        record_is = refl;
-        more = record { by = by; event = event } ∷ [];
-        grown = refl;
-        others = ap (λ (b : Bool). if b then event ∷ [] else []) differ;
-      }
-  stays_after now (Replied by point None) differ = stays_same now now refl refl refl
-  stays_after now (Replied by point (Some reply)) differ = stays_reply now by point reply (call_by now by) differ
-
-  pub stays_along : (now : Traced P) (piece : List (Told P)) → AreOthers (Rank n) piece → Stays now (said_by now piece)
-  stays_along now [] others = stays_same now now refl refl refl
-  stays_along now (told ∷ piece) others =
-      let one = stays_after now told.line others.0 in
-      let rest = stays_along (after now told.line) piece others.1 in
-      record {
-        call = rest.call ∙ one.call;
-        record_is = rest.record_is ∙ one.record_is;
-        more = one.more ++ rest.more;
-        grown = sym (append_assoc now.history one.more rest.more) ∙ (ap (λ h. h ++ rest.more) one.grown ∙ rest.grown);
-        others = by_append (Rank n) one.more rest.more ∙ (ap (λ es. es ++ events_by (Rank n) rest.more) one.others ∙ rest.others);
-      }
+stays_along : {P : Type 0} (n : ℕ) (now : Traced P) (piece : List (Told P)) → AreOthers (Rank n) piece → Stays n now (said_by now piece)
+stays_along n now piece others = record {
+  call = piece_call now piece (Rank n) others;
+  record_is = piece_record now piece n others;
+  more = piece_entries piece;
+  grown = sym (piece_history now piece);
+  others = piece_events (Rank n) piece others;
+}
 
 -- who is missing in a barrier was found at a beginning of what is seen later, too
 found_lasts : {P : Type 0} (meld : P → P → P) (limits : Limits) (c : ℕ) (old : Record) (before : History P) (own : Record) (now later : History P) (found : ℕ) → IsPrefix now later → (phase : Phase P) → FoundAt meld limits c (moment old before) (moment own now) found phase
@@ -142,16 +63,25 @@ module _ {P : Type 0} (meld : P → P → P) (name : Over P) (now t : Traced P) 
         fits = fits_stays meld name.limits pass.seen later.seen own (s.more, grown_from h.history) of.legal h.fits;
       }
 
+  known_lasts : {asked : Call P} {u : Under P} {old : Record} → KnowsCall name now pass own asked u old → KnowsCall name t later own asked u old
+  known_lasts k =
+      record {
+        limits = limits_t ∙ k.limits;
+        history = history_t;
+        call = s.call ∙ k.call;
+        asked_is = k.asked_is;
+        seen = k.seen;
+        record_is = s.record_is ∙ k.record_is;
+        in_use = k.in_use;
+      }
+
   called_lasts : (found : ℕ) (doing : UnderWay P) → HasCalled meld name now pass own found doing → HasCalled meld name t later own found doing
   called_lasts found doing h =
       let first = h.waits.onward in
-      let grown = grown_from h.history in
-      let waits = waits_from h.history in
+      let grown = grown_from h.known.history in
+      let waits = waits_from h.known.history in
       record {
-        limits = limits_t ∙ h.limits;
-        history = history_t;
-        call = s.call ∙ h.call;
-        record_is = s.record_is ∙ h.record_is;
+        known = known_lasts h.known;
         waits = record {
           did = did_wait false [] h.stood.seen pass.seen later.seen h.waits.did waits.did;
           cached = prefix_trans h.stood.cached pass.cached later.cached h.waits.cached keeps;
@@ -162,14 +92,11 @@ module _ {P : Type 0} (meld : P → P → P) (name : Over P) (now t : Traced P) 
         own_is = by_append (Rank own.number) h.rest s.more ∙ (ap (λ es. events_by (Rank own.number) h.rest ++ es) s.others ∙ (append-nil (events_by (Rank own.number) h.rest) ∙ h.own_is));
         found_at = found_lasts meld name.limits (comm_of doing.asked) h.old h.before.seen own pass.seen later.seen found (s.more, grown) doing.phase h.found_at;
         u = h.u;
-        asked = h.asked;
         old = h.old;
-        seen = h.seen;
         before = h.before;
         stood = h.stood;
         stands = h.stands;
         past = h.past;
-        in_use = h.in_use;
         own_same = h.own_same;
         sees = h.sees;
         begun = h.begun;
@@ -181,24 +108,18 @@ module _ {P : Type 0} (meld : P → P → P) (name : Over P) (now t : Traced P) 
 
   begun_lasts : (doing : UnderWay P) → HasBegun meld name now pass own doing → HasBegun meld name t later own doing
   begun_lasts doing h =
-      let grown = grown_from h.history in
-      let still = stands_lasts meld false name h.old pass doing own pass later h.stands (waits_from h.history) of in
+      let grown = grown_from h.known.history in
+      let still = stands_lasts meld false name h.old pass doing own pass later h.stands (waits_from h.known.history) of in
       let longer : length pass.seen ≤ length later.seen = omega (arith, ap length grown, length-append pass.seen s.more) in
       let first = h.begun in
       record {
-        limits = limits_t ∙ h.limits;
-        history = history_t;
-        call = s.call ∙ h.call;
-        record_is = s.record_is ∙ h.record_is;
+        known = known_lasts h.known;
         stands = begins_again meld name h.old pass doing own later h.looking still of (s.more, grown);
         begun = omega (arith, first, longer);
         u = h.u;
-        asked = h.asked;
         old = h.old;
-        seen = h.seen;
         number = h.number;
         looking = h.looking;
-        in_use = h.in_use;
         look = h.look;
         own_is = h.own_is;
       }
@@ -216,17 +137,7 @@ sits_lasts meld name now piece pass later seat others history of onward keeps si
 
 -- lines in one rank's name are others' to every other rank
 pub of_others : {P : Type 0} (r n : ℕ) → same_caller (Rank r) (Rank n) ≡ false → (piece : List (Told P)) → AreOf (Rank r) piece → AreOthers (Rank n) piece
-of_others r n differ [] of = tt
-of_others {P} r n differ (told ∷ piece) of = (by_line told.line of.0, of_others r n differ piece of.1)
-  where
-    by_caller : (by : Caller) → same_caller by (Rank r) ≡ true → same_caller by (Rank n) ≡ false
-    by_caller by is = ap (λ c. same_caller c (Rank n)) (same_is by (Rank r) is) ∙ differ
-
-    by_line : (line : Line P) → IsTrue (is_of (Rank r) line) → same_caller (line_by line) (Rank n) ≡ false
-    by_line (Called asked padded) is = absurd (cc is)
-    by_line (Looked s count) is = by_caller (Rank s) is
-    by_line (Happened by event) is = by_caller by is
-    by_line (Replied by point reply) is = by_caller by is
+of_others r n differ piece of = others_of (Rank r) (Rank n) piece (are_by (Rank r) piece of) differ
 
 -- where a rank sits, the lines have said what the pass has seen
 pub sits_history : {P : Type 0} (meld : P → P → P) (name : Over P) (now : Traced P) (pass : Sight P) (seat : Seated P) → Sits meld name now pass seat → (now.limits ≡ name.limits) × (now.history ≡ pass.seen)
@@ -234,8 +145,8 @@ sits_history {P} meld name now pass seat sits = go seat.call sits
   where
     go : (call : Option (UnderWay P)) → SitsAt meld name now pass seat.own seat.found call → (now.limits ≡ name.limits) × (now.history ≡ pass.seen)
     go None h = (h.limits, h.history)
-    go (Some doing) (inl h) = (h.limits, h.history)
-    go (Some doing) (inr h) = (h.limits, h.history)
+    go (Some doing) (inl h) = (h.known.limits, h.known.history)
+    go (Some doing) (inr h) = (h.known.limits, h.known.history)
 
 -- and no call is under way that the seat doesn't have
 pub sits_free : {P : Type 0} (meld : P → P → P) (name : Over P) (now : Traced P) (pass : Sight P) (seat : Seated P) → Sits meld name now pass seat → seat.call ≡ None → call_by now (Rank seat.own.number) ≡ None
@@ -247,5 +158,5 @@ sits_open {P} meld name now pass seat sits some = go seat.call sits some
   where
     go : (call : Option (UnderWay P)) → SitsAt meld name now pass seat.own seat.found call → IsTrue (is_some call) → IsTrue (is_some (call_by now (Rank seat.own.number)))
     go None h some = absurd (cc some)
-    go (Some doing) (inl h) some = ap is_some h.call
-    go (Some doing) (inr h) some = ap is_some h.call
+    go (Some doing) (inl h) some = ap is_some h.known.call
+    go (Some doing) (inr h) some = ap is_some h.known.call

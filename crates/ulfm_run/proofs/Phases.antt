@@ -24,16 +24,7 @@ no_barrier true k l is = cc is
 starts_no_poll : {P : Type 0} (old own : Record) (x : Held) (request other : Request) (offer : Offer P) (asked : Call P) → StartsWith asked own x request offer → polled_by old asked ≡ Some other → ⊥
 starts_no_poll old own x request other offer (call.Agree rank c value) starts polls = cc polls
 starts_no_poll old own x request other offer (call.Shrink rank c) starts polls = cc polls
-starts_no_poll old own x request other offer (call.Fail rank) starts polls = starts
-starts_no_poll old own x request other offer (call.GetFailed rank c) starts polls = starts
-starts_no_poll old own x request other offer (call.FailureGetAcked rank c) starts polls = starts
-starts_no_poll old own x request other offer (call.Ack rank c count) starts polls = starts
-starts_no_poll old own x request other offer (call.FailureAck rank c) starts polls = starts
-starts_no_poll old own x request other offer (call.Barrier rank c) starts polls = starts
-starts_no_poll old own x request other offer (call.Poll rank c) starts polls = starts
-starts_no_poll old own x request other offer (call.Revoke rank c) starts polls = starts
-starts_no_poll old own x request other offer (call.IsRevoked rank c) starts polls = starts
-starts_no_poll old own x request other offer (call.Free rank c) starts polls = starts
+starts_no_poll old own x request other offer _ starts polls = starts
 
 -- it reads who has arrived in a barrier, or makes the last load of its poll
 abbrev pub IsBarrier : {P : Type 0} → Phase P → Type 0
@@ -65,19 +56,7 @@ module _ {P : Type 0} (meld : P → P → P) (alone : Bool) (name : Named P) (as
   making_shrinks (Spawning append context reach) making p =
       let d = p.1.decided in
       ap is_shrink (ap (polled_by old) p.0 ∙ polls_it meld name.limits alone before.seen old d.mid (comm_of asked) true p.1.round p.1.x d.decided d.said.marked)
-  making_shrinks Over making p = absurd (cc making)
-  making_shrinks Begun making p = absurd (cc making)
-  making_shrinks Looking making p = absurd (cc making)
-  making_shrinks (Spreading request offer) making p = absurd (cc making)
-  making_shrinks (Settling request offer) making p = absurd (cc making)
-  making_shrinks (Arriving round) making p = absurd (cc making)
-  making_shrinks Revoking making p = absurd (cc making)
-  making_shrinks Asking making p = absurd (cc making)
-  making_shrinks (Peeking peek shrinks) making p = absurd (cc making)
-  making_shrinks (Marking marks blocks shrinks) making p = absurd (cc making)
-  making_shrinks (Reading reading shrinks) making p = absurd (cc making)
-  making_shrinks (Waiting arrivals) making p = absurd (cc making)
-  making_shrinks (Checking missing) making p = absurd (cc making)
+  making_shrinks _ making p = absurd (cc making)
 
   -- what an open request on the communicator says of the poll
   open_polls : (c : ℕ) (look : History P) (x : Held) (request : Request) → c ≡ comm_of asked → asked ≡ call.Poll old.number (comm_of asked) → HasFound alone before.seen look old own → held_at own c ≡ Some x → x.request ≡ Some request → polled_by old asked ≡ Some request
@@ -114,71 +93,26 @@ module _ {P : Type 0} (meld : P → P → P) (alone : Bool) (name : Named P) (as
 
 -- but where it comes by a communicator, a step behind the look leaves what was seen
 pub seen_stays : {P : Type 0} (phase : Phase P) → is_looking phase ≡ false → is_making phase ≡ false → (old new : List ℕ) → StepSees phase old new → new ≡ old
-seen_stays Over past other old new is = is
 seen_stays Begun past other old new is = absurd (cc past)
 seen_stays Looking past other old new is = absurd (cc past)
-seen_stays (Spreading request offer) past other old new is = is
-seen_stays (Settling request offer) past other old new is = is
-seen_stays (Arriving round) past other old new is = is
-seen_stays Revoking past other old new is = is
-seen_stays Asking past other old new is = is
-seen_stays (Peeking peek shrinks) past other old new is = is
-seen_stays (Marking marks blocks shrinks) past other old new is = is
-seen_stays (Reading reading shrinks) past other old new is = is
 seen_stays (ReadingOn on made) past other old new is = absurd (cc other)
-seen_stays (Spawning append context reach) past other old new is = is
-seen_stays (Waiting arrivals) past other old new is = is
-seen_stays (Checking missing) past other old new is = is
+seen_stays _ past other old new is = is
 
 making_past : {P : Type 0} (phase : Phase P) → is_making phase ≡ true → is_looking phase ≡ false
-making_past (ReadingOn on made) making = refl
-making_past (Spawning append context reach) making = refl
-making_past Over making = refl
 making_past Begun making = absurd (cc making)
 making_past Looking making = absurd (cc making)
-making_past (Spreading request offer) making = refl
-making_past (Settling request offer) making = refl
-making_past (Arriving round) making = refl
-making_past Revoking making = refl
-making_past Asking making = refl
-making_past (Peeking peek shrinks) making = refl
-making_past (Marking marks blocks shrinks) making = refl
-making_past (Reading reading shrinks) making = refl
-making_past (Waiting arrivals) making = refl
-making_past (Checking missing) making = refl
+making_past _ making = refl
 
 -- a call doesn't come back to its look
 pub stays_past : {P : Type 0} (phase next : Phase P) → is_looking phase ≡ false → LeadsTo phase (next_of None next) → is_looking next ≡ false
-stays_past Over next past leads = leads
 stays_past Begun next past leads = absurd (cc past)
 stays_past Looking next past leads = absurd (cc past)
-stays_past (Spreading request offer) next past leads = leads
-stays_past (Settling request offer) next past leads = leads
-stays_past (Arriving round) next past leads = leads
-stays_past Revoking next past leads = leads
-stays_past Asking next past leads = leads
-stays_past (Peeking peek shrinks) next past leads = leads
-stays_past (Marking marks blocks shrinks) next past leads = leads
-stays_past (Reading reading shrinks) next past leads = leads
 stays_past (ReadingOn on made) next past leads = making_past next leads
 stays_past (Spawning append context reach) next past leads = making_past next leads
-stays_past (Waiting arrivals) next past leads = leads
-stays_past (Checking missing) next past leads = leads
+stays_past _ next past leads = leads
 
 -- nor back from where it comes by a communicator
 pub stays_making : {P : Type 0} (phase next : Phase P) → is_making phase ≡ true → LeadsTo phase (next_of None next) → is_making next ≡ true
 stays_making (ReadingOn on made) next making leads = leads
 stays_making (Spawning append context reach) next making leads = leads
-stays_making Over next making leads = absurd (cc making)
-stays_making Begun next making leads = absurd (cc making)
-stays_making Looking next making leads = absurd (cc making)
-stays_making (Spreading request offer) next making leads = absurd (cc making)
-stays_making (Settling request offer) next making leads = absurd (cc making)
-stays_making (Arriving round) next making leads = absurd (cc making)
-stays_making Revoking next making leads = absurd (cc making)
-stays_making Asking next making leads = absurd (cc making)
-stays_making (Peeking peek shrinks) next making leads = absurd (cc making)
-stays_making (Marking marks blocks shrinks) next making leads = absurd (cc making)
-stays_making (Reading reading shrinks) next making leads = absurd (cc making)
-stays_making (Waiting arrivals) next making leads = absurd (cc making)
-stays_making (Checking missing) next making leads = absurd (cc making)
+stays_making _ next making leads = absurd (cc making)

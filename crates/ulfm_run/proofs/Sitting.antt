@@ -1,6 +1,6 @@
 -- What a call's begin and each of its steps tell, of a rank that sits as the lines so far say.
 use Rattle.std.proofs.Common.{◌≡◌, ◌⊎◌, ℕ, ◌<◌, ◌≤◌, ◌^◌, ◌||◌, not, Bool, true, false, List, [], ◌∷◌, ◌++◌, length, take, Option, Some, None, is_some, refl, ap, sym, ◌∙◌, subst, arith, append-nil, append_assoc, length-append, inl, inr, IsTrue, IsFalse, if◌then◌else◌}
-use Rattle.std.specs.Prelude.{MatchOption, slice_get}
+use Rattle.std.specs.Prelude.{⊤, MatchOption, slice_get}
 use Rattle.ulfm_model.specs.declared.{call.Call.{Call}, event.Caller.{Caller}, event.Caller.TheVariants.{Rank}, event.Entry.{Entry}, event.Event.{Event}, refusal.Refusal.TheVariants.{SelfFailed}, reply.Reply.{Reply}, reply.Reply.TheVariants.{Refused}}
 use Rattle.ulfm_model.specs.declared.step_name.StepName.TheVariants as step
 use Rattle.ulfm_model.specs.declared.step_name.StepName.{StepName}
@@ -17,7 +17,7 @@ use Rattle.ulfm_model.specs.Follows.{AreOf, EndsInReply, step_of, steps_in}
 use Rattle.ulfm_model.specs.Traces.{AreLegalAfter, Told, Traced, after, listed, said_by, same_caller}
 use Rattle.ulfm_model.proofs.Callers.{same_rank}
 use Rattle.ulfm_run.specs.declared.told.{Answer.{Answer}, StepTold.{StepTold}}
-use Rattle.ulfm_run.specs.{Seats.{AreToldBy, MayList, Seated, Sits, SitsAt, TellsBegin, TellsPiece, entries_of, event_piece, has_looked, call_steps_left, look_piece, piece_of, reply_piece, wants_in}, Stepping.{HasBegun, HasCalled, IsIdle, point_of, reply_told}}
+use Rattle.ulfm_run.specs.{Seats.{AreToldBy, GoesOrEnds, MayList, Seated, Sits, SitsAt, TellsBegin, TellsPiece, entries_of, event_piece, group_in, has_looked, call_steps_left, look_piece, piece_of, reply_piece, wants_in}, Stepping.{HasBegun, HasCalled, IsIdle, point_of, reply_told}}
 use Rattle.ulfm_run.proofs.{Beginning.{begun, may_call, refused}, ByName.{event_named, get_last, look_named}, ByPhase.{in_look}, LooksOn.{looks_on, no_event}, Nexts.{reply_next}, Reseen.{reseen}, Stepped.{comes}, Turns.{EndsSo, LooksOn, NextAt, SaysStep}}
 use Rattle.ulfm_comm.specs.Prepared.{Prepared}
 
@@ -240,37 +240,46 @@ module _ {P : Type 0} (meld : P → P → P) (name : Over P) (before later : Sig
   abbrev taken : Seated P
   taken = record { own = own; call = Some doing; found = found }
 
+  -- what it tells, with this reply or none, where so much more is known then, and where the rank sits
+  module _ (answer : Option (Answer P)) (call : Option (UnderWay P)) (since : ℕ) (Known : Type 0) where
+    abbrev group : List ℕ
+    group = group_in name.limits.ranks later.seen c answer
+
+    abbrev told : StepTold P
+    told = record { look = look; event = event; reply = answer }
+
+    abbrev left : Seated P
+    left = record { own = own'; call = call; found = since }
+
+    abbrev After : Traced P → Type 0
+    After t = Sits meld name t later left × Known
+
+    tells : ((now : Traced P) → Sits meld name now before taken → Comes now (reply_piece r group answer) After)
+        → (Known → GoesOrEnds name.limits later.seen (piece_of r told group) taken left answer) → (now : Traced P) → Sits meld name now before taken → TellsPiece meld name taken before told left later
+    tells at next witness sits =
+        let first = at witness sits in
+        record {
+          number = first.number;
+          named = s.named;
+          keeps = s.cached;
+          seen = first.seen;
+          piece = piece_of r told group;
+          piece_is = refl;
+          of = all_of r group told;
+          few = one_step r group look event answer apart;
+          by_step = all_by r group told (next_step doing.phase) list_is (event_is witness sits first.seen);
+          legal = λ now there. (at now there).legal;
+          sits = λ now there. (at now there).after_them.0;
+          next = next first.after_them.1;
+        }
+
   -- it goes on
   pub goes : result ≡ None → (now : Traced P) → Sits meld name now before taken → TellsPiece meld name taken before (record { look = look; event = event; reply = None }) (record { own = own'; call = Some doing'; found = found' }) later
-  goes none witness sits =
-      let first = at witness sits in
-      record {
-        number = first.number;
-        named = s.named;
-        keeps = s.cached;
-        seen = first.seen;
-        piece = piece;
-        piece_is = refl;
-        of = all_of r [] told;
-        few = one_step r [] look event None apart;
-        by_step = all_by r [] told (next_step doing.phase) list_is (event_is witness sits first.seen);
-        legal = λ now there. (at now there).legal;
-        sits = λ now there. (at now there).after_them;
-        next = (refl, nearer);
-      }
+  goes none = tells None (Some doing') found' ⊤ at (λ known. (refl, nearer))
     where
-      told : StepTold P
-      told = record { look = look; event = event; reply = None }
-
-      piece : List (Told P)
-      piece = piece_of r told []
-
-      After : Traced P → Type 0
-      After t = SitsAt meld name t later own' found' (Some doing')
-
-      at : (now : Traced P) → Sits meld name now before taken → Comes now [] After
+      at : (now : Traced P) → Sits meld name now before taken → Comes now [] (After None (Some doing') found' ⊤)
       at now there =
-          comes_at now [] After (λ t next. let on = subst (λ q. Then q t) none next in (on.0, tt, inr on.1)) (λ is number begins. (tt, inl begins)) there
+          comes_at now [] (After None (Some doing') found' ⊤) (λ t next. let on = subst (λ q. Then q t) none next in (on.0, tt, (inr on.1, tt))) (λ is number begins. (tt, (inl begins, tt))) there
 
       nearer : call_steps_left name.limits own' (Some doing') < call_steps_left name.limits own (Some doing)
       nearer =
@@ -280,38 +289,17 @@ module _ {P : Type 0} (meld : P → P → P) (name : Over P) (before later : Sig
   -- it is answered
   pub ends : (reply : Reply P) → result ≡ Some reply → (now : Traced P) → Sits meld name now before taken
       → TellsPiece meld name taken before (record { look = look; event = event; reply = Some (record { point = point; reply = reply }) }) (record { own = own'; call = None; found = found }) later
-  ends reply is witness sits =
-      let first = at witness sits in
-      record {
-        number = first.number;
-        named = s.named;
-        keeps = s.cached;
-        seen = first.seen;
-        piece = piece;
-        piece_is = refl;
-        of = all_of r group told;
-        few = one_step r group look event (Some answer) apart;
-        by_step = all_by r group told (next_step doing.phase) list_is (event_is witness sits first.seen);
-        legal = λ now there. (at now there).legal;
-        sits = λ now there. (at now there).after_them.0;
-        next = record { over = refl; in_reply = last_reply r group look event answer; may_list = first.after_them.1 };
-      }
+  ends reply is = tells (Some answer) None found May at (λ list. record { over = refl; in_reply = last_reply r (listed name.limits.ranks (take point later.seen) c reply) look event answer; may_list = list })
     where
       answer : Answer P
       answer = record { point = point; reply = reply }
 
-      told : StepTold P
-      told = record { look = look; event = event; reply = Some answer }
+      May : Type 0
+      May = MayList name.limits.ranks (take point later.seen) c reply own'
 
-      group : List ℕ
-      group = listed name.limits.ranks (take point later.seen) c reply
-
-      piece : List (Told P)
-      piece = piece_of r told group
-
-      at : (now : Traced P) → Sits meld name now before taken → Comes now (reply_told r point group reply ∷ []) (λ t. IsIdle meld name t later own' × MayList name.limits.ranks (take point later.seen) c reply own')
+      at : (now : Traced P) → Sits meld name now before taken → Comes now (reply_piece r (group (Some answer) None found May) (Some answer)) (After (Some answer) None found May)
       at now there =
-          comes_at now (reply_told r point group reply ∷ []) (λ t. IsIdle meld name t later own' × MayList name.limits.ranks (take point later.seen) c reply own')
+          comes_at now (reply_piece r (group (Some answer) None found May) (Some answer)) (After (Some answer) None found May)
           (λ t next. let e = subst (λ q. Then q t) is next in (e.number, (e.may, tt), (e.idle, e.list))) (λ none number begins. absurd (cc (is, none))) there
 
 -- a call that is under way may take its next step
@@ -339,9 +327,9 @@ module _ {P : Type 0} (meld : P → P → P) (name : Over P) (before later : Sig
 
   pub polls_shrink : (now : Traced P) → SitsAt meld name now before own found (Some doing) → IsTrue (is_shrink (polled_by own doing.asked))
   polls_shrink now (inl h) =
-      shrinks h.old before h.in_use (begun_same meld name doing.asked h.old before doing.prepared own before doing.phase h.looking h.stands.at)
+      shrinks h.old before h.known.in_use (begun_same meld name doing.asked h.old before doing.prepared own before doing.phase h.looking h.stands.at)
       (stands false (λ alone. absurd (cc alone)) h.old before before h.stands (waits_none before))
-  polls_shrink now (inr h) = shrinks h.old h.before h.in_use h.own_same (stands false (λ alone. absurd (cc alone)) h.old h.before h.stood h.stands h.waits)
+  polls_shrink now (inr h) = shrinks h.old h.before h.known.in_use h.own_same (stands false (λ alone. absurd (cc alone)) h.old h.before h.stood h.stands h.waits)
 
 -- so many failures as a look found are fewer than can be counted
 module _ {P : Type 0} (meld : P → P → P) (name : Over P) (before later : Sight P) (own own' : Record) (found : ℕ) (doing doing' : UnderWay P) (result : Option (Reply P)) (of : IsView meld (view_at name before)) (s : Stepped meld true doing (local own (view_at name before)) (next_of result doing'.phase) (local own' (view_at name later)))
@@ -360,7 +348,7 @@ module _ {P : Type 0} (meld : P → P → P) (name : Over P) (before later : Sig
           let stays = ap (λ b. has_looked b result doing'.phase) h.looking ∙ (ap (λ q. has_looked true q doing'.phase) none ∙ ap not begins.looking) in absurd (cc (stays, ended))
       go (inr (may, next)) =
           let range = of.may_open.in_range.ranks in
-          let few = failures_le meld name.limits before.seen of.legal in omega (arith, may.1, ap (λ (w : History P). length (failures w)) h.history, few, range)
+          let few = failures_le meld name.limits before.seen of.legal in omega (arith, may.1, ap (λ (w : History P). length (failures w)) h.known.history, few, range)
 
 -- a step that doesn't lack memory
 pub memory_is : {P : Type 0} (result : Option (Reply P)) → wants_in result ≡ false → (reply : Reply P) → result ≡ Some reply → wants_memory reply ≡ false

@@ -3,7 +3,7 @@ use Rattle.std.proofs.Common.{◌≡◌, ◌≢◌, ◌⊎◌, ℕ, zero, suc, �
 use Rattle.std.specs.{Prelude.{slice_get}}
 use mathlib.Core.List.{IsPrefix}
 use Rattle.std.proofs.lemmas.Bool.{ne_eqb}
-use Rattle.std.proofs.lemmas.List.{length-set}
+use Rattle.std.proofs.lemmas.{List.{length-set}, Option.{slice_get_within}}
 use Rattle.ulfm_laws.specs.{Flags.{flag_meld}, declared.flag_and.FlagAnd.{FlagAnd}}
 use Rattle.ulfm_model.specs.declared.{call.Call.{Call}, event.Caller.{Caller}, reply.Reply.{Reply}}
 use Rattle.ulfm_words.specs.Steps.{view_at, IsView, Name, Sight}
@@ -16,22 +16,13 @@ use Rattle.ulfm_lines.specs.{LineTexts.{lines_text}, StepLines.{ScriptStep}, Ste
 use Rattle.ulfm_lines.specs.declared.step_machine.Taken.TheVariants.{Run}
 use Rattle.ulfm_run.specs.{Table.{IsNobody, OthersStay, IsSeatOf, StandsFor}, Walks.{FlagSeat, flag_words}}
 use Rattle.ulfm_lines.proofs.Calls.{find_left_out}
-use Rattle.ulfm_run.proofs.{Pieces.{AllBy, piece_call, piece_record}}
+use Rattle.ulfm_run.proofs.{Pieces.{AllBy, others_of, piece_call, piece_record}}
 
 -- a piece of a legal trace for one line of the script
 pub tells_step : (Stands : Traced FlagAnd → Type 0) (now : Traced FlagAnd) (step : ScriptStep) (piece : List (Told FlagAnd)) (text more : List ℕ) → AreLegalAfter flag_meld now piece → IsPiece now step piece → Stands (said_by now piece)
     → more ≡ text ++ lines_text piece → TellsStep Stands now step Run text more
 tells_step Stands now step piece text more legal is_piece stands told =
     (piece, said_by now piece, record { legal = legal; follows = (piece, [], sym (append-nil piece), is_piece, refl); new_is = refl }, stands, told)
-
--- what is put behind a list without such an element is found
-pub find_last : {X : Type 0} (p : X → Bool) (xs : List X) (x : X) → find p xs ≡ None → p x ≡ true → find p (xs ++ x ∷ []) ≡ Some x
-find_last p [] x none is = ap (λ (b : Bool). if b then Some x else None) is
-find_last {X} p (y ∷ ys) x none is = go (p y) none (λ more. find_last p ys x more is)
-  where
-    go : (b : Bool) → (if b then Some y else find p ys) ≡ None → (find p ys ≡ None → find p (ys ++ x ∷ []) ≡ Some x) → (if b then Some y else find p (ys ++ x ∷ [])) ≡ Some x
-    go true none more = absurd (cc none)
-    go false none more = more none
 
 -- an element of a list with one changed is that one, or stood there before
 pub get_changed : {X : Type 0} (xs : List X) (i j : ℕ) (x y : X) → slice_get (set xs i x) j ≡ Some y → ((j ≡ i) × (y ≡ x)) ⊎ ((j ≢ i) × (slice_get xs j ≡ Some y))
@@ -57,18 +48,6 @@ get_kept (z ∷ zs) (suc i) (suc j) x ne = get_kept zs i j x (λ same. ne (ap su
 pub others_stay : (seats : List FlagSeat) (i r : ℕ) (seat : FlagSeat) → i ≡ r → OthersStay r seats (set seats i seat)
 others_stay seats i r seat same q differ = get_kept seats i q seat (λ is. differ (is ∙ same))
 
--- the element at an index
-pub get_there : {X : Type 0} (xs : List X) (i : ℕ) (d : X) → i < length xs → slice_get xs i ≡ Some (get_or xs i d)
-get_there [] i d below = absurd (omega (arith, below))
-get_there (x ∷ xs) zero d below = refl
-get_there (x ∷ xs) (suc i) d below = get_there xs i d (omega (arith, below))
-
--- an index that has an element is within
-pub get_below : {X : Type 0} (xs : List X) (i : ℕ) (x : X) → slice_get xs i ≡ Some x → i < length xs
-get_below [] i x is = absurd (cc is)
-get_below (y ∷ ys) zero x is = omega arith
-get_below (y ∷ ys) (suc i) x is = let less = get_below ys i x is in omega (arith, less)
-
 -- a call that is answered is no longer under way
 pub reply_frees : (now : Traced FlagAnd) (by : Caller) (point : ℕ) (reply : Reply FlagAnd) → call_by (after now (Line.Replied by point (Some reply))) by ≡ None
 reply_frees now by point reply = go (call_by now by) refl
@@ -76,11 +55,6 @@ reply_frees now by point reply = go (call_by now by) refl
     go : (answered : Option (Under FlagAnd)) → call_by now by ≡ answered → call_by (after_reply now by point reply answered) by ≡ None
     go None is = is
     go (Some u) is = find_left_out by now.calls
-
--- one caller's lines are others' for another
-others_of : (by other : Caller) (piece : List (Told FlagAnd)) → AllBy by piece → same_caller by other ≡ false → AreOthers other piece
-others_of by other [] all differ = tt
-others_of by other (told ∷ rest) all differ = (ap (λ c. same_caller c other) all.0 ∙ differ, others_of by other rest all.1 differ)
 
 pub ranks_differ : (r s : ℕ) → r ≢ s → same_caller (Caller.Rank r) (Caller.Rank s) ≡ false
 ranks_differ r s ne = ne_eqb r s ne
@@ -98,7 +72,8 @@ module _ (name : Name) (pass : Sight FlagAnd) (seats : List FlagSeat) (now : Tra
   -- a rank that the world doesn't have is still nobody
   still_nobody : (r : ℕ) → IsNobody now r → same_caller by (Caller.Rank r) ≡ false → IsNobody (said_by now piece) r
   still_nobody r nobody differ =
-      record { record_is = piece_record now piece by r all differ ∙ nobody.record_is; free = piece_call now piece by (Caller.Rank r) all differ ∙ nobody.free }
+      let others = others_of by (Caller.Rank r) piece all differ in
+      record { record_is = piece_record now piece r others ∙ nobody.record_is; free = piece_call now piece (Caller.Rank r) others ∙ nobody.free }
 
   -- lines of nobody who has a seat, but for one rank beyond them
   pub stands_on : call_by (said_by now piece) Caller.Outside ≡ None → ((r : ℕ) → r < name.limits.ranks → same_caller by (Caller.Rank r) ≡ false)
@@ -115,7 +90,7 @@ module _ (name : Name) (pass : Sight FlagAnd) (seats : List FlagSeat) (now : Tra
       }
     where
       below : (r : ℕ) (seat : FlagSeat) → slice_get seats r ≡ Some seat → r < name.limits.ranks
-      below r seat is = let less = get_below seats r seat is in omega (arith, less, stands.size)
+      below r seat is = let less = slice_get_within seats r seat is in omega (arith, less, stands.size)
 
       nobody : (r : ℕ) → name.limits.ranks ≤ r → (b : Bool) → same_caller by (Caller.Rank r) ≡ b → IsNobody (said_by now piece) r
       nobody r above true is = own r above is
@@ -129,14 +104,14 @@ module _ (name : Name) (pass : Sight FlagAnd) (seats : List FlagSeat) (now : Tra
         of = of;
         limits = limits_stay flag_meld now piece ∙ stands.limits;
         history = history;
-        no_declaration = piece_call now piece by Caller.Outside all (ap (λ c. same_caller c Caller.Outside) mine) ∙ stands.no_declaration;
+        no_declaration = piece_call now piece Caller.Outside (others_of by Caller.Outside piece all (ap (λ c. same_caller c Caller.Outside) mine)) ∙ stands.no_declaration;
         size = length-set seats r left ∙ stands.size;
         each = λ s other is. each s other (get_changed seats r s left other is);
         beyond = λ s above. still_nobody s (stands.beyond s above) (ap (λ c. same_caller c (Caller.Rank s)) mine ∙ ranks_differ r s (λ same. absurd (omega (arith, same, above, within, stands.size))));
       }
     where
       within : r < length seats
-      within = get_below seats r seat there
+      within = slice_get_within seats r seat there
 
       each : (s : ℕ) (other : FlagSeat) → ((s ≡ r) × (other ≡ left)) ⊎ ((s ≢ r) × (slice_get seats s ≡ Some other)) → IsSeatOf name (said_by now piece) later s other
       each s other (inl (same, is)) =

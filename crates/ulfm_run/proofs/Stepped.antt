@@ -20,8 +20,9 @@ use Rattle.ulfm_comm.specs.Local.{frame, local}
 use Rattle.ulfm_model.specs.declared.line.Line.TheVariants.{Happened}
 use Rattle.ulfm_model.specs.Traces.{MayCome, Traced, Under, after, call_by, found_by, is_owned, record_in, same_caller, with_event}
 use Rattle.ulfm_model.proofs.Callers.{find_change, same_rank}
-use Rattle.ulfm_run.specs.Stepping.{FoundAt, HasCalled, events_by, is_early, point_of}
-use Rattle.ulfm_run.proofs.{ByPhase.{found_by_check}, Ending.{ends_so, found_is, lists_none, may_list}, Nexts.{reply_next}, Phases.{IsBarrier, barrier_phase, checking_polls, making_shrinks, seen_stays, stands_same, stays_making, stays_past}}
+use Rattle.ulfm_lines.proofs.Calls.{keeps_asked}
+use Rattle.ulfm_run.specs.Stepping.{FoundAt, HasCalled, KnowsCall, events_by, is_early, point_of}
+use Rattle.ulfm_run.proofs.{ByPhase.{found_by_check}, Ending.{ends_so, found_is, lists_none, may_list}, Knowing.{known_then}, Nexts.{reply_next}, Phases.{IsBarrier, barrier_phase, checking_polls, making_shrinks, seen_stays, stands_same, stays_making, stays_past}}
 use Rattle.ulfm_run.proofs.{Replying.{by_append, reply_answers}, Reseen.{own_reseen, reseen}, Swapping.{answer_swaps}, Turns.{EndsSo, NextAt, SaysStep}}
 
 -- an event that needs no look may be added with any
@@ -79,28 +80,7 @@ did_is own x y did = ap (λ w. x ++ w) (sym (did.quiet refl)) ∙ did.goes_on
 -- a barrier's poll that makes its last load next
 checking_is : {P : Type 0} (phase : Phase P) → is_checking phase ≡ true → (missing : Missing) × (phase ≡ Checking missing)
 checking_is (Checking missing) is = (missing, refl)
-checking_is Over is = absurd (cc is)
-checking_is Begun is = absurd (cc is)
-checking_is Looking is = absurd (cc is)
-checking_is (Spreading request offer) is = absurd (cc is)
-checking_is (Settling request offer) is = absurd (cc is)
-checking_is (Arriving round) is = absurd (cc is)
-checking_is Revoking is = absurd (cc is)
-checking_is Asking is = absurd (cc is)
-checking_is (Peeking peek shrinks) is = absurd (cc is)
-checking_is (Marking marks blocks shrinks) is = absurd (cc is)
-checking_is (Reading reading shrinks) is = absurd (cc is)
-checking_is (ReadingOn on made) is = absurd (cc is)
-checking_is (Spawning append context reach) is = absurd (cc is)
-checking_is (Waiting arrivals) is = absurd (cc is)
-
--- an event leaves what a call asks
-pub keeps_asked : {P : Type 0} (event : Event P) (u : Under P) → (with_event event u).asked ≡ u.asked
-keeps_asked {P} event u = go (is_owned u event)
-  where
-    go : (b : Bool) → (let v : Under P = if b then record u { own = u.own ++ event ∷ [] } else u in v.asked) ≡ u.asked
-    go true = refl
-    go false = refl
+checking_is _ is = absurd (cc is)
 
 module _ {P : Type 0} (meld : P → P → P) (name : Named P) (now : Traced P) (pass after_it : Sight P) (own : Record) (found : ℕ) (doing : UnderWay P) (h : HasCalled meld name now pass own found doing) (of_old : IsView meld (view_at name pass))
     (result : Option (Reply P)) (own' : Record) (doing' : UnderWay P) (s : Stepped meld true doing (local own (view_at name pass)) (next_of result doing'.phase) (local own' (view_at name after_it))) (asked' : doing'.asked ≡ doing.asked)
@@ -118,7 +98,7 @@ module _ {P : Type 0} (meld : P → P → P) (name : Named P) (now : Traced P) (
   own_held c = sym (ap (λ (w : Record). held_at w c) h.own_same)
 
   begins_now : IsPrefix start now.history
-  begins_now = (h.rest, h.since ∙ sym h.history)
+  begins_now = (h.rest, h.since ∙ sym h.known.history)
 
   added : Adds true look own doing.asked result pass.seen after_it.seen
   added = adds_of look own doing.asked result pass.seen after_it.seen doing.phase h.sees (subst (λ r. StepAdds true own doing.asked doing.phase r pass.seen after_it.seen) (reply_next result doing'.phase) s.adds)
@@ -128,15 +108,15 @@ module _ {P : Type 0} (meld : P → P → P) (name : Named P) (now : Traced P) (
   seen_then other = go (is_making doing.phase) refl
     where
       go : (b : Bool) → is_making doing.phase ≡ b → own'.seen ≡ look
-      go true making = absurd (cc (making_shrinks meld false name doing.asked h.old h.before doing.prepared own h.stood h.in_use doing.phase making h.stands.at, other))
+      go true making = absurd (cc (making_shrinks meld false name doing.asked h.old h.before doing.prepared own h.stood h.known.in_use doing.phase making h.stands.at, other))
       go false not = seen_stays doing.phase h.past not own.seen own'.seen s.sees ∙ h.sees not
 
   -- the event of a step
   module _ (event : Event P) (makes : Makes look own doing.asked result event) (one_more : pass.seen ++ record { by = Rank own.number; event = event } ∷ [] ≡ after_it.seen) where
-    may_own : MayOwn (found_by now h.u) (reseen h.old h.seen) h.u.asked event
+    may_own : MayOwn (found_by now h.u) (reseen h.old h.known.seen) h.u.asked event
     may_own =
         let found_there = found_is now h.u start h.look begins_now in
-        own_reseen (found_by now h.u) h.old h.seen h.u.asked event (subst (λ (a : Call P). MayOwn (found_by now h.u) h.old a event) (sym h.asked)
+        own_reseen (found_by now h.u) h.old h.known.seen h.u.asked event (subst (λ (a : Call P). MayOwn (found_by now h.u) h.old a event) (sym h.known.asked_is)
         (subst (λ s. MayOwn s h.old doing.asked event) (sym found_there) (record {
           not_declared = h.not_declared;
           not_refused = h.not_refused;
@@ -147,10 +127,10 @@ module _ {P : Type 0} (meld : P → P → P) (name : Named P) (now : Traced P) (
     may_follow =
         let legal = subst (IsLegal meld name.limits) (sym one_more) s.of.legal in
         let last = (legal_parts meld name.limits pass.seen (record { by = Rank own.number; event = event } ∷ []) legal).1.0 in
-        subst (λ l. MayFollow meld l now.history event) (sym h.limits) (subst (λ w. MayFollow meld name.limits w event) (sym h.history) last)
+        subst (λ l. MayFollow meld l now.history event) (sym h.known.limits) (subst (λ w. MayFollow meld name.limits w event) (sym h.known.history) last)
 
     may_happen : MayCome meld now [] (Happened (Rank own.number) (Some event))
-    may_happen = (may_follow, record { call = h.u; is_open = h.call; looked = subst (λ o. IsTrue (is_some o)) (sym h.look) refl; own = reseen h.old h.seen; has_record = h.record_is; may_own = may_own })
+    may_happen = (may_follow, record { call = h.u; is_open = h.known.call; looked = subst (λ o. IsTrue (is_some o)) (sym h.look) refl; own = reseen h.old h.known.seen; has_record = h.known.record_is; may_own = may_own })
 
     abbrev next : Traced P
     next = after now (Happened (Rank own.number) (Some event))
@@ -159,10 +139,10 @@ module _ {P : Type 0} (meld : P → P → P) (name : Named P) (now : Traced P) (
     u_next = record h.u { own = h.u.own ++ event ∷ [] }
 
     history_then : next.history ≡ after_it.seen
-    history_then = ap (λ w. w ++ record { by = Rank own.number; event = event } ∷ []) h.history ∙ one_more
+    history_then = ap (λ w. w ++ record { by = Rank own.number; event = event } ∷ []) h.known.history ∙ one_more
 
     owned : (traits_of h.u.asked).by ≡ Rank own.number
-    owned = ap (λ (a : Call P). (traits_of a).by) h.asked ∙ (h.stands.mine ∙ ap Rank (sym own_number))
+    owned = ap (λ (a : Call P). (traits_of a).by) h.known.asked_is ∙ (h.stands.mine ∙ ap Rank (sym own_number))
 
     u_then : with_event event h.u ≡ u_next
     u_then = by_owner (traits_of h.u.asked).by owned
@@ -172,7 +152,7 @@ module _ {P : Type 0} (meld : P → P → P) (name : Named P) (now : Traced P) (
         by_owner Outside is = absurd (cc is)
 
     call_then : call_by next (Rank own.number) ≡ Some u_next
-    call_then = find_change (Rank own.number) (with_event event) (keeps_asked event) now.calls h.u h.call ∙ ap Some u_then
+    call_then = find_change (Rank own.number) (with_event event) (keeps_asked event) now.calls h.u h.known.call ∙ ap Some u_then
 
     own_then : events_by (Rank own.number) (h.rest ++ record { by = Rank own.number; event = event } ∷ []) ≡ h.u.own ++ event ∷ []
     own_then = by_append (Rank own.number) h.rest (record { by = Rank own.number; event = event } ∷ []) ∙ ap₂ (λ a b. a ++ b) h.own_is (ap (λ (b : Bool). if b then event ∷ [] else []) (same_rank own.number))
@@ -180,40 +160,41 @@ module _ {P : Type 0} (meld : P → P → P) (name : Named P) (now : Traced P) (
     since_then : start ++ (h.rest ++ record { by = Rank own.number; event = event } ∷ []) ≡ after_it.seen
     since_then = sym (append_assoc start h.rest (record { by = Rank own.number; event = event } ∷ [])) ∙ (ap (λ w. w ++ record { by = Rank own.number; event = event } ∷ []) h.since ∙ one_more)
 
-  -- The step has ended, and so much is said: `t`, with the call as `u`.
-  module _ (t : Traced P) (u : Under P) (rest : History P) (limits_t : t.limits ≡ name.limits) (history_t : t.history ≡ after_it.seen) (call_t : call_by t (Rank own.number) ≡ Some u) (record_t : record_in t own.number ≡ Some (reseen h.old h.seen))
-      (asked_t : u.asked ≡ doing.asked) (begun_t : u.begun ≡ h.u.begun) (look_t : u.look ≡ h.u.look) (since_t : start ++ rest ≡ after_it.seen) (own_t : events_by (Rank own.number) rest ≡ u.own) where
+  -- What is said when the step has ended, `t`, with the call as `u`, and what came since its look: no event of the call that is new, or one.
+  record Said (t : Traced P) (u : Under P) (rest : History P) : Type 0 where
+    pub known : KnowsCall name t after_it own doing.asked u h.old
+    pub begun : u.begun ≤ length start
+    pub look_is : u.look ≡ Some (length look)
+    pub since : start ++ rest ≡ after_it.seen
+    pub own_is : events_by (Rank own.number) rest ≡ u.own
+    pub adds : (u.own ≡ h.u.own) ⊎ ((event : Event P) × (u.own ≡ h.u.own ++ event ∷ []) × Makes look own doing.asked result event)
+
+  module _ (t : Traced P) (u : Under P) (rest : History P) (x : Said t u rest) where
     -- the call goes on
-    goes_on : (leads : LeadsTo doing.phase (next_of None doing'.phase)) → Stands meld false (local h.old (view_at name h.before)) doing' (local own' (view_at name after_it)) → (found' : ℕ) → FoundAt meld name.limits (comm_of doing'.asked) (moment h.old start) (moment own' after_it.seen) found' doing'.phase
-        → ((traits_of doing.asked).polls ≡ false → u.own ≡ []) → (own'.number ≡ own.number) × HasCalled meld name t after_it own' found' doing'
-    goes_on leads stands found' found_at no_own =
+    goes_on : result ≡ None → (leads : LeadsTo doing.phase (next_of None doing'.phase)) → Stands meld false (local h.old (view_at name h.before)) doing' (local own' (view_at name after_it)) → (found' : ℕ) → FoundAt meld name.limits (comm_of doing'.asked) (moment h.old start) (moment own' after_it.seen) found' doing'.phase
+        → (own'.number ≡ own.number) × HasCalled meld name t after_it own' found' doing'
+    goes_on going leads stands found' found_at =
         let past = stays_past doing.phase doing'.phase h.past leads in
-        let same = stands_same meld false name doing'.asked h.old h.before doing'.prepared own' after_it h.in_use doing'.phase past stands.at in
+        let same = stands_same meld false name doing'.asked h.old h.before doing'.prepared own' after_it h.known.in_use doing'.phase past stands.at in
         let number : own.number ≡ own'.number = own_number ∙ sym (ap (λ (w : Record). w.number) same) in (
           sym number,
           record {
-            limits = limits_t;
-            history = history_t;
             u = u;
-            call = subst (λ n. call_by t (Rank n) ≡ Some u) number call_t;
-            asked = asked_t ∙ sym asked';
             old = h.old;
-            seen = h.seen;
-            record_is = subst (λ n. record_in t n ≡ Some (reseen h.old h.seen)) number record_t;
+            known = known_then x.known number (sym asked') refl;
             before = h.before;
             stood = after_it;
             stands = stands;
             waits = waits_none after_it;
             past = past;
-            in_use = h.in_use;
             own_same = same;
             sees = λ not. sees (is_making doing.phase) refl not;
-            begun = subst (λ n. n ≤ length start) (sym begun_t) h.begun;
-            look = look_t ∙ h.look;
+            begun = x.begun;
+            look = x.look_is;
             rest = rest;
-            since = since_t;
-            own_is = subst (λ n. events_by (Rank n) rest ≡ u.own) number own_t;
-            no_own = λ no_poll. no_own (ap (λ (a : Call P). (traits_of a).polls) (sym asked') ∙ no_poll);
+            since = x.since;
+            own_is = subst (λ n. events_by (Rank n) rest ≡ u.own) number x.own_is;
+            no_own = λ no_poll. no_own (ap (λ (a : Call P). (traits_of a).polls) (sym asked') ∙ no_poll) x.adds;
             not_declared = h.not_declared;
             not_refused = ap (refusal_of h.old) asked' ∙ h.not_refused;
             found_at = found_at;
@@ -224,14 +205,31 @@ module _ {P : Type 0} (meld : P → P → P) (name : Named P) (now : Traced P) (
         sees true making not = absurd (cc (stays_making doing.phase doing'.phase making leads, not))
         sees false before not = seen_stays doing.phase h.past before own.seen own'.seen s.sees ∙ h.sees before
 
+        -- an event of a call that doesn't poll is answered at once
+        no_own : (traits_of doing.asked).polls ≡ false → (u.own ≡ h.u.own) ⊎ ((event : Event P) × (u.own ≡ h.u.own ++ event ∷ []) × Makes look own doing.asked result event) → u.own ≡ []
+        no_own no_poll (inl same) = same ∙ h.no_own no_poll
+        no_own no_poll (inr (event, own_more, makes)) = no_more (makes.wins no_poll)
+          where
+            no_more : (result ≡ Some Started) ⊎ (result ≡ Some Revoked) → u.own ≡ []
+            no_more (inl is) = absurd (cc (is, going))
+            no_more (inr is) = absurd (cc (is, going))
+
     -- it is answered, at the present point
-    ends_now : (reply : Reply P) → IsEndRun meld name.limits false (moment h.old start) doing.asked reply (moment own' after_it.seen) → Fits meld name.limits after_it.seen own'
-        → ((traits_of doing.asked).polls ≡ false → (u.own ≡ []) ⊎ ((e : Event P) × (u.own ≡ e ∷ []) × ((reply ≡ Started) ⊎ (reply ≡ Revoked))))
+    ends_now : (reply : Reply P) → result ≡ Some reply → IsEndRun meld name.limits false (moment h.old start) doing.asked reply (moment own' after_it.seen) → Fits meld name.limits after_it.seen own'
         → EndsSo meld name t after_it own.number (comm_of doing.asked) (length after_it.seen) reply own'
-    ends_now reply ended fits few =
-        let answers = reply_answers meld name.limits start after_it.seen h.old doing.asked reply own' ended rest since_t u.own (subst (λ n. events_by (Rank n) rest ≡ u.own) own_number own_t) few seen_then in
-        ends_so meld name t after_it own.number h.old h.seen u doing.asked start after_it.seen rest [] reply own' limits_t history_t call_t record_t own_number h.in_use asked_t (subst (λ n. n ≤ length start) (sym begun_t) h.begun) (look_t ∙ h.look) since_t
+    ends_now reply is ended fits =
+        let answers = reply_answers meld name.limits start after_it.seen h.old doing.asked reply own' ended rest x.since u.own (subst (λ n. events_by (Rank n) rest ≡ u.own) own_number x.own_is) (λ no_poll. few no_poll x.adds) seen_then in
+        ends_so meld name t after_it own.number h.old x.known.seen u doing.asked start after_it.seen rest [] reply own' x.known.limits x.known.history x.known.call x.known.record_is own_number x.known.in_use x.known.asked_is x.begun x.look_is x.since
         (append-nil after_it.seen) answers ended fits (may_list meld name.limits start after_it.seen h.old doing.asked own' fits reply ended)
+      where
+        how : (result ≡ Some Started) ⊎ (result ≡ Some Revoked) → (reply ≡ Started) ⊎ (reply ≡ Revoked)
+        how (inl started) = inl (cc (is, started))
+        how (inr revoked) = inr (cc (is, revoked))
+
+        few : (traits_of doing.asked).polls ≡ false → (u.own ≡ h.u.own) ⊎ ((event : Event P) × (u.own ≡ h.u.own ++ event ∷ []) × Makes look own doing.asked result event)
+            → (u.own ≡ []) ⊎ ((e : Event P) × (u.own ≡ e ∷ []) × ((reply ≡ Started) ⊎ (reply ≡ Revoked)))
+        few no_poll (inl same) = inl (same ∙ h.no_own no_poll)
+        few no_poll (inr (event, own_more, makes)) = inr (event, own_more ∙ ap (λ es. es ++ event ∷ []) (h.no_own no_poll), how (makes.wins no_poll))
 
   abbrev Says : (Traced P → Type 0) → Type 0
   Says Then = SaysStep meld now own.number pass.seen after_it.seen Then
@@ -245,43 +243,63 @@ module _ {P : Type 0} (meld : P → P → P) (name : Named P) (now : Traced P) (
   abbrev Few : Type 0
   Few = (added.events ≡ []) ⊎ ((event : Event P) × (added.events ≡ event ∷ []) × Makes look own doing.asked result event)
 
-  -- whether it told an event or not, the call goes on
-  says_goes : result ≡ None → Stands meld false (local h.old (view_at name h.before)) doing' (local own' (view_at name after_it)) → LeadsTo doing.phase (next_of None doing'.phase) → (found' : ℕ) → FoundAt meld name.limits (comm_of doing'.asked) (moment h.old start) (moment own' after_it.seen) found' doing'.phase → Few
-      → Says (λ t. (own'.number ≡ own.number) × HasCalled meld name t after_it own' found' doing')
-  says_goes going stands leads found' found_at (inl none) =
-      let same = same_history none in inl (same, goes_on now h.u h.rest h.limits (h.history ∙ same) h.call h.record_is h.asked refl refl (h.since ∙ same) h.own_is leads stands found' found_at h.no_own)
-  says_goes going stands leads found' found_at (inr (event, one, makes)) =
-      let more = one_more event one in
-      inr (
-        event,
-        more,
-        may_happen event makes more,
-        goes_on (next event makes more) (u_next event makes more) (h.rest ++ record { by = Rank own.number; event = event } ∷ []) h.limits (history_then event makes more) (call_then event makes more) h.record_is h.asked refl refl
-            (since_then event makes more) (own_then event makes more) leads stands found' found_at (λ no_poll. no_more (makes.wins no_poll)),
-      )
-    where
-      no_more : (result ≡ Some Started) ⊎ (result ≡ Some Revoked) → h.u.own ++ event ∷ [] ≡ []
-      no_more (inl is) = absurd (cc (is, going))
-      no_more (inr is) = absurd (cc (is, going))
+  abbrev HasSaid : Traced P → Type 0
+  HasSaid t = (u : Under P) × (rest : History P) × Said t u rest
 
-  -- or is answered
-  says_ends : (reply : Reply P) → result ≡ Some reply → IsEndRun meld name.limits false (moment h.old start) doing.asked reply (moment own' after_it.seen) → Fits meld name.limits after_it.seen own' → Few
-      → Says (λ t. EndsSo meld name t after_it own.number (comm_of doing.asked) (length after_it.seen) reply own')
-  says_ends reply is ended fits (inl none) =
-      let same = same_history none in inl (same, ends_now now h.u h.rest h.limits (h.history ∙ same) h.call h.record_is h.asked refl refl (h.since ∙ same) h.own_is reply ended fits (λ no_poll. inl (h.no_own no_poll)))
-  says_ends reply is ended fits (inr (event, one, makes)) =
+  -- it told an event or not
+  said : Few → Says HasSaid
+  said (inl none) =
+      let same = same_history none in
+      inl (
+        same,
+        (
+          h.u,
+          h.rest,
+          record {
+            known = known_then h.known refl refl same;
+            begun = h.begun;
+            look_is = h.look;
+            since = h.since ∙ same;
+            own_is = h.own_is;
+            adds = inl refl;
+          },
+        ),
+      )
+  said (inr (event, one, makes)) =
       let more = one_more event one in
       inr (
         event,
         more,
         may_happen event makes more,
-        ends_now (next event makes more) (u_next event makes more) (h.rest ++ record { by = Rank own.number; event = event } ∷ []) h.limits (history_then event makes more) (call_then event makes more) h.record_is h.asked refl refl
-            (since_then event makes more) (own_then event makes more) reply ended fits (λ no_poll. inr (event, ap (λ es. es ++ event ∷ []) (h.no_own no_poll), how (makes.wins no_poll))),
+        (
+          u_next event makes more,
+          h.rest ++ record { by = Rank own.number; event = event } ∷ [],
+          record {
+            known = record {
+              limits = h.known.limits;
+              history = history_then event makes more;
+              call = call_then event makes more;
+              asked_is = h.known.asked_is;
+              seen = h.known.seen;
+              record_is = h.known.record_is;
+              in_use = h.known.in_use;
+            };
+            begun = h.begun;
+            look_is = h.look;
+            since = since_then event makes more;
+            own_is = own_then event makes more;
+            adds = inr (event, refl, makes);
+          },
+        ),
       )
+
+  -- and so what holds where so much is said holds then
+  says_as : (Then : Traced P → Type 0) → ((t : Traced P) → HasSaid t → Then t) → Says Then
+  says_as Then holds = go (said added.few)
     where
-      how : (result ≡ Some Started) ⊎ (result ≡ Some Revoked) → (reply ≡ Started) ⊎ (reply ≡ Revoked)
-      how (inl started) = inl (cc (is, started))
-      how (inr revoked) = inr (cc (is, revoked))
+      go : Says HasSaid → Says Then
+      go (inl (same, is)) = inl (same, holds now is)
+      go (inr (event, more, may, is)) = inr (event, more, may, holds (after now (Happened (Rank own.number) (Some event))) is)
 
   -- the poll of a barrier found somebody missing before its last load, and is answered as it was then
   module _ (missing : Missing) (phase_is : doing.phase ≡ Checking missing) (polls : doing.asked ≡ call.Poll h.old.number (comm_of doing.asked)) (earlier : History P) (i : IsChecking (frame meld name.limits false) (comm_of doing.asked) missing earlier (moment h.old start) (moment own pass.seen))
@@ -295,14 +313,14 @@ module _ {P : Type 0} (meld : P → P → P) (name : Named P) (now : Traced P) (
         let answers = reply_answers meld name.limits start earlier h.old doing.asked reply own' ended from_start.0 from_start.1 (events_by (Rank h.old.number) from_start.0) refl (λ no_poll. absurd (cc (polling, no_poll))) seen_then in
         let swapped = answer_swaps meld name.limits (record { look = look; history = earlier; own = events_by (Rank h.old.number) from_start.0; spread = true }) h.old h.u.own doing.asked reply
         (record { one = λ no_poll e is. absurd (cc (polling, no_poll)); none = λ no_poll not_started not_revoked. absurd (cc (polling, no_poll)) }) answers in
-        ends_so meld name now after_it own.number h.old h.seen h.u doing.asked start earlier from_start.0 to_now.0 reply own' h.limits (h.history ∙ still) h.call h.record_is own_number h.in_use h.asked h.begun h.look from_start.1 (to_now.1 ∙ still)
+        ends_so meld name now after_it own.number h.old h.known.seen h.u doing.asked start earlier from_start.0 to_now.0 reply own' h.known.limits (h.known.history ∙ still) h.known.call h.known.record_is own_number h.known.in_use h.known.asked_is h.begun h.look from_start.1 (to_now.1 ∙ still)
         swapped ended fits (lists_none name.limits.ranks earlier (comm_of doing.asked) reply own' early)
 
   stands_now : Stands meld false (local h.old (view_at name h.before)) doing (local own (view_at name pass))
   stands_now = stands_lasts meld false name h.old h.before doing own h.stood pass h.stands h.waits of_old
 
   classified : (k : ℕ) → polled_by h.old doing.asked ≡ Some (Barrier k) → IsBarrier doing.phase
-  classified k polls = barrier_phase meld false name doing.asked h.old h.before doing.prepared own h.stood h.in_use k polls doing.phase h.past h.stands.at
+  classified k polls = barrier_phase meld false name doing.asked h.old h.before doing.prepared own h.stood h.known.in_use k polls doing.phase h.past h.stands.at
 
   -- a barrier's poll that makes its last load next has just found who is missing
   module _ (going : result ≡ None) (stands : Stands meld false (local h.old (view_at name h.before)) doing' (local own' (view_at name after_it))) (found' : ℕ) (found_is : found' ≡ length after_it.seen) where
@@ -310,7 +328,7 @@ module _ {P : Type 0} (meld : P → P → P) (name : Named P) (now : Traced P) (
     FoundIn phase = FoundAt meld name.limits (comm_of doing'.asked) (moment h.old start) (moment own' after_it.seen) found' phase
 
     found_checking : (missing : Missing) → doing'.phase ≡ Checking missing → FoundIn (Checking missing)
-    found_checking missing is = go (classified at.2.k (ap (polled_by h.old) (sym asked') ∙ checking_polls meld false name doing'.asked h.old h.before doing'.prepared own' after_it h.in_use missing at))
+    found_checking missing is = go (classified at.2.k (ap (polled_by h.old) (sym asked') ∙ checking_polls meld false name doing'.asked h.old h.before doing'.prepared own' after_it h.known.in_use missing at))
       where
         at : StandsAt meld false doing'.asked (local h.old (view_at name h.before)) (Checking missing) doing'.prepared (local own' (view_at name after_it))
         at = subst (λ phase. StandsAt meld false doing'.asked (local h.old (view_at name h.before)) phase doing'.prepared (local own' (view_at name after_it))) is stands.at
@@ -346,8 +364,8 @@ module _ {P : Type 0} (meld : P → P → P) (name : Named P) (now : Traced P) (
     present never = go calls.ends
       where
         go : Ended → SaysReply (length after_it.seen)
-        go (inl again) = absurd (cc (again.0.refused, h.in_use))
-        go (inr (inl ended)) = says_ends reply is ended calls.fits added.few
+        go (inl again) = absurd (cc (again.0.refused, h.known.in_use))
+        go (inr (inl ended)) = says_as (λ t. EndsSo meld name t after_it own.number (comm_of doing.asked) (length after_it.seen) reply own') (λ t x. ends_now t x.0 x.1 x.2 reply is ended calls.fits)
         go (inr (inr early)) = absurd (never early)
 
     early_is : (reply ≡ Pending) ⊎ (reply ≡ Refused ProcFailed) → is_early reply ≡ true
@@ -412,11 +430,12 @@ module _ {P : Type 0} (meld : P → P → P) (name : Named P) (now : Traced P) (
   comes has_memory found' found_is point point_is = go result refl ends
     where
       answered : (reply : Reply P) → result ≡ Some reply → (IsRefusedAgain h.old reply own' × Idles false h.before after_it) ⊎ HasReplied meld false doing.asked (local h.old (view_at name h.before)) reply (local own' (view_at name after_it)) → Comes point found' (Some reply)
-      answered reply is (inl again) = absurd (cc (again.0.refused, h.in_use))
+      answered reply is (inl again) = absurd (cc (again.0.refused, h.known.in_use))
       answered reply is (inr e) =
           says_reply reply is point (point_is reply is) (subst (λ b. RepliedAs meld false doing.asked (local h.old (view_at name h.before)) reply b (local own' (view_at name after_it))) (has_memory reply is) e)
 
       go : (r : Option (Reply P)) → result ≡ r → MatchOption r (Stands meld false (local h.old (view_at name h.before)) doing' (local own' (view_at name after_it))) (λ reply. Answered meld false doing.asked (local h.old (view_at name h.before)) reply (local own' (view_at name after_it))) → Comes point found' r
       go None is stands =
-          says_goes is stands (subst (λ r. LeadsTo doing.phase (next_of r doing'.phase)) is s.leads) found' (found_then is stands found' found_is) added.few
+          let leads = subst (λ r. LeadsTo doing.phase (next_of r doing'.phase)) is s.leads in
+          says_as (λ t. (own'.number ≡ own.number) × HasCalled meld name t after_it own' found' doing') (λ t x. goes_on t x.0 x.1 x.2 is leads stands found' (found_then is stands found' found_is))
       go (Some reply) is a = answered reply is a.ends

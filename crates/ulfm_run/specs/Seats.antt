@@ -4,14 +4,15 @@ use Rattle.std.specs.List.{AllByRecursion}
 use mathlib.Core.List.{IsPrefix}
 use Rattle.ulfm_model.specs.declared.{call.Call.{Call}, event.Caller.{Caller}, event.Caller.TheVariants.{Rank}, event.Event.{Event}, limits.Limits.{Limits}}
 use Rattle.ulfm_model.specs.declared.{reply.Reply.{Reply}, reply.Reply.TheVariants.{FailedGroup, Shrunk}, step_name.StepName.{StepName}}
-use Rattle.ulfm_model.specs.{Answers.{comm_of, polled_by, traits_of}, History.{History, failures, members}}
+use Rattle.ulfm_model.specs.{Answers.{comm_of, polled_by}, History.{History, failures, members}}
 use Rattle.ulfm_model.specs.Records.{Fits, Held, Record, held_at, is_shrink, new_record}
 use Rattle.ulfm_words.specs.Steps.{IsView, Sight, View, Over, view_at, over}
 use Rattle.ulfm_comm.specs.{Calls.{wants_memory}, Counts.{Counted}, Phase.{UnderWay, is_looking, next_step}, StepsLeft.{MakesStep, steps_left}}
 use Rattle.ulfm_comm.specs.declared.phases.phase.Phase.{Phase}
-use Rattle.ulfm_model.specs.declared.line.{Line.{Line}, Line.TheVariants.{Called, Happened, Looked, Replied}}
+use Rattle.ulfm_model.specs.declared.line.Line.TheVariants.{Looked}
 use Rattle.ulfm_model.specs.Follows.{AreOf, EndsInReply, IsAtOnce, called, steps_in, told_by}
 use Rattle.ulfm_model.specs.Traces.{AreLegalAfter, Told, Traced, listed, nothing, said_by, same_caller}
+use Rattle.ulfm_lines.specs.Callers.{line_by}
 use Rattle.ulfm_run.specs.declared.told.{Answer.{Answer}, StepTold.{StepTold}}
 use Rattle.ulfm_run.specs.Stepping.{HasBegun, HasCalled, IsIdle, happened, reply_told}
 
@@ -177,13 +178,6 @@ TellsBeginIn meld old view asked answer new = TellsBegin meld view.words old vie
 abbrev pub CallPollsShrink : {P : Type 0} → Record → Option (UnderWay P) → Type 0
 CallPollsShrink own None = ⊥
 CallPollsShrink own (Some doing) = IsTrue (is_shrink (polled_by own doing.asked))
-
--- whose line it is
-abbrev pub line_by : {P : Type 0} → Line P → Caller
-line_by (Called asked padded) = (traits_of asked).by
-line_by (Looked r count) = Rank r
-line_by (Happened by event) = by
-line_by (Replied by point reply) = by
 
 -- lines of other callers than this
 abbrev pub AreOthers : {P : Type 0} → Caller → List (Told P) → Type 0

@@ -1,6 +1,6 @@
 -- What a machine of single steps knows of each rank, beside what the lines so far say.
 use Rattle.std.specs.Prelude.{◌≡◌, ℕ, ◌≤◌, Bool, true, false, ⊤, List, [], ◌∷◌, ◌++◌, length, Some, None, IsFalse, if◌then◌else◌}
-use Rattle.ulfm_model.specs.declared.{event.Caller.{Caller}, event.Caller.TheVariants.{Rank}, event.Event.{Event}, reply.Reply.{Reply}}
+use Rattle.ulfm_model.specs.declared.{call.Call.{Call}, event.Caller.{Caller}, event.Caller.TheVariants.{Rank}, event.Event.{Event}, reply.Reply.{Reply}}
 use Rattle.ulfm_model.specs.declared.{limits.Limits.{Limits}, refusal.Refusal.TheVariants.{ProcFailed}}
 use Rattle.ulfm_model.specs.declared.reply.Reply.TheVariants.{Pending, Refused}
 use Rattle.ulfm_model.specs.Answers.{comm_of, refusal_of, traits_of}
@@ -35,20 +35,25 @@ pub record IsIdle {P : Type 0} (meld : P → P → P) (name : Over P) (now : Tra
   pub record_is : record_in now own.number ≡ Some (record own { seen = seen })
   pub fits : Fits meld name.limits pass.seen own
 
+-- What the lines so far say of a rank's call that is under way, of what it asks, and of the rank's record, which was `old` when the call began.
+pub record KnowsCall {P : Type 0} (name : Over P) (now : Traced P) (pass : Sight P) (own : Record) (asked : Call P) (u : Under P) (old : Record)
+    : Type 0 where
+  pub limits : now.limits ≡ name.limits
+  pub history : now.history ≡ pass.seen
+  pub call : call_by now (Rank own.number) ≡ Some u
+  pub asked_is : u.asked ≡ asked
+  pub seen : List ℕ
+  pub record_is : record_in now own.number ≡ Some (record old { seen = seen })
+  pub in_use : IsFalse old.refused
+
 -- A call of a rank that is in its look: it has told nothing yet, and may as well have begun at the present history. The rank's record
 -- was `old` when it began.
 pub record HasBegun {P : Type 0} (meld : P → P → P) (name : Over P) (now : Traced P) (pass : Sight P) (own : Record) (doing : UnderWay P) : Type 0 where
-  pub limits : now.limits ≡ name.limits
-  pub history : now.history ≡ pass.seen
   pub u : Under P
-  pub call : call_by now (Rank own.number) ≡ Some u
-  pub asked : u.asked ≡ doing.asked
   pub old : Record
-  pub seen : List ℕ
-  pub record_is : record_in now own.number ≡ Some (record old { seen = seen })
+  pub known : KnowsCall name now pass own doing.asked u old
   pub number : own.number ≡ old.number
   pub looking : is_looking doing.phase ≡ true
-  pub in_use : IsFalse old.refused
   pub stands : Stands meld false (local old (view_at name pass)) doing (local own (view_at name pass))
   pub begun : u.begun ≤ length pass.seen
   pub look : u.look ≡ None
@@ -65,20 +70,14 @@ FoundAt meld limits c start now found _ = ⊤
 -- of the rank since the look are those that the lines tell.
 pub record HasCalled {P : Type 0} (meld : P → P → P) (name : Over P) (now : Traced P) (pass : Sight P) (own : Record) (found : ℕ) (doing : UnderWay P)
     : Type 0 where
-  pub limits : now.limits ≡ name.limits
-  pub history : now.history ≡ pass.seen
   pub u : Under P
-  pub call : call_by now (Rank own.number) ≡ Some u
-  pub asked : u.asked ≡ doing.asked
   pub old : Record
-  pub seen : List ℕ
-  pub record_is : record_in now own.number ≡ Some (record old { seen = seen })
+  pub known : KnowsCall name now pass own doing.asked u old
   pub before : Sight P
   pub stood : Sight P
   pub stands : Stands meld false (local old (view_at name before)) doing (local own (view_at name stood))
   pub waits : Waits false stood pass
   pub past : is_looking doing.phase ≡ false
-  pub in_use : IsFalse old.refused
   pub own_same : own ≡ record old { seen = own.seen }
   pub sees : is_making doing.phase ≡ false → own.seen ≡ failures before.seen
   pub begun : u.begun ≤ length before.seen

@@ -133,19 +133,20 @@ stops_inside lang HasRun known b c old mid new v w part n IsPart i q p k =
       told = holds_same old mid new v w i.ran.out i.held k;
     }
 
+-- the writer failed when this was to be written, which some first items of the text print
+to_writer : (lang : Language) (known old mid new : KnownText) (w text out : List ℕ) → IsTextOf known text → PrintsSome lang text out
+    → IsBuffered old (to mid w) out → WritesPart mid new w → StopsInOutput lang known (WritesPart old new)
+to_writer lang known old mid new w text out whole printed held k =
+    record { text = text; out = out; whole = whole; printed = printed; told = holds_part old mid new w out held k }
+
 -- the writer failed
 ended_by_writer : (lang : Language) (HasRun : Stage lang) (known b left old mid : KnownText) (v ahead : List ℕ) (n : ℕ)
     → Going lang HasRun known b old mid v n → (new : KnownText) (w : List ℕ) → WritesPart mid new v → EndsUpTo lang known left ahead old (to new w) (Err Write)
 ended_by_writer lang HasRun known b left old mid v ahead n i new w k =
     let x = text_of known b i.done i.taken in
     let text = i.done ++ x.0 in
-    record {
-      text = text;
-      out = i.ran.out;
-      whole = x.1;
-      printed = some_printed lang text i.ran.out i.ran.heading i.ran.items (asked_from lang i.ran.heading.version n x.0) (i.comes x.0) i.prints;
-      told = holds_part old mid new v i.ran.out i.held k;
-    }
+    to_writer lang known old mid new v text i.ran.out x.1
+    (some_printed lang text i.ran.out i.ran.heading i.ran.items (asked_from lang i.ran.heading.version n x.0) (i.comes x.0) i.prints) i.held k
 
 -- a line couldn't be read
 pub ended_by_read : (lang : Language) (HasRun : Stage lang) (known b left old mid : KnownText) (v ahead kept : List ℕ) (n : ℕ) (fault : RunFault)
@@ -452,13 +453,8 @@ printed_first lang text rest out h = from_beginning lang text (text ++ rest) out
 -- a whole text was run, and then the writer failed
 all_to_writer : (lang : Language) (known old mid new : KnownText) (w : List ℕ) (fault : Option (ℕ × LineKind)) → RunsAll lang known fault (IsBuffered old (to mid w))
     → WritesPart mid new w → StopsInOutput lang known (WritesPart old new)
-all_to_writer lang known old mid new w fault h k = record {
-  text = h.text;
-  out = h.out;
-  whole = h.whole;
-  printed = all_first lang h.text h.out h.printed;
-  told = holds_part old mid new w h.out h.told k;
-}
+all_to_writer lang known old mid new w fault h k =
+    to_writer lang known old mid new w h.text h.out h.whole (all_first lang h.text h.out h.printed) h.told k
 
 -- the same of a run that stopped inside a line
 stopped_to_writer : (lang : Language) (known left old mid new : KnownText) (w : List ℕ) (IsPart : Claim)
@@ -466,24 +462,13 @@ stopped_to_writer : (lang : Language) (known left old mid new : KnownText) (w : 
 stopped_to_writer lang known left old mid new w IsPart h k =
     let x = text_of known left (h.lines ++ h.part) h.taken in
     let e = append_assoc h.lines h.part x.0 in
-    record {
-      text = h.lines ++ (h.part ++ x.0);
-      out = h.out;
-      whole = subst (λ (t : List ℕ). IsTextOf known t) e x.1;
-      printed = printed_first lang h.lines (h.part ++ x.0) h.out h.printed;
-      told = holds_part old mid new w h.out h.told k;
-    }
+    to_writer lang known old mid new w (h.lines ++ (h.part ++ x.0)) h.out (subst (λ (t : List ℕ). IsTextOf known t) e x.1)
+    (printed_first lang h.lines (h.part ++ x.0) h.out h.printed) h.told k
 
 -- the same of a run that found a fault
 found_to_writer : (lang : Language) (known old mid new : KnownText) (w : List ℕ) (n : ℕ) (kind : LineKind) → FindsFault lang known n kind (IsBuffered old (to mid w))
     → WritesPart mid new w → StopsInOutput lang known (WritesPart old new)
-found_to_writer lang known old mid new w n kind h k = record {
-  text = h.text;
-  out = h.out;
-  whole = h.whole;
-  printed = h.printed;
-  told = holds_part old mid new w h.out h.told k;
-}
+found_to_writer lang known old mid new w n kind h k = to_writer lang known old mid new w h.text h.out h.whole h.printed h.told k
 
 -- what waited was written after a run of the whole text
 all_drained : (lang : Language) (known old mid new : KnownText) (w : List ℕ) (fault : Option (ℕ × LineKind)) → RunsAll lang known fault (IsBuffered old (to mid w))
@@ -497,19 +482,25 @@ all_drained lang known old mid new w fault h k = record {
   told = holds_drained old mid new w h.out h.told k;
 }
 
--- what waited was written after a run of the whole text by a machine
-pub ran_all_drained : (lang : Language) (HasRun : Stage lang) (known old mid new : KnownText) (w : List ℕ) → HasRunAll lang HasRun known (IsBuffered old (to mid w))
-    → Appends mid new w → HasRunAll lang HasRun known (Appends old new)
-ran_all_drained lang HasRun known old mid new w h k = record {
+-- what a machine has run of the whole text, by what else is said of that run and of its output
+pub ran_all_as : {lang : Language} {HasRun Other : Stage lang} {known : KnownText} {Told Then : Claim} → HasRunAll lang HasRun known Told
+    → ((heading : Heading) (items : List lang.Item) (out : List ℕ) → HasRun heading items out → Other heading items out) → ((out : List ℕ) → Told out → Then out)
+    → HasRunAll lang Other known Then
+ran_all_as h has_run told = record {
   text = h.text;
   heading = h.heading;
   items = h.items;
   out = h.out;
   whole = h.whole;
   script_is = h.script_is;
-  has_run = h.has_run;
-  told = holds_drained old mid new w h.out h.told k;
+  has_run = has_run h.heading h.items h.out h.has_run;
+  told = told h.out h.told;
 }
+
+-- what waited was written after a run of the whole text by a machine
+pub ran_all_drained : (lang : Language) (HasRun : Stage lang) (known old mid new : KnownText) (w : List ℕ) → HasRunAll lang HasRun known (IsBuffered old (to mid w))
+    → Appends mid new w → HasRunAll lang HasRun known (Appends old new)
+ran_all_drained lang HasRun known old mid new w h k = ran_all_as h (λ heading items out has. has) (λ out held. holds_drained old mid new w out held k)
 
 -- what waited was written after a run that found a fault
 found_drained : (lang : Language) (known old mid new : KnownText) (w : List ℕ) (n : ℕ) (kind : LineKind) → FindsFault lang known n kind (IsBuffered old (to mid w))

@@ -2,7 +2,8 @@ use Rattle.std.proofs.Common.{◌∙◌, arith, get_or, subst, sym}
 use Rattle.std.proofs.lemmas.List.{set-get_or}
 use Rattle.ulfm_lines.specs.{Progress.{GoesFar}, Walked.{TellsSteps}}
 use Rattle.ulfm_run.specs.Table.{StandsFor, progress_of}
-use Rattle.ulfm_run.proofs.{Goes.{goes_nowhere, goes_until, no_seat, no_step}, LineTells.{closed_there, no_call, nobody_open, none_tell, sits_there, until_tells}, Standing.{get_there}}
+use Rattle.std.proofs.lemmas.Option.{slice_get-get_or}
+use Rattle.ulfm_run.proofs.{Goes.{goes_nowhere, goes_until, no_seat, no_step}, LineTells.{closed_there, no_call, nobody_open, none_tell, sits_there, until_tells}}
 use Rattle.ulfm_run.proofs.step_lines.walk_rank.Goals as goal
 
 pub returns-then-rank-seats-clause-tells : goal.returns-then-rank-seats-clause-tells
@@ -15,7 +16,7 @@ pub returns-then-not-is_open-clause-tells : goal.returns-then-not-is_open-clause
 returns-then-not-is_open-clause-tells g c = λ now stands.
     let name = c.args.world.now in
     let seat = get_or c.args.seats.now c.args.rank c.index-seats-rank.result in
-    let there = get_there c.args.seats.now c.args.rank c.index-seats-rank.result (omega (arith, c.if-rank-seats.false)) in
+    let there = slice_get-get_or c.args.seats.now c.args.rank c.index-seats-rank.result (omega (arith, c.if-rank-seats.false)) in
     let closed = closed_there name c.args.pass.now c.args.seats.now now stands c.args.rank seat there (no_call _ (sym c.is_open.ensures ∙ c.if-not-is_open.true)) in
     subst (λ ss. TellsSteps (StandsFor name c.args.pass.now ss) now c.args.rank c.args.reach 0 c.args.teller.now.text.items c.args.teller.now.text.items)
     (sym (set-get_or c.args.seats.now c.args.rank c.index-seats-rank.result))
@@ -31,7 +32,7 @@ pub returns-clause-tells : goal.returns-clause-tells
 returns-clause-tells g c = λ now stands.
     let name = c.args.world.now in
     let seat = get_or c.args.seats.now c.args.rank c.index-seats-rank.result in
-    let there = get_there c.args.seats.now c.args.rank c.index-seats-rank.result (omega (arith, c.if-rank-seats.false)) in
+    let there = slice_get-get_or c.args.seats.now c.args.rank c.index-seats-rank.result (omega (arith, c.if-rank-seats.false)) in
     until_tells name c.args.pass.now c.args.seats.now now stands c.args.rank seat there c.walk_until.new.pass c.walk_until.new.seat c.walk_until.ensures.of
     c.args.teller.now.text.items c.walk_until.new.teller.text.items c.args.reach c.in_ok-made.made c.in_ok-made.ensures.walks (sym c.is_open.ensures ∙ c.if-not-is_open.false) c.has_room-2.ensures
 

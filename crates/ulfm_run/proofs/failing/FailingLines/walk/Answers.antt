@@ -1,9 +1,9 @@
-use Rattle.std.proofs.Common.{arith, ◌≤◌, ◌++◌, ◌∙◌, subst, sym}
+use Rattle.std.proofs.Common.{arith, ◌≤◌, ◌∙◌, subst, sym}
 use Rattle.ulfm_model.specs.Traces.{nothing, said_by}
 use Rattle.ulfm_lines.specs.Progress.{Progress}
 use Rattle.ulfm_run.specs.FailingScripts.{ComesFar, CountsOn, state_of, up_to}
 use Rattle.ulfm_run.proofs.Far.{counts_walk, far_both, far_cut, far_whole}
-use Rattle.ulfm_run.proofs.FailLemmas.{is_due, not_cut, not_due, stands_first_part, walk_both, walk_cut, walk_whole}
+use Rattle.ulfm_run.proofs.FailLemmas.{not_cut, walk_before, walk_behind, walk_whole}
 use Rattle.ulfm_run.proofs.failing.FailingLines.walk.Goals as goal
 
 pub returns-then-not-self-clause-told : goal.returns-then-not-self-clause-told
@@ -15,42 +15,19 @@ returns-then-not-self-clause-told g c = λ limits trace rest at.
 pub returns-then-not-branch-clause-told : goal.returns-then-not-branch-clause-told
 returns-then-not-branch-clause-told g c = λ limits trace rest at.
     let m = g.M.StepMachine.Stands in
-    let was = c.args.self.now in
-    let old = state_of m was in
-    let mid = record old { Says = m c.steps-2.new.self; made = c.count_up-self-2.result; text = c.steps-2.new.teller.text.items } in
-    let new = state_of m c.declare.new.self in
-    let left = c.saturating_sub-left.result in
-    let at_fits : was.plan.at ≤ 4294967295 = omega arith in
-    let fits : left ≤ 4294967295 = omega arith in
-    let n = c.in_ok-first.first in
-    let t = rw c.cut_to.ensures at c.in_ok-first.ensures.tells (said_by (nothing limits) trace) at.says in
-    let then = stands_first_part old (m c.steps-2.new.self) limits trace rest at c.args.rank c.args.reach left n c.count_up-self-2.result
-    c.steps-2.new.teller.text.items t c.count_up-self-2.ensures c.saturating_sub-left.ensures at_fits in
-    let d = not_due mid new limits (trace ++ t.piece) (rest ++ t.piece) c.in_ok-declare.field-0 c.if-not-branch.true
-    (c.in_ok-declare.ensures.told limits (trace ++ t.piece) (rest ++ t.piece) then) in
-    let other = not_cut was.plan.at was.made n c.count_up-self-2.result c.count_up-self-2.ensures at_fits (c.in_ok-declare.ensures.early c.if-not-branch.true c.if-not-self.false) in
-    walk_cut limits c.args.rank c.args.reach trace rest old new (m c.steps-2.new.self) left n c.steps-2.new.teller.text.items t
-    (λ is. other (is ∙ c.saturating_sub-left.ensures)) d.0 d.1
+    walk_before limits c.args.rank c.args.reach trace rest (state_of m c.args.self.now) (state_of m c.declare.new.self) (m c.steps-2.new.self) at
+    c.saturating_sub-left.result c.in_ok-first.first c.count_up-self-2.result c.steps-2.new.teller.text.items (rw c.cut_to.ensures at c.in_ok-first.ensures.tells)
+    c.count_up-self-2.ensures c.saturating_sub-left.ensures (omega arith) c.in_ok-declare.field-0 (c.in_ok-declare.ensures.told limits) c.if-not-branch.true
+    (c.in_ok-declare.ensures.early c.if-not-branch.true c.if-not-self.false)
 
 pub returns-clause-told : goal.returns-clause-told
 returns-clause-told g c = λ limits trace rest at.
     let m = g.M.StepMachine.Stands in
-    let was = c.args.self.now in
-    let old = state_of m was in
-    let mid = record old { Says = m c.steps-2.new.self; made = c.count_up-self-2.result; text = c.steps-2.new.teller.text.items } in
-    let new = state_of m c.declare.new.self in
-    let left = c.saturating_sub-left.result in
-    let at_fits : was.plan.at ≤ 4294967295 = omega arith in
-    let fits : left ≤ 4294967295 = omega arith in
-    let n = c.in_ok-first.first in
-    let t = rw c.cut_to.ensures at c.in_ok-first.ensures.tells (said_by (nothing limits) trace) at.says in
-    let then = stands_first_part old (m c.steps-2.new.self) limits trace rest at c.args.rank c.args.reach left n c.count_up-self-2.result
-    c.steps-2.new.teller.text.items t c.count_up-self-2.ensures c.saturating_sub-left.ensures at_fits in
-    let d = is_due mid new limits (trace ++ t.piece) (rest ++ t.piece) c.in_ok-declare.field-0 c.if-not-branch.false
-    (c.in_ok-declare.ensures.told limits (trace ++ t.piece) (rest ++ t.piece) then) in
-    let u = rw c.cut_behind.ensures at c.in_ok-rest.ensures.tells (said_by (nothing limits) ((trace ++ t.piece) ++ d.1)) d.3.stands.says in
-    walk_both limits c.args.rank c.args.reach trace rest old new (m c.steps-3.new.self) (m c.steps-2.new.self) d.0 left n c.in_ok-rest.rest
-    c.count_up-self-3.result fits c.steps-2.new.teller.text.items c.steps-3.new.teller.text.items t d.1 d.2 d.3.stands d.4 u c.count_up-self-3.ensures
+    walk_behind limits c.args.rank c.args.reach trace rest (state_of m c.args.self.now) (state_of m c.declare.new.self) (m c.steps-2.new.self) at
+    c.saturating_sub-left.result c.in_ok-first.first c.count_up-self-2.result c.steps-2.new.teller.text.items (rw c.cut_to.ensures at c.in_ok-first.ensures.tells)
+    c.count_up-self-2.ensures c.saturating_sub-left.ensures (omega arith) c.in_ok-declare.field-0 (c.in_ok-declare.ensures.told limits) c.if-not-branch.false
+    (m c.steps-3.new.self) c.in_ok-rest.rest c.count_up-self-3.result c.steps-3.new.teller.text.items (rw c.cut_behind.ensures at c.in_ok-rest.ensures.tells)
+    c.count_up-self-3.ensures
 
 pub returns-then-not-self-clause-far : goal.returns-then-not-self-clause-far
 returns-then-not-self-clause-far g c =
