@@ -5,7 +5,7 @@ use Rattle.ulfm_model.specs.{History.{History}, Records.{Record}}
 use Rattle.ulfm_model.specs.Records.{moment}
 use Rattle.ulfm_steps.specs.declared.arrivals.Missing.{Missing}
 use Rattle.ulfm_comm.specs.Phase.{is_looking}
-use Rattle.ulfm_comm.specs.declared.phases.phase.{Phase.{Phase}, Phase.TheVariants.{Over, Begun, Looking, Spreading, Settling, Arriving, Revoking, Asking, Peeking, Marking, Reading, ReadingOn, Spawning, Waiting, Checking}}
+use Rattle.ulfm_comm.specs.declared.phases.phase.{Phase.{Phase}, Phase.TheVariants.{Begun, Looking, Checking}}
 use Rattle.ulfm_run.specs.Stepping.{FoundAt}
 
 -- what holds when a call has begun and when it looks holds all through its look

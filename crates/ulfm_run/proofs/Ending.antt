@@ -3,7 +3,7 @@ use Rattle.std.proofs.Common.{◌≡◌, ◌⊎◌, ℕ, ◌≤◌, ◌==◌, no
 use Rattle.std.proofs.Math.Seq.{take-append_seam}
 use mathlib.Core.List.{IsPrefix}
 use Rattle.std.proofs.lemmas.Bool.{eqb-true}
-use Rattle.ulfm_model.specs.declared.{call.Call.{Call}, event.Caller.{Caller}, event.Caller.TheVariants.{Rank}, limits.Limits.{Limits}, reply.Reply.{Reply}}
+use Rattle.ulfm_model.specs.declared.{call.Call.{Call}, event.Caller.TheVariants.{Rank}, limits.Limits.{Limits}, reply.Reply.{Reply}}
 use Rattle.ulfm_model.specs.declared.reply.Reply.TheVariants as reply_of
 use Rattle.ulfm_model.specs.{Answers.{IsReply, IsSelfFailed, closed, comm_of, left_by}, History.{History, failures, members}, Records.{Fits, Held, Record, held_at, new_held}}
 use Rattle.ulfm_model.proofs.{Histories.{failures_begin}, LeftRuns.{left_keeps}, Lists.{find_holds}}

@@ -9,8 +9,7 @@ use mathlib.Core.List.{IsPrefix}
 use Rattle.ulfm_model.specs.declared.{call.Call.{Call}, event.Caller.TheVariants.{Outside, Rank}, refusal.Refusal.{Refusal}, reply.Reply.{Reply}}
 use Rattle.ulfm_model.specs.declared.reply.Reply.TheVariants.{Refused}
 use Rattle.ulfm_model.specs.declared.call.Call.TheVariants.{Fail}
-use Rattle.ulfm_model.specs.declared.refusal.Refusal.TheVariants.{SelfFailed, NoSuchComm, Busy, ShrinkOpen, RoundsUsedUp, Idle, Mismatch, NoContext, NoRoom}
-use Rattle.ulfm_model.specs.declared.refusal.Refusal.TheVariants.{IsRevoked, ProcFailed, WorldKept, NoSuchRank, OutOfMemory, Twice}
+use Rattle.ulfm_model.specs.declared.refusal.Refusal.TheVariants.{NoSuchRank, OutOfMemory}
 use Rattle.ulfm_model.specs.{Answers.{traits_of}, Records.{Fits, Record, new_record}, Runs.{IsFailRun, IsRankStep, IsStep, State}}
 use Rattle.ulfm_model.proofs.{LeftRuns.{call_legal, call_number, fail_fits, fail_legal, span_begins}, Lists.{each_from}, Stable.{fits_stays}}
 use Rattle.ulfm_words.specs.Steps.{IsView, Over, Sight, view_at}

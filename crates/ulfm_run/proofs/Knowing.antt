@@ -1,5 +1,5 @@
 -- What the lines say of a call, said of its rank as it is behind a step.
-use Rattle.std.proofs.Common.{◌≡◌, Some, ap, ◌∙◌, subst}
+use Rattle.std.proofs.Common.{◌≡◌, Some, ◌∙◌, subst}
 use Rattle.ulfm_model.specs.declared.{call.Call.{Call}, event.Caller.TheVariants.{Rank}}
 use Rattle.ulfm_model.specs.{Records.{Record}, Traces.{Traced, Under, call_by, record_in}}
 use Rattle.ulfm_words.specs.Steps.{Over, Sight}

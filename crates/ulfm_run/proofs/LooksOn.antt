@@ -14,7 +14,7 @@ use Rattle.ulfm_comm.specs.declared.phases.phase.{Phase.{Phase}, Phase.TheVarian
 use Rattle.ulfm_comm.proofs.AmongOthers.{waits_none}
 use Rattle.ulfm_comm.specs.Local.{frame, local}
 use Rattle.ulfm_model.specs.declared.line.Line.TheVariants.{Looked}
-use Rattle.ulfm_model.specs.Traces.{MayCome, Traced, Under, after, call_by, record_in}
+use Rattle.ulfm_model.specs.Traces.{MayCome, Traced, Under, after, call_by}
 use Rattle.ulfm_model.proofs.Callers.{find_change}
 use Rattle.ulfm_run.specs.Stepping.{FoundAt, HasBegun, HasCalled, KnowsCall}
 use Rattle.ulfm_run.proofs.{ByPhase.{found_by_check, in_look}, Ending.{ends_so, may_list}, Knowing.{known_then}, LookedAt.{begins_again, found_all, found_by_phase, squeeze}, Replying.{reply_answers}, Reseen.{reseen}, Turns.{EndsSo, LooksOn}}

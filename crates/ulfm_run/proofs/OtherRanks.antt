@@ -3,10 +3,8 @@ use Rattle.std.proofs.Common.{◌≡◌, ℕ, ◌<◌, Bool, false, List, get_or
 use mathlib.Core.List.{IsPrefix}
 use Rattle.ulfm_model.specs.declared.call.Call.TheVariants as call
 use Rattle.ulfm_model.specs.declared.{call.Call.{Call}, event.Caller.TheVariants.{Rank}, refusal.Refusal.{Refusal}, reply.Reply.{Reply}}
-use Rattle.ulfm_model.specs.declared.reply.Reply.TheVariants.{Started, Pending, Agreed, Shrunk, Done, FailedGroup, Acked, Declared, AlreadyFailed, Revoked}
-use Rattle.ulfm_model.specs.declared.reply.Reply.TheVariants.{AlreadyRevoked, Standing, Freed, Refused}
-use Rattle.ulfm_model.specs.declared.refusal.Refusal.TheVariants.{SelfFailed, NoSuchComm, Busy, ShrinkOpen, RoundsUsedUp, Idle, Mismatch, NoContext, NoRoom}
-use Rattle.ulfm_model.specs.declared.refusal.Refusal.TheVariants.{IsRevoked, ProcFailed, WorldKept, NoSuchRank, OutOfMemory, Twice}
+use Rattle.ulfm_model.specs.declared.reply.Reply.TheVariants.{Shrunk, FailedGroup, Refused}
+use Rattle.ulfm_model.specs.declared.refusal.Refusal.TheVariants.{SelfFailed, OutOfMemory}
 use Rattle.ulfm_model.specs.{Answers.{rank_of, traits_of}, Records.{Held, Record, held_at}, Runs.{IsCall, State}}
 use Rattle.ulfm_model.specs.Terms.{comm_of, rests_on}
 use Rattle.ulfm_model.specs.Records.{moment}

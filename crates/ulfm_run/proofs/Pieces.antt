@@ -1,7 +1,7 @@
 -- What a piece of lines adds, and what it leaves of those whose lines it doesn't have.
 use Rattle.std.proofs.Common.{◌≡◌, ℕ, ◌==◌, Bool, true, false, List, [], ◌∷◌, ◌++◌, find, map, Some, None, refl, ap, sym, ◌∙◌, append-nil, append_assoc, if◌then◌else◌}
 use Rattle.std.specs.List.{AllByRecursion}
-use Rattle.ulfm_model.specs.declared.event.{Caller.{Caller}, Event.{Event}}
+use Rattle.ulfm_model.specs.declared.event.Caller.{Caller}
 use Rattle.ulfm_model.specs.{History.{History}, Records.{Record}}
 use Rattle.ulfm_model.specs.declared.line.Line.{Line}
 use Rattle.ulfm_model.specs.{Follows.{AreOf, is_of}, Traces.{Told, Traced, after, call_by, record_in, said_by, same_caller}}

@@ -17,7 +17,7 @@ use Rattle.ulfm_model.specs.Follows.{AreOf, EndsInReply, step_of, steps_in}
 use Rattle.ulfm_model.specs.Traces.{AreLegalAfter, Told, Traced, after, listed, said_by, same_caller}
 use Rattle.ulfm_model.proofs.Callers.{same_rank}
 use Rattle.ulfm_run.specs.declared.told.{Answer.{Answer}, StepTold.{StepTold}}
-use Rattle.ulfm_run.specs.{Seats.{AreToldBy, GoesOrEnds, MayList, Seated, Sits, SitsAt, TellsBegin, TellsPiece, entries_of, event_piece, group_in, has_looked, call_steps_left, look_piece, piece_of, reply_piece, wants_in}, Stepping.{HasBegun, HasCalled, IsIdle, point_of, reply_told}}
+use Rattle.ulfm_run.specs.{Seats.{AreToldBy, GoesOrEnds, MayList, Seated, Sits, SitsAt, TellsBegin, TellsPiece, entries_of, event_piece, group_in, has_looked, call_steps_left, look_piece, piece_of, reply_piece, wants_in}, Stepping.{HasBegun, HasCalled, point_of, reply_told}}
 use Rattle.ulfm_run.proofs.{Beginning.{begun, may_call, refused}, ByName.{event_named, get_last, look_named}, ByPhase.{in_look}, LooksOn.{looks_on, no_event}, Nexts.{reply_next}, Reseen.{reseen}, Stepped.{comes}, Turns.{EndsSo, LooksOn, NextAt, SaysStep}}
 use Rattle.ulfm_comm.specs.Prepared.{Prepared}
 

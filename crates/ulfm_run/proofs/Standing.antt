@@ -1,5 +1,5 @@
 -- The machine of step scripts stands on for what lines say.
-use Rattle.std.proofs.Common.{◌≡◌, ◌≢◌, ◌⊎◌, ℕ, zero, suc, ◌<◌, ◌≤◌, Bool, true, false, List, [], ◌∷◌, ◌++◌, length, find, get_or, set, Option, Some, None, refl, ap, sym, ◌∙◌, subst, arith, append-nil, inl, inr, if◌then◌else◌}
+use Rattle.std.proofs.Common.{◌≡◌, ◌≢◌, ◌⊎◌, ℕ, zero, suc, ◌<◌, ◌≤◌, Bool, true, false, List, [], ◌∷◌, ◌++◌, length, set, Option, Some, None, refl, ap, sym, ◌∙◌, subst, arith, append-nil, inl, inr}
 use Rattle.std.specs.{Prelude.{slice_get}}
 use mathlib.Core.List.{IsPrefix}
 use Rattle.std.proofs.lemmas.Bool.{ne_eqb}
@@ -10,7 +10,7 @@ use Rattle.ulfm_words.specs.Steps.{view_at, IsView, Name, Sight}
 use Rattle.ulfm_model.specs.declared.{line.Line.{Line}, step_line.StepLine.TheVariants.{Failed}}
 use Rattle.ulfm_model.specs.{Follows.{IsPiece, fail_event, fail_piece}, Traces.{AreLegalAfter, Told, Traced, Under, after, after_reply, call_by, said_by, same_caller}}
 use Rattle.ulfm_model.proofs.{Kept.{limits_stay}, Parts.{said_append}}
-use Rattle.ulfm_run.specs.{Failing.{TellsFail}, Seats.{AreOthers, Sits}}
+use Rattle.ulfm_run.specs.{Failing.{TellsFail}, Seats.{Sits}}
 use Rattle.ulfm_run.proofs.Others.{sits_lasts}
 use Rattle.ulfm_lines.specs.{LineTexts.{lines_text}, StepLines.{ScriptStep}, Stepped.{TellsStep}}
 use Rattle.ulfm_lines.specs.declared.step_machine.Taken.TheVariants.{Run}

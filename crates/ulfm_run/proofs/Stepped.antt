@@ -18,7 +18,7 @@ use Rattle.ulfm_comm.specs.declared.phases.phase.{Phase.{Phase}, Phase.TheVarian
 use Rattle.ulfm_comm.proofs.{StepAdds.{adds_none}, AmongOthers.{waits_none}, Stands.{stands_lasts}}
 use Rattle.ulfm_comm.specs.Local.{frame, local}
 use Rattle.ulfm_model.specs.declared.line.Line.TheVariants.{Happened}
-use Rattle.ulfm_model.specs.Traces.{MayCome, Traced, Under, after, call_by, found_by, is_owned, record_in, same_caller, with_event}
+use Rattle.ulfm_model.specs.Traces.{MayCome, Traced, Under, after, call_by, found_by, same_caller, with_event}
 use Rattle.ulfm_model.proofs.Callers.{find_change, same_rank}
 use Rattle.ulfm_lines.proofs.Calls.{keeps_asked}
 use Rattle.ulfm_run.specs.Stepping.{FoundAt, HasCalled, KnowsCall, events_by, is_early, point_of}
