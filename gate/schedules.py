@@ -376,7 +376,7 @@ class Explorer:
 
     def waits(self, words, ranks, number):
         """Whether a rank stands before a wait of which a whole poll would be pending and would set no word."""
-        _, given, found = self.standing(ranks, number)
+        me, given, found = self.standing(ranks, number)
         if found is None:
             return True
         if found[1][0] != "wait" or given:
