@@ -6,7 +6,7 @@ use Rattle.ulfm_script.specs.declared.line_kind.LineKind.{LineKind}
 use Rattle.ulfm_script.specs.declared.line_kind.LineKind.TheVariants.{Words}
 use Rattle.ulfm_script.specs.{Calls.{ScriptCall, call_of}, Spelling.{is_padded}, Steps.{◌>>=◌}, Words.{first_word}}
 use Rattle.ulfm_script.proofs.{Spelled.{read_is_spelled, spelled_again, verb_found}, WordLemmas.{joined, joined_word, step_found}}
-use Rattle.ulfm_lines.specs.{EventReading.{ReadEvent, event_of}, Fields.{Field, both, caller_field, number_field, point_field, rank_field, whole}, LineReading.{SomeReply, called_line, happened_line, line_from, line_head, line_listing, looked_line, replied_line, some_reply_of}, LineTexts.{TraceLine, caller_text, two_text}, Telling.{AreRanks, CallerFits, TellsLine, behind_ranks}}
+use Rattle.ulfm_lines.specs.{EventReading.{ReadEvent, event_of}, Fields.{Field, both, caller_field, number_field, point_field, rank_field, whole}, LineReading.{SomeReply, called_line, happened, happened_line, line_from, line_head, line_listing, looked_line, made_by, replied_line, some_reply_of}, LineTexts.{TraceEvent, TraceLine, caller_text, two_text}, Telling.{AreRanks, CallerFits, TellsLine, behind_ranks}}
 use Rattle.ulfm_model.specs.declared.line.Line.TheVariants.{Called, Looked, Happened, Replied}
 use Rattle.ulfm_lines.proofs.{EventLemmas.{event_again, event_found}, FieldLemmas.{IsField, both_fields, is_caller, is_number, is_point, is_rank, same_field, whole_again, whole_found}, RankLemmas.{nobody}, ReplyLemmas.{IsReadAs, reply_again, reply_found}}
 
@@ -42,12 +42,14 @@ looked_found fields line rest e g ranks behind =
 happened_found : Reads (codes "event") happened_line
 unfolding happened_line
 happened_found fields line rest e g ranks behind =
-    let by = step_found (caller_field fields) (λ by. event_of by.1 >>= λ event. with_rest (Happened by.0 event) None) (line, rest) e in
-    let x = step_found (event_of by.0.1) (λ event. with_rest (Happened by.0.0 event) None) (line, rest) by.2 in
-    let same = same_field (Happened by.0.0 x.0) line None rest x.2 in
+    let x = step_found (happened fields) (λ x. with_rest (Happened x.0 x.1) None) (line, rest) e in
+    let by = step_found (caller_field fields) (λ by. made_by by.0 (event_of by.1)) x.0 x.1 in
+    let event = step_found (event_of by.0.1) (λ event. made_by by.0.0 (Ok event)) x.0 by.2 in
+    let pair : (by.0.0, event.0) ≡ x.0 = cc event.2 in
+    let same = same_field (Happened x.0.0 x.0.1) line None rest x.2 in
     let c = is_caller.found fields by.0.0 by.0.1 by.1 in
-    let t = event_found by.0.1 x.0 x.1 in
-    subst (λ (l : TraceLine). TellsLine (joined (codes "event") fields) g (line_listing (length g) l)) same.0
+    let t = event_found by.0.1 event.0 event.1 in
+    subst (λ (l : TraceLine). TellsLine (joined (codes "event") fields) g (line_listing (length g) l)) (ap (λ (p : Caller × Option TraceEvent). Happened p.0 p.1) pair ∙ same.0)
     (t.0, c.0, ap (joined (codes "event")) (c.1 ∙ ap (λ (o : Option (List ℕ)). Some (joined (caller_text by.0.0) o)) t.1), t.2, nobody g (behind ∙ sym same.1))
 
 abbrev replied_text : Caller × ℕ → List ℕ
@@ -121,8 +123,8 @@ line_again text group (Called asked padded) h =
 line_again text group (Looked r count) h = alone_read text group (Looked r count) h.3 (λ n. refl) (ap line_head h.2 ∙ looked_again r count h.0 h.1)
 line_again text group (Happened by event) h =
     alone_read text group (Happened by event) h.4 (λ n. refl)
-    (ap line_head h.2 ∙ ap (λ (c : Field Caller). c >>= λ by. event_of by.1 >>= λ event. with_rest (Happened by.0 event) None) (is_caller.again by (Some h.0) h.1)
-    ∙ ap (λ (c : ReadEvent). c >>= λ event. with_rest (Happened by event) None) (event_again h.0 event h.3))
+    (ap line_head h.2 ∙ ap (λ (c : Field Caller). (c >>= λ by. made_by by.0 (event_of by.1)) >>= λ x. with_rest (Happened x.0 x.1) None) (is_caller.again by (Some h.0) h.1)
+    ∙ ap (λ (c : ReadEvent). made_by by c >>= λ x. with_rest (Happened x.0 x.1) None) (event_again h.0 event h.3))
 line_again text group (Replied by point told) h =
     let r = reply_again h.0 group told h.4 in
     let x : Caller × ℕ = (by, point) in

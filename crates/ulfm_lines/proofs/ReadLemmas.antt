@@ -1,11 +1,12 @@
 -- What reading a line of a trace gives.
-use Rattle.std.proofs.Common.{◌≡◌, ℕ, ◌≤◌, List, [], ◌∷◌, ◌++◌, length, Option, Some, None, Ok, Err, Bool, true, false, refl, sym, ap, subst, ◌∙◌, arith, length-append}
+use Rattle.std.proofs.Common.{◌≡◌, ℕ, ◌≤◌, List, [], ◌∷◌, ◌++◌, length, Option, Some, None, Result, Ok, Err, Bool, true, false, refl, sym, ap, subst, ◌∙◌, arith, length-append}
 use Rattle.std.specs.{Prelude.{codes}, Fmt.{decimal}}
 use Rattle.ulfm_model.specs.declared.reply.Reply.TheVariants as reply
 use Rattle.ulfm_script.specs.declared.line_kind.LineKind.{LineKind}
-use Rattle.ulfm_script.specs.{Printed.{ranks_text, reply_text, shrunk_text}, Spelling.{SpellsAs, spelled_text}}
+use Rattle.ulfm_script.specs.{Printed.{ranks_text, reply_text, shrunk_text}, Calls.{ScriptCall, call_of}, Spelling.{SpellsAs, is_padded, spelled_text}, Steps.{◌>>=◌}}
+use Rattle.ulfm_model.specs.declared.event.Caller.{Caller}
 use Rattle.ulfm_script.proofs.Spelled.{spelled_as}
-use Rattle.ulfm_lines.specs.{Fields.{Field, is_word_text}, LineReading.{SomeReply, line_from, line_head, line_listing}, LineTexts.{TraceLine, caller_text, event_text, line_text}, Telling.{LineFits, ListsRanks, TextTells, TellsLine, TellsReply}}
+use Rattle.ulfm_lines.specs.{Fields.{Field, is_word_text}, LineReading.{SomeReply, called_line, happened, happened_line, line_from, line_head, line_listing, looked, looked_line}, LineTexts.{TraceEvent, TraceLine, caller_text, event_text, line_text}, Telling.{LineFits, ListsRanks, TextTells, TellsLine, TellsReply}}
 use Rattle.ulfm_model.specs.declared.line.Line.TheVariants.{Called, Looked, Happened, Replied}
 use Rattle.ulfm_lines.proofs.{Beginnings.{line_ahead}, FieldLemmas.{same_field}, LineLemmas.{line_again, line_found}, RankLemmas.{ranks_few, ranks_once}}
 
@@ -33,6 +34,11 @@ pub no_head : (text : List ℕ) (kind : LineKind) (told : TraceLine) (ranks : Li
 no_head text kind told ranks read tells =
     let r = line_again text ranks told tells.1 in
     let k : (let x : Field TraceLine = Err kind in x) ≡ Ok (r.head, r.rest) = sym read ∙ r.read in cc
+
+-- nor does one with nothing that can be read behind its verb
+pub headless : (verb text rest : List ℕ) (kind : LineKind) (told : TraceLine) → is_word_text verb ≡ true → text ≡ verb ++ 32 ∷ rest → line_from (verb, Some rest) ≡ Err kind
+    → TextTells text [] told → ⊥
+headless verb text rest kind told word ahead read tells = no_head text kind told [] (sym (line_ahead verb text rest word ahead) ∙ read) tells
 
 -- nor does one with something else behind it
 pub no_ranks : (text group : List ℕ) (head : TraceLine) (rest : Option (List ℕ)) (told : TraceLine) (ranks : List ℕ) → line_head text ≡ Ok (head, rest) → ListsRanks rest group false → TextTells text ranks told → ⊥
@@ -114,3 +120,19 @@ few_read text group head rest read is is_head lists short = few_ranks text group
 
 pub none_read : (text group : List ℕ) (head : TraceLine) (rest : Option (List ℕ)) (read : Bool) → read ≡ false → line_head text ≡ Ok (head, rest) → ListsRanks rest group read → (told : TraceLine) (ranks : List ℕ) → TextTells text ranks told → ⊥
 none_read text group head rest read is is_head lists told ranks tells = no_ranks text group head rest told ranks is_head (subst (ListsRanks rest group) is lists) tells
+
+-- what stands behind the verb of a look, of a call's beginning and of an event
+pub looked_behind : (fields : List ℕ) (read : Result (ℕ × ℕ) LineKind) → read ≡ looked (Some fields)
+    → line_from (codes "look", Some fields) ≡ (read >>= λ x. Ok (Looked x.0 x.1, None))
+unfolding looked_line
+looked_behind fields read is = ap (λ (r : Result (ℕ × ℕ) LineKind). r >>= λ x. Ok (Looked x.0 x.1, None)) (sym is)
+
+pub called_behind : (text : List ℕ) (read : Result ScriptCall LineKind) → read ≡ call_of text
+    → line_from (codes "call", Some text) ≡ (read >>= λ asked. Ok (Called asked (is_padded text asked), None))
+unfolding called_line
+called_behind text read is = ap (λ (r : Result ScriptCall LineKind). r >>= λ asked. Ok (Called asked (is_padded text asked), None)) (sym is)
+
+pub happened_behind : (fields : List ℕ) (read : Result (Caller × Option TraceEvent) LineKind) → read ≡ happened (Some fields)
+    → line_from (codes "event", Some fields) ≡ (read >>= λ x. Ok (Happened x.0 x.1, None))
+unfolding happened_line
+happened_behind fields read is = ap (λ (r : Result (Caller × Option TraceEvent) LineKind). r >>= λ x. Ok (Happened x.0 x.1, None)) (sym is)

@@ -9,7 +9,9 @@ use Rattle.ulfm_model.specs.Answers.{printed}
 use Rattle.ulfm_script.specs.declared.line_kind.LineKind.{LineKind}
 use Rattle.ulfm_script.specs.declared.line_kind.LineKind.TheVariants.{Words}
 use Rattle.ulfm_script.specs.{Calls.{call_of}, Printed.{reply_text}, Spelling.{is_padded}, Steps.{◌>>=◌}, Words.{by_verb, next_word, first_word}}
-use Rattle.ulfm_lines.specs.EventReading.{event_of}
+use Rattle.ulfm_lines.specs.EventReading.{ReadEvent, event_of}
+use Rattle.ulfm_lines.specs.LineTexts.{TraceEvent}
+use Rattle.ulfm_model.specs.declared.event.Caller.{Caller}
 use Rattle.ulfm_lines.specs.Fields.{Field, both, caller_field, comm_field, error_field, flag_field, label_field, labelled, number_field, over}
 use Rattle.ulfm_lines.specs.Fields.{point_field, rank_field, whole}
 use Rattle.ulfm_lines.specs.LineTexts.{TraceLine}
@@ -102,13 +104,25 @@ unfoldable pub called_line : Option (List ℕ) → Field TraceLine
 called_line None = Err Words
 called_line (Some text) = call_of text >>= λ asked. Ok (Called asked (is_padded text asked), None)
 
+-- who looks, and how many failures it finds
+abbrev pub looked : Option (List ℕ) → Result (ℕ × ℕ) LineKind
+looked text = whole (both rank_field number_field) text
+
 -- a look
 unfoldable pub looked_line : Option (List ℕ) → Field TraceLine
-looked_line text = whole (both rank_field number_field) text >>= λ x. Ok (Looked x.0 x.1, None)
+looked_line text = looked text >>= λ x. Ok (Looked x.0 x.1, None)
 
--- an event
+-- an event that is read, beside who makes it happen
+abbrev pub made_by : Caller → ReadEvent → Result (Caller × Option TraceEvent) LineKind
+made_by by read = read >>= λ event. Ok (by, event)
+
+-- who makes something happen, and what
+abbrev pub happened : Option (List ℕ) → Result (Caller × Option TraceEvent) LineKind
+happened text = caller_field text >>= λ by. made_by by.0 (event_of by.1)
+
+-- an event's line
 unfoldable pub happened_line : Option (List ℕ) → Field TraceLine
-happened_line text = caller_field text >>= λ by. event_of by.1 >>= λ event. Ok (Happened by.0 event, None)
+happened_line text = happened text >>= λ x. Ok (Happened x.0 x.1, None)
 
 -- a reply's line
 unfoldable pub replied_line : Option (List ℕ) → Field TraceLine

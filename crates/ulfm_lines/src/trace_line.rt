@@ -1,9 +1,12 @@
 //! The lines of a trace, read.
-ghost use Rattle.std.specs.Prelude.{◌≡◌, ◌≤◌, ◌++◌, [], List, ℕ, Some, IfOk, IfSome, length};
+ghost use Rattle.std.specs.Prelude.{◌≡◌, ◌≢◌, ◌≤◌, ◌++◌, [], Bool, List, ℕ, Option, Some, IfOk, IfSome, MatchOption, length};
 ghost use Rattle.ulfm_script.specs.Words.{Gives, rest_at};
 ghost use Rattle.ulfm_lines.specs.Fields.{at_field};
-ghost use Rattle.ulfm_lines.specs.LineReading.{called_line, happened_line, line_head, line_listing, looked_line, replied_line, reply_listing};
-ghost use Rattle.ulfm_lines.specs.LineTexts.{TraceLine};
+ghost use Rattle.ulfm_lines.specs.LineReading.{called_line, happened, happened_line, line_head, line_listing, looked, looked_line, replied_line, reply_listing};
+ghost use Rattle.ulfm_model.specs.declared.event.Caller.{Caller as CallerOf};
+ghost use Rattle.ulfm_model.specs.declared.line.Line.TheVariants.{Called, Looked, Happened};
+ghost use Rattle.ulfm_script.specs.Calls.{ScriptCall};
+ghost use Rattle.ulfm_lines.specs.LineTexts.{TraceEvent, TraceLine};
 ghost use Rattle.ulfm_lines.specs.Telling.{ListsRanks, TextTells};
 
 use crate::events::read_event;
@@ -11,7 +14,7 @@ use crate::fields::{behind, caller_field, number_field, over, point_field, rank_
 use crate::replies::reply_field;
 use std::alloc::{AllocError, Allocator};
 use ulfm_laws::FlagAnd;
-use ulfm_model::{Line, Reply};
+use ulfm_model::{Caller, Event, Line, Reply};
 use ulfm_script::{LineKind, is_padded, read_call};
 
 /// The most bytes that a line of a trace may have, without its newline.
@@ -50,7 +53,8 @@ pub fn read_line<A: Allocator>(
 /// What stands behind this beginning of a line that isn't too long, if the line begins so.
 #[inline(always)]
 fn short_behind<'a>(beginning: &[u8], line: &'a [u8]) -> Option<&'a [u8]>
-    ensures { IfSome result (λ rest. (length line.now ≤ 8192) × (line.now ≡ beginning.now ++ rest.now)) }
+    ensures { MatchOption result ((rest : List ℕ) → length line.now ≤ 8192 → line.now ≢ beginning.now ++ rest)
+        (λ rest. (length line.now ≤ 8192) × (line.now ≡ beginning.now ++ rest.now)) }
 {
     if LONGEST < line.len() {
         return None;
@@ -58,40 +62,73 @@ fn short_behind<'a>(beginning: &[u8], line: &'a [u8]) -> Option<&'a [u8]>
     behind(beginning, line)
 }
 
-/// The look that a line tells, or none: what isn't read here, [`read_line`] reads. It is for who reads many lines, of which a third are looks: such a line
-/// is read in line, and nothing is kept of it in memory.
+/// The look that a line tells, if it tells one. It is for who reads many lines, of which a third are looks: such a line is read in line, and nothing is kept
+/// of it in memory.
+///
+/// ```
+/// let look = Line::Looked {
+///     rank: 5,
+///     failures: 2,
+/// };
+/// assert!(rt; read_look(b"look 5 2") == Some(look));
+/// assert!(rt; read_look(b"look 5") == None && read_look(b"call get 5 0") == None);
+/// ```
 #[inline(always)]
 pub fn read_look(line: &[u8]) -> Option<Line<FlagAnd>>
-    ensures { IfSome result (λ told. TextTells line.now [] told) }
+    ensures found { IfSome result (λ told. TextTells line.now [] told) }
+    ensures only { (rank failures : ℕ) → TextTells line.now [] (Looked rank failures) → result ≡ Some (Looked rank failures) }
 {
     let fields = short_behind(b"look ", line)?;
-    match read_looked(Some(fields)) {
-        Ok((Line::Looked { rank, failures }, None)) => Some(Line::Looked { rank, failures }),
-        _ => None,
+    match look_fields(Some(fields)) {
+        Ok((rank, failures)) => Some(Line::Looked { rank, failures }),
+        Err(_) => None,
     }
 }
 
-/// The beginning of a call that a line tells, or none: what isn't read here, [`read_line`] reads. It is for who reads many lines, as [`read_look`] is.
+/// The beginning of a call that a line tells, if it tells one. It is for who reads many lines, as [`read_look`] is.
+///
+/// ```
+/// let begin = Line::Called {
+///     call: Call::Poll { rank: 5, comm: 0 },
+///     padded: false,
+/// };
+/// assert!(rt; read_begin(b"call poll 5 0") == Some(begin));
+/// assert!(rt; read_begin(b"look 5 2") == None);
+/// ```
 #[inline(always)]
 pub fn read_begin(line: &[u8]) -> Option<Line<FlagAnd>>
-    ensures { IfSome result (λ told. TextTells line.now [] told) }
+    ensures found { IfSome result (λ told. TextTells line.now [] told) }
+    ensures only { (call : ScriptCall) (padded : Bool) → TextTells line.now [] (Called call padded) → result ≡ Some (Called call padded) }
 {
     let text = short_behind(b"call ", line)?;
-    match read_called(text) {
-        Ok((Line::Called { call, padded }, None)) => Some(Line::Called { call, padded }),
-        _ => None,
+    match read_call(text) {
+        Ok(call) => {
+            let padded = is_padded(text, &call);
+            Some(Line::Called { call, padded })
+        }
+        Err(_) => None,
     }
 }
 
-/// The event that a line tells, or none: what isn't read here, [`read_line`] reads. It is for who reads many lines, as [`read_look`] is.
+/// The event that a line tells, if it tells one. It is for who reads many lines, as [`read_look`] is.
+///
+/// ```
+/// let happening = Line::Happened {
+///     by: Caller::Outside,
+///     event: Some(Event::Fail { rank: 5 }),
+/// };
+/// assert!(rt; read_happening(b"event - fail 5") == Some(happening));
+/// assert!(rt; read_happening(b"look 5 2") == None);
+/// ```
 #[inline(always)]
 pub fn read_happening(line: &[u8]) -> Option<Line<FlagAnd>>
-    ensures { IfSome result (λ told. TextTells line.now [] told) }
+    ensures found { IfSome result (λ told. TextTells line.now [] told) }
+    ensures only { (by : CallerOf) (event : Option TraceEvent) → TextTells line.now [] (Happened by event) → result ≡ Some (Happened by event) }
 {
     let fields = short_behind(b"event ", line)?;
-    match read_happened(Some(fields)) {
-        Ok((Line::Happened { by, event }, None)) => Some(Line::Happened { by, event }),
-        _ => None,
+    match event_fields(Some(fields)) {
+        Ok((by, event)) => Some(Line::Happened { by, event }),
+        Err(_) => None,
     }
 }
 
@@ -166,23 +203,40 @@ fn read_called(text: &[u8]) -> Result<(Line<FlagAnd>, Option<&[u8]>), LineKind>
     Ok((Line::Called { call, padded }, None))
 }
 
+/// Who looked, and how many failures it found.
+#[inline(always)]
+fn look_fields(text: Option<&[u8]>) -> Result<(u16, u16), LineKind>
+    ensures { result ≡ looked (rest_at text.entry) }
+{
+    let (rank, rest) = rank_field(text)?;
+    let (failures, rest) = number_field(rest)?;
+    over(rest)?;
+    Ok((rank, failures))
+}
+
 #[inline(always)]
 #[tactic(auto, unfolding(crate::specs::LineReading::looked_line))]
 fn read_looked(text: Option<&[u8]>) -> Result<(Line<FlagAnd>, Option<&[u8]>), LineKind>
     ensures { Gives at_field result (looked_line (rest_at text.entry)) }
 {
-    let (rank, rest) = rank_field(text)?;
-    let (failures, rest) = number_field(rest)?;
-    over(rest)?;
+    let (rank, failures) = look_fields(text)?;
     Ok((Line::Looked { rank, failures }, None))
+}
+
+/// Who made something happen, and what.
+fn event_fields(text: Option<&[u8]>) -> Result<(Caller, Option<Event<FlagAnd>>), LineKind>
+    ensures { result ≡ happened (rest_at text.entry) }
+{
+    let (by, rest) = caller_field(text)?;
+    let event = read_event(rest)?;
+    Ok((by, event))
 }
 
 #[tactic(auto, unfolding(crate::specs::LineReading::happened_line))]
 fn read_happened(text: Option<&[u8]>) -> Result<(Line<FlagAnd>, Option<&[u8]>), LineKind>
     ensures { Gives at_field result (happened_line (rest_at text.entry)) }
 {
-    let (by, rest) = caller_field(text)?;
-    let event = read_event(rest)?;
+    let (by, event) = event_fields(text)?;
     Ok((Line::Happened { by, event }, None))
 }
 
