@@ -107,9 +107,8 @@ where
     /// What a pass has seen, as a value that another pass may `learn`. It makes no atomic step.
     ///
     /// ```
-    /// let mut pass = world.pass(alloc)?;
+    /// rank.revoke(&world, &mut pass, 0)?;
     /// let mut other = world.pass(alloc)?;
-    /// world.fail(&mut pass, 1)?;
     /// world.learn(&mut other, &world.told(&pass));
     /// ```
     pub fn told(&self, pass: &W::Pass) -> W::Told
