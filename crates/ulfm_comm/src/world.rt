@@ -121,11 +121,10 @@ where
     /// The pass takes in what another told: from now on it has seen that too. It makes no atomic step.
     ///
     /// ```
-    /// let mut pass = world.pass(alloc)?;
-    /// let mut other = world.pass(alloc)?;
-    /// world.fail(&mut pass, 1)?;
-    /// let told = world.told(&pass);
-    /// world.learn(&mut other, &told);
+    /// let mut detector = world.pass(alloc)?;
+    /// world.fail(&mut detector, 1)?;
+    /// let told = world.told(&detector);
+    /// world.learn(&mut pass, &told);
     /// ```
     pub fn learn(&self, pass: &mut W::Pass, told: &W::Told)
         requires of { IsView P.meld (view_of P.pack self.now (W.sight pass.old)) }

@@ -82,11 +82,15 @@ fn stepped(rt: &impl Abort, alloc: Global, ranks: u16, moves: &[Move]) -> Result
     Ok(())
 }
 
-// Worlds of so many ranks: one that looks, polls of two blocks, polls behind marks, and polls of a single block.
-const COUNTED: [(u16, &[Move]); 4] = [
-    (3, &[Get(0, 1), Declare(2), Get(0, 2), Get(0, 1)]),
+// Worlds of so many ranks, whether single steps count as whole calls do, and what happens: one rank looks; polls of two blocks; polls behind
+// marks; polls of a single block; polls that wait, in a world of one block and in one of two. A whole poll that is pending remembers at whom
+// it ended: the next one loads that place first, once. One that is taken step by step reads in order. Where a member is to be marked, the poll
+// reads in order behind its mark.
+const COUNTED: [(u16, bool, &[Move]); 6] = [
+    (3, true, &[Get(0, 1), Declare(2), Get(0, 2), Get(0, 1)]),
     (
         3,
+        true,
         &[
             Agree(0, 3),
             Agree(1, 3),
@@ -97,6 +101,7 @@ const COUNTED: [(u16, &[Move]); 4] = [
     ),
     (
         3,
+        true,
         &[
             Declare(2),
             Agree(0, 4),
@@ -107,6 +112,7 @@ const COUNTED: [(u16, &[Move]); 4] = [
     ),
     (
         4,
+        true,
         &[
             Agree(0, 3),
             Agree(1, 3),
@@ -116,22 +122,9 @@ const COUNTED: [(u16, &[Move]); 4] = [
             Poll(1, 3),
         ],
     ),
-];
-
-#[test]
-fn calls_are_counted(rt: HostRuntime) -> Result<(), Fail> {
-    for (ranks, moves) in COUNTED {
-        whole(&rt, rt.alloc(), ranks, moves)?;
-        stepped(&rt, rt.alloc(), ranks, moves)?;
-    }
-    Ok(())
-}
-
-// A whole poll that is pending remembers at whom it ended: the next one loads that place first, once. One that is taken step by step reads
-// in order. The worlds have one block, and two. Where a member is to be marked, the poll reads in order behind its mark.
-const WAITING: [(u16, &[Move]); 2] = [
     (
         4,
+        false,
         &[
             Agree(0, 3),
             Poll(0, 5),
@@ -152,6 +145,7 @@ const WAITING: [(u16, &[Move]); 2] = [
     ),
     (
         3,
+        false,
         &[
             Agree(0, 3),
             Agree(1, 3),
@@ -167,9 +161,12 @@ const WAITING: [(u16, &[Move]); 2] = [
 ];
 
 #[test]
-fn waiting_polls_are_counted(rt: HostRuntime) -> Result<(), Fail> {
-    for (ranks, moves) in WAITING {
+fn calls_are_counted(rt: HostRuntime) -> Result<(), Fail> {
+    for (ranks, alike, moves) in COUNTED {
         whole(&rt, rt.alloc(), ranks, moves)?;
+        if alike {
+            stepped(&rt, rt.alloc(), ranks, moves)?;
+        }
     }
     Ok(())
 }

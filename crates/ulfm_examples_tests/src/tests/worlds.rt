@@ -1,6 +1,6 @@
 // Examples of `World` and `Job`.
 
-use crate::open::{TWO, Words, two};
+use crate::tests::open::{TWO, Words, two};
 use std::alloc::Global;
 use std::test::Fail;
 use ulfm_comm::World;
@@ -59,14 +59,13 @@ fn world_told(rt: HostRuntime) -> Result<(), Fail> {
 
 #[test]
 fn world_learn(rt: HostRuntime) -> Result<(), Fail> {
-    let (world, _, _) = two(&rt, rt.alloc())?.1.into_parts();
     let alloc = rt.alloc();
+    let (world, _, mut pass) = two(&rt, alloc)?.1.into_parts();
 
-    let mut pass = world.pass(alloc)?;
-    let mut other = world.pass(alloc)?;
-    world.fail(&mut pass, 1)?;
-    let told = world.told(&pass);
-    world.learn(&mut other, &told);
+    let mut detector = world.pass(alloc)?;
+    world.fail(&mut detector, 1)?;
+    let told = world.told(&detector);
+    world.learn(&mut pass, &told);
 
     Ok(())
 }

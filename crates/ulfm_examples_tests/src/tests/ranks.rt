@@ -1,6 +1,6 @@
 // Examples of `Rank`, and of its calls step by step.
 
-use crate::open::{left, two};
+use crate::tests::open::{left, two};
 use std::alloc::Global;
 use std::process::Abort;
 use std::test::Fail;
