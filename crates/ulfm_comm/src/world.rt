@@ -108,8 +108,9 @@ where
     ///
     /// ```
     /// rank.revoke(&world, &mut pass, 0)?;
+    /// let told = world.told(&pass);
     /// let mut other = world.pass(alloc)?;
-    /// world.learn(&mut other, &world.told(&pass));
+    /// world.learn(&mut other, &told);
     /// ```
     pub fn told(&self, pass: &W::Pass) -> W::Told
         requires of { IsView P.meld (view_of P.pack self.now (W.sight pass.now)) }
@@ -123,8 +124,7 @@ where
     /// ```
     /// let mut detector = world.pass(alloc)?;
     /// world.fail(&mut detector, 1)?;
-    /// let told = world.told(&detector);
-    /// world.learn(&mut pass, &told);
+    /// world.learn(&mut pass, &world.told(&detector));
     /// ```
     pub fn learn(&self, pass: &mut W::Pass, told: &W::Told)
         requires of { IsView P.meld (view_of P.pack self.now (W.sight pass.old)) }

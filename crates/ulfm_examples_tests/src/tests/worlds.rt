@@ -47,25 +47,25 @@ fn world_pass(rt: HostRuntime) -> Result<(), Fail> {
 
 #[test]
 fn world_told(rt: HostRuntime) -> Result<(), Fail> {
+    let (world, mut rank, mut pass) = two(&rt, rt.alloc())?.1.into_parts();
     let alloc = rt.alloc();
-    let (world, mut rank, mut pass) = two(&rt, alloc)?.1.into_parts();
 
     rank.revoke(&world, &mut pass, 0)?;
+    let told = world.told(&pass);
     let mut other = world.pass(alloc)?;
-    world.learn(&mut other, &world.told(&pass));
+    world.learn(&mut other, &told);
 
     Ok(())
 }
 
 #[test]
 fn world_learn(rt: HostRuntime) -> Result<(), Fail> {
+    let (world, _, mut pass) = two(&rt, rt.alloc())?.1.into_parts();
     let alloc = rt.alloc();
-    let (world, _, mut pass) = two(&rt, alloc)?.1.into_parts();
 
     let mut detector = world.pass(alloc)?;
     world.fail(&mut detector, 1)?;
-    let told = world.told(&detector);
-    world.learn(&mut pass, &told);
+    world.learn(&mut pass, &world.told(&detector));
 
     Ok(())
 }
