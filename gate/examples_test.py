@@ -72,7 +72,7 @@ def examples_in(crate):
 def tests():
     """Gives the text between empty lines of each test, by the test's name."""
     found = {}
-    for file in glob.glob(f"{HERE}/crates/ulfm_examples_tests/src/*.rt"):
+    for file in glob.glob(f"{HERE}/crates/ulfm_examples_tests/src/tests/*.rt"):
         for name, body in TEST.findall(read(file)):
             lines = [re.sub(r"^ {4}", "", line) for line in body.split("\n")]
             found[name] = "\n".join(lines).split("\n\n")[1:-1]

@@ -28,6 +28,13 @@ static void declared(uint16_t rank)
     EQUAL(ulfm_fail(&outside, rank, &first), ULFM_SUCCESS);
 }
 
+/* The kind of the reply to a poll of the world's communicator, which succeeds. */
+static uint32_t polled(ulfm_handle *handle, ulfm_reply *reply)
+{
+    EQUAL(ulfm_poll(handle, 0, reply), ULFM_SUCCESS);
+    return reply->kind;
+}
+
 /* Each call of a rank with this handle and communicator answers this code, and writes nothing. */
 static void all_answer(ulfm_handle *handle, uint16_t comm, int code)
 {
@@ -177,8 +184,7 @@ static void requests_are_checked(void)
     EQUAL(ulfm_iagree(&ranks[0], 0, 6), ULFM_ERR_BUSY);
     EQUAL(ulfm_ishrink(&ranks[0], 0), ULFM_ERR_BUSY);
     EQUAL(ulfm_ibarrier(&ranks[0], 0), ULFM_ERR_BUSY);
-    EQUAL(ulfm_poll(&ranks[0], 0, &reply), ULFM_SUCCESS);
-    EQUAL(reply.kind, ULFM_PENDING);
+    EQUAL(polled(&ranks[0], &reply), ULFM_PENDING);
     EQUAL(reply.flag, 0);
     EQUAL(reply.raised, false);
     EQUAL(ulfm_wait_for(&ranks[0], 0, 5, &reply), ULFM_ERR_PENDING);
@@ -191,8 +197,7 @@ static void requests_are_checked(void)
     EQUAL(ulfm_iagree(&ranks[0], 0, (ulfm_flag)5 << 32 | 6), ULFM_SUCCESS);
     EQUAL(ulfm_iagree(&ranks[1], 0, (ulfm_flag)3 << 32 | 3), ULFM_SUCCESS);
     for (int rank = 0; rank < 2; rank++) {
-        EQUAL(ulfm_poll(&ranks[rank], 0, &reply), ULFM_SUCCESS);
-        EQUAL(reply.kind, ULFM_AGREED);
+        EQUAL(polled(&ranks[rank], &reply), ULFM_AGREED);
         EQUAL(reply.flag, (ulfm_flag)1 << 32 | 2);
         EQUAL(reply.failed + reply.comm + reply.context + reply.size + reply.raised, 0);
     }
@@ -200,8 +205,7 @@ static void requests_are_checked(void)
     EQUAL(ulfm_iagree(&ranks[0], 0, 6), ULFM_ERR_ROUNDS_USED_UP);
     EQUAL(ulfm_ishrink(&ranks[0], 0), ULFM_SUCCESS);
     EQUAL(ulfm_ishrink(&ranks[1], 0), ULFM_SUCCESS);
-    EQUAL(ulfm_poll(&ranks[0], 0, &reply), ULFM_SUCCESS);
-    EQUAL(reply.kind, ULFM_SHRUNK);
+    EQUAL(polled(&ranks[0], &reply), ULFM_SHRUNK);
     EQUAL(reply.comm, 1);
     EQUAL(reply.context, 1);
     EQUAL(reply.size, 2);
@@ -232,8 +236,7 @@ static void requests_are_checked(void)
             EQUAL(ulfm_wait_for(&ranks[0], 0, 2, &reply), ULFM_ERR_PENDING);
         if (round == 0) {
             EQUAL(ulfm_barrier(&ranks[1], 0), ULFM_SUCCESS);
-            EQUAL(ulfm_poll(&ranks[0], 0, &reply), ULFM_SUCCESS);
-            EQUAL(reply.kind, ULFM_DONE);
+            EQUAL(polled(&ranks[0], &reply), ULFM_DONE);
         } else if (round == 1) {
             declared(1);
             EQUAL(ulfm_poll(&ranks[0], 0, &reply), ULFM_ERR_PROC_FAILED);
@@ -359,8 +362,7 @@ static void missing_are_told(void)
     declared(3);
     EQUAL(ulfm_missing(&ranks[2], 0, list, 0, &count), ULFM_SUCCESS);
     EQUAL(count, 2);
-    EQUAL(ulfm_poll(&ranks[2], 0, &reply), ULFM_SUCCESS);
-    EQUAL(reply.kind, ULFM_PENDING);
+    EQUAL(polled(&ranks[2], &reply), ULFM_PENDING);
     EQUAL(ulfm_missing(&ranks[0], 0, list, 4, &count), ULFM_SUCCESS);
     EQUAL(count, 1);
     EQUAL(list[0], 1);
@@ -370,8 +372,7 @@ static void missing_are_told(void)
     EQUAL(ulfm_missing(&ranks[0], 0, list, 4, &count), ULFM_SUCCESS);
     EQUAL(count, 0);
     EQUAL(list[0], 1);
-    EQUAL(ulfm_poll(&ranks[1], 0, &reply), ULFM_SUCCESS);
-    EQUAL(reply.kind, ULFM_AGREED);
+    EQUAL(polled(&ranks[1], &reply), ULFM_AGREED);
     EQUAL(ulfm_ibarrier(&ranks[1], 0), ULFM_SUCCESS);
     EQUAL(ulfm_missing(&ranks[1], 0, list, 4, &count), ULFM_SUCCESS);
     EQUAL(count, 3);

@@ -12,12 +12,6 @@ use vukrasp::{FlagAnd, Limits, Member, Polled, Refusal};
 
 type Reply = Result<Polled<FlagAnd>, Refusal>;
 
-const LIMITS: Limits = Limits {
-    ranks: 4,
-    comms: 1,
-    rounds: 2,
-};
-
 /// The flag of a rank: of the four lowest bits, ranks 0 to 2 lack that of their number.
 fn flag(rank: u16) -> FlagAnd {
     let bits = match rank {
@@ -51,7 +45,12 @@ fn is_one_reply(replies: &[Reply]) -> bool {
 }
 
 fn main(rt: HostRuntime) -> anyhow::Result<()> {
-    let (mut outside, members) = vukrasp::open(rt.alloc(), LIMITS)?;
+    let limits = Limits {
+        ranks: 4,
+        comms: 1,
+        rounds: 2,
+    };
+    let (mut outside, members) = vukrasp::open(rt.alloc(), limits)?;
     let (replies, declared) = join(&rt, || agree_all(&rt, members), move || outside.fail(3));
     let replies = replies?;
     match replies.first() {

@@ -107,10 +107,10 @@ where
     /// What a pass has seen, as a value that another pass may `learn`. It makes no atomic step.
     ///
     /// ```
-    /// let mut pass = world.pass(alloc)?;
+    /// rank.revoke(&world, &mut pass, 0)?;
+    /// let told = world.told(&pass);
     /// let mut other = world.pass(alloc)?;
-    /// world.fail(&mut pass, 1)?;
-    /// world.learn(&mut other, &world.told(&pass));
+    /// world.learn(&mut other, &told);
     /// ```
     pub fn told(&self, pass: &W::Pass) -> W::Told
         requires of { IsView P.meld (view_of P.pack self.now (W.sight pass.now)) }
@@ -122,11 +122,9 @@ where
     /// The pass takes in what another told: from now on it has seen that too. It makes no atomic step.
     ///
     /// ```
-    /// let mut pass = world.pass(alloc)?;
-    /// let mut other = world.pass(alloc)?;
-    /// world.fail(&mut pass, 1)?;
-    /// let told = world.told(&pass);
-    /// world.learn(&mut other, &told);
+    /// let mut detector = world.pass(alloc)?;
+    /// world.fail(&mut detector, 1)?;
+    /// world.learn(&mut pass, &world.told(&detector));
     /// ```
     pub fn learn(&self, pass: &mut W::Pass, told: &W::Told)
         requires of { IsView P.meld (view_of P.pack self.now (W.sight pass.old)) }

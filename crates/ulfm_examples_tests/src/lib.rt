@@ -6,20 +6,4 @@
 #![tactic(auto)]
 
 #[cfg(test)]
-mod contributions;
-#[cfg(test)]
-mod members;
-#[cfg(test)]
-mod open;
-#[cfg(test)]
-mod opening;
-#[cfg(test)]
-mod ranks;
-#[cfg(test)]
-mod scripts;
-#[cfg(test)]
-mod waits;
-#[cfg(test)]
-mod words;
-#[cfg(test)]
-mod worlds;
+mod tests;

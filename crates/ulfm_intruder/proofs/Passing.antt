@@ -77,11 +77,18 @@ module _ {P : Type 0} (meld : P → P → P) (pack : P → ℕ) (name : Name) (o
   outcome unpack s (Ok _) wins = wins_before pack unpack true s old.seen mid.seen new.seen first.did wins
   outcome unpack s (Err w) loses = loses_before pack true s.place w old.seen mid.seen new.seen first.did loses
 
+  -- what is noted of an exchange that sets no wing is what it found
+  noted_found : (at : Site) (result : Result (Unit {0}) ℕ) → is.log.items ≡ trail.log.items ++ noted at (standing 0 result) false ∷ []
+      → is.log.items ≡ trail.log.items ++ noted at (found result) false ∷ []
+  noted_found at (Ok _) more = more
+  noted_found at (Err _) more = more
+
   -- an exchange of an event's word
-  pub sets_after : (unpack : ℕ → Option P) (s : Step) (result : Result (Unit {0}) ℕ) → is.log.items ≡ trail.log.items ++ noted (Site.Place s.place) (found result) false ∷ []
+  pub sets_after : (unpack : ℕ → Option P) (s : Step) (result : Result (Unit {0}) ℕ) → is.log.items ≡ trail.log.items ++ noted (Site.Place s.place) (standing 0 result) false ∷ []
       → Sets meld (coding pack unpack) true s (view_of pack mid.name mid) result (view_of pack mid.name new)
       → Sets meld (coding pack unpack) false s (view_of pack name (passing old was)) result (view_of pack name (passing new is))
-  sets_after unpack s result more e =
+  sets_after unpack s result stood e =
+      let more = noted_found (Site.Place s.place) result stood in
       let none = noted_place was.log.items is.log.items (found result) s.place false (noted_since _ _ _ more) in
       record { of = view e.of; outcome = outcome unpack s result e.outcome; cached = knows e.cached; caches = none; steps = count _ _ _ more; last = ends _ _ _ more }
 
@@ -91,10 +98,11 @@ module _ {P : Type 0} (meld : P → P → P) (pack : P → ℕ) (name : Name) (o
   stood_before block word (Err w) stood = stood
 
   -- .. of a block's
-  pub caches_after : (block : Block) (word : ℕ) (result : Result (Unit {0}) ℕ) → is.log.items ≡ trail.log.items ++ noted (Site.Block block) (found result) false ∷ []
+  pub caches_after : (block : Block) (word : ℕ) (result : Result (Unit {0}) ℕ) → is.log.items ≡ trail.log.items ++ noted (Site.Block block) (standing 0 result) false ∷ []
       → Caches meld true block word (view_of pack mid.name mid) result (view_of pack mid.name new)
       → Caches meld false block word (view_of pack name (passing old was)) result (view_of pack name (passing new is))
-  caches_after block word result more e =
+  caches_after block word result met e =
+      let more = noted_found (Site.Block block) result met in
       let tried = noted_cache was.log.items is.log.items (found result) block (noted_since _ _ _ more) in
       let stood = stood_before block word result e.stood in
       record { of = view e.of; did = among e.did; cached = knows e.cached; caches = tried; steps = count _ _ _ more; last = ends _ _ _ more; set = e.set; stood = stood }

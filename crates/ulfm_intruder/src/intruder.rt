@@ -2,6 +2,7 @@
 ghost use Rattle.std.specs.Prelude.{◌≡◌, ◌<◌, ◌++◌, ◌∷◌, [], IsTrue, false};
 ghost use mathlib.Core.List.{IsPrefix};
 ghost use Rattle.ulfm_model.specs.Runs.{Did};
+ghost use Rattle.ulfm_words.specs.Blocks.{standing};
 ghost use Rattle.ulfm_words.specs.Pass.{plain_name};
 ghost use Rattle.ulfm_words.specs.Steps.{view_of, IsView};
 ghost use Rattle.ulfm_intruder.specs.Intrusions.{is_welcome};
@@ -65,6 +66,18 @@ impl<P: Packed, A: Allocator> IntruderPass<P, A> {
         ensures log { self.new.trail.log.items ≡ self.old.trail.log.items ++ (record { at = at; word = word; load = load }, load) ∷ [] }
     {
         self.trail = self.trail.and(&Last { at, word, load }, &load);
+    }
+
+    // An exchange of the pass's own, behind which this word is noted, or the one that stood there.
+    fn note_exchange(&mut self, at: Site, word: u64, answer: Result<(), u64>)
+        ensures plain { self.new.plain ≡ self.old.plain }
+        ensures log { self.new.trail.log.items
+            ≡ self.old.trail.log.items ++ (record { at = at; word = standing word answer; load = false }, false) ∷ [] }
+    {
+        match answer {
+            Ok(()) => self.note(at, word, false),
+            Err(stood) => self.note(at, stood, false),
+        }
     }
 }
 
@@ -177,39 +190,11 @@ impl<P: Packed, A: Allocator + Copy + Drop> Words<P, A> for Intruder<P> {
         word
     }
 
-    fn set_once(&self, pass: &mut IntruderPass<P, A>, step: Step) -> Result<(), u64> {
-        self.intrude(pass);
-        match pass.plain.set_once(step) {
-            Ok(()) => {
-                pass.note(Site::Place(step.place), 0, false);
-                Ok(())
-            }
-            Err(word) => {
-                pass.note(Site::Place(step.place), word, false);
-                Err(word)
-            }
-        }
-    }
-
     fn load_block(&self, pass: &mut IntruderPass<P, A>, block: Block) -> u64 {
         self.intrude(pass);
         let word = pass.plain.load_block(block);
         pass.note(Site::Block(block), word, true);
         word
-    }
-
-    fn cache(&self, pass: &mut IntruderPass<P, A>, block: Block, word: u64) -> Result<(), u64> {
-        self.intrude(pass);
-        match pass.plain.cache(block, word) {
-            Ok(()) => {
-                pass.note(Site::Block(block), 0, false);
-                Ok(())
-            }
-            Err(stood) => {
-                pass.note(Site::Block(block), stood, false);
-                Err(stood)
-            }
-        }
     }
 
     fn load_wing(&self, pass: &mut IntruderPass<P, A>, wing: Wing) -> u64 {
@@ -219,18 +204,25 @@ impl<P: Packed, A: Allocator + Copy + Drop> Words<P, A> for Intruder<P> {
         word
     }
 
+    fn set_once(&self, pass: &mut IntruderPass<P, A>, step: Step) -> Result<(), u64> {
+        self.intrude(pass);
+        let answer = pass.plain.set_once(step);
+        pass.note_exchange(Site::Place(step.place), 0, answer);
+        answer
+    }
+
+    fn cache(&self, pass: &mut IntruderPass<P, A>, block: Block, word: u64) -> Result<(), u64> {
+        self.intrude(pass);
+        let answer = pass.plain.cache(block, word);
+        pass.note_exchange(Site::Block(block), 0, answer);
+        answer
+    }
+
     fn set_wing(&self, pass: &mut IntruderPass<P, A>, wing: Wing, word: u64) -> Result<(), u64> {
         self.intrude(pass);
-        match pass.plain.set_wing(wing, word) {
-            Ok(()) => {
-                pass.note(Site::Wing(wing), word, false);
-                Ok(())
-            }
-            Err(stood) => {
-                pass.note(Site::Wing(wing), stood, false);
-                Err(stood)
-            }
-        }
+        let answer = pass.plain.set_wing(wing, word);
+        pass.note_exchange(Site::Wing(wing), word, answer);
+        answer
     }
 
     fn steps_made(&self, pass: &IntruderPass<P, A>) -> u64 {

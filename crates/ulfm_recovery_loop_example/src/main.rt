@@ -110,17 +110,16 @@ fn recover_all<R: Threads + Wait + Sync>(
 }
 
 fn print_reply<R: Print>(rt: &R, reply: &Polled<FlagAnd>) -> io::Result<()> {
-    match reply {
-        Polled::Agreed {
-            value,
-            failed,
-            raised,
-        } => {
-            let error = if *raised { "raised" } else { "clean" };
-            println!(rt; "  agreed {:05b} failed {failed} {error}", value.bits)
-        }
-        _ => println!(rt; "  another reply"),
-    }
+    let Polled::Agreed {
+        value,
+        failed,
+        raised,
+    } = reply
+    else {
+        return println!(rt; "  another reply");
+    };
+    let error = if *raised { "raised" } else { "clean" };
+    println!(rt; "  agreed {:05b} failed {failed} {error}", value.bits)
 }
 
 fn print_way<R: Print>(rt: &R, member: &Member, way: &Way) -> io::Result<()> {

@@ -14,7 +14,7 @@ use Rattle.ulfm_model.proofs.{Blocks.{width_is, width_power, width_wide}, RankGr
 use Rattle.ulfm_words.specs.{Blocks.{Caches, BlockSays}, Steps.{Over, Sight, View}, declared.step.Site.{Site}}
 use Rattle.ulfm_words.proofs.Ranks.{spawns_below}
 use Rattle.ulfm_words.specs.Steps.{view_at}
-use Rattle.ulfm_steps.specs.{Blocks.{BothTell, AtBlock, HoldsHalf, MembersTell, begins_at, block_at, blocks_cost, blocks_left, cost_behind, cost_of, first_of, next_in_block, peeks_from, peeks_left, site_of, starts_at, unread_cost, has_back, is_whole, said_at}, Rounds.{IsRoundOf}, Turns.{TakesAt}}
+use Rattle.ulfm_steps.specs.{Blocks.{BothTell, AtBlock, HoldsHalf, MayReadBlocks, MembersTell, begins_at, block_at, blocks_cost, blocks_left, cost_behind, cost_of, first_of, next_in_block, peeks_from, peeks_left, site_of, starts_at, unread_cost, has_back, is_whole, said_at}, Rounds.{IsRoundOf}, Turns.{Running, TakesAt}}
 use Rattle.ulfm_steps.specs.declared.{blocks.Peek.{Peek}, blocks.ReadBlocks.{ReadBlocks}, blocks.RoundBlocks.{RoundBlocks}}
 
 -- a block has as many members as it is wide
@@ -119,6 +119,16 @@ told_of meld limits h c k side g (Some all) round says = subst (λ x. IsSummed m
 
 pub within_of : {P : Type 0} (meld : P → P → P) (limits : Limits) (h : History P) (c k : ℕ) (side : Side) (g : List ℕ) → IsLegal meld limits h → MayOpen limits → IsRoundOf limits h c k g → IsBlockWithin limits (block_at c k side)
 within_of meld limits h c k side g legal may round = record { comm = omega (arith, round.exists, spawns_below meld limits h legal may.in_range.some_comms); round = round.in_rounds }
+
+module _ {P : Type 0} (meld : P → P → P) (g : List ℕ) (now : Running (ReadBlocks P) P) where
+  -- the block that is read is one of the round's
+  pub reads_within : MayReadBlocks meld g now → IsBlockWithin now.view.words.limits (block_at now.state.comm now.state.round now.state.side)
+  reads_within may = within_of meld now.view.words.limits now.view.pass.seen now.state.comm now.state.round now.state.side g may.of.legal may.of.may_open may.round
+
+  -- .. and what its members say, all of whom were read, may be written there
+  pub writes : (written : Summary P → ℕ) (w : ℕ) → MayReadBlocks meld g now → now.state.read ≡ width (length g) → w ≡ written now.state.all → IsWritten meld written now.view.words.limits.ranks now.view.pass.seen (block_at now.state.comm now.state.round now.state.side) w
+  writes written w may all word =
+      let r = now.state in is_written meld written now.view.words.limits now.view.pass.seen r.comm r.round r.side g r.read w r.all may.round may.at.side all may.at.read word
 
 -- nothing is held of a member once all were read
 pub nothing_held : {P : Type 0} (view : View P) (g : List ℕ) (r : ReadBlocks P) → HoldsHalf view g r → width (length g) ≤ r.read → r.first ≡ None

@@ -5,9 +5,27 @@ use Rattle.ulfm_laws.specs.{declared.summary.Summary.{Summary}, Lawful.{IsLawful
 use Rattle.ulfm_model.specs.{Blocks.{IsSummed, block_of, width}, History.{History, slot}, Laws.{summary_of}, declared.contribution.Slot.{Slot}}
 use Rattle.ulfm_model.proofs.Summed.{summed_later, summed_push}
 use Rattle.ulfm_words.specs.Steps.{Goes, Over, Sight, view_at}
+use Rattle.ulfm_words.specs.Places.{IsCell}
 use Rattle.ulfm_words.proofs.Trails.{did_prefix}
-use Rattle.ulfm_steps.specs.{Blocks.{AtBlock, BlocksTake, MayReadBlocks, ReadsBlocks, block_at, reads_most}, Turns.{running}, declared.blocks.ReadBlocks.{ReadBlocks}}
-use Rattle.ulfm_steps.proofs.{InBlocks.{are_later, block_index, block_length, rank_is}, KnownBlocks.{no_first, set_later, spread_later}, Reading.{take_one_more}}
+use Rattle.ulfm_steps.specs.{Blocks.{AtBlock, BlocksTake, MayReadBlocks, ReadsBlocks, block_at, reads_most}, Turns.{Running, running}, declared.blocks.ReadBlocks.{ReadBlocks}}
+use Rattle.ulfm_steps.proofs.{InBlocks.{are_later, block_index, block_length, few_members, rank_is, rank_within}, KnownBlocks.{no_first, set_later, spread_later}, Reading.{has_at, member_within, take_one_more}}
+
+module _ {P : Type 0} (meld : P → P → P) (group : List ℕ) (now : Running (ReadBlocks P) P) where
+  -- the next member stands in the group
+  pub next_within : MayReadBlocks meld group now → now.state.read < width (length group) → now.state.begin + now.state.read < length group
+  next_within may more = rank_within meld now.view.pass.seen group now.state may.at more
+
+  -- .. which has few
+  pub next_few : MayReadBlocks meld group now → now.state.read < width (length group) → now.state.begin + now.state.read < 1024
+  next_few may more =
+      let few = few_members now.view.words.limits now.view.pass.seen now.state.comm now.state.round group may.of.may_open may.round in
+      let lt = next_within may more in omega (arith, lt, few)
+
+  -- .. and has a place in the round
+  pub next_cell : MayReadBlocks meld group now → now.state.read < width (length group) → IsCell now.view.words.limits now.state.comm now.state.round (slice_index_or group (now.state.begin + now.state.read) 0)
+  next_cell may more =
+      let at = now.state.begin + now.state.read in
+      member_within now.view.words.limits meld now.view.pass.seen now.state.comm now.state.round (slice_index_or group at 0) group may.of.legal may.of.may_open may.round (has_at group at 0 (next_within may more))
 
 -- what the members say together that were read before, and the next one
 pub one_more : {P : Type 0} {unit : P} (meld : P → P → P) → IsLawful unit meld → (old new : History P) (group : List ℕ) (r : ReadBlocks P) → IsPrefix old new → (at : AtBlock meld old group r) → r.read < width (length group) → (s : Slot P)

@@ -69,6 +69,15 @@ fn future_agrees_over_plain_words(rt: HostRuntime) -> Result<(), Fail> {
     Ok(())
 }
 
+/// The members of a world of two ranks, over shared words.
+fn two_members(rt: &impl Abort, alloc: Global) -> Result<(BookMember, BookMember), Fail> {
+    let words: BookWords<FlagAnd> = BookWords::open(alloc, limits(2))?;
+    let (_, mut members) = ulfm_wait::open(alloc, words)?;
+    let other = members.pop().expect(rt, "the member of rank 1");
+    let one = members.pop().expect(rt, "the member of rank 0");
+    Ok((one, other))
+}
+
 /// Two ranks agree in one thread. The first is pending until the second was polled, and is polled again, since it has woken
 /// its waker.
 fn agree_in_turn<R: Wait + RandomSource + AllocGlobal + Abort>(
@@ -88,11 +97,7 @@ fn agree_in_turn<R: Wait + RandomSource + AllocGlobal + Abort>(
 
 #[test]
 fn futures_wake(rt: HostRuntime) -> Result<(), Fail> {
-    let words: BookWords<FlagAnd> = BookWords::open(rt.alloc(), limits(2))?;
-    let (_, mut members) = ulfm_wait::open(rt.alloc(), words)?;
-    let (Some(other), Some(one)) = (members.pop(), members.pop()) else {
-        return Ok(());
-    };
+    let (one, other) = two_members(&rt, rt.alloc())?;
     agree_in_turn(&rt, one, other)
 }
 
@@ -129,24 +134,17 @@ fn contribute_at_once<R: Wait + RandomSource + AllocGlobal + Abort>(
 
 #[test]
 fn future_contributes_at_once(rt: HostRuntime) -> Result<(), Fail> {
-    let words: BookWords<FlagAnd> = BookWords::open(rt.alloc(), limits(2))?;
-    let (_, mut members) = ulfm_wait::open(rt.alloc(), words)?;
-    let (Some(other), Some(one)) = (members.pop(), members.pop()) else {
-        return Ok(());
-    };
+    let (one, other) = two_members(&rt, rt.alloc())?;
     contribute_at_once(&rt, one, other)
 }
 
 #[test]
 fn future_pends_twice(rt: HostRuntime) -> Result<(), Fail> {
-    let words: BookWords<FlagAnd> = BookWords::open(rt.alloc(), limits(2))?;
-    let (_, mut members) = ulfm_wait::open(rt.alloc(), words)?;
-    if let Some(member) = members.pop() {
-        let (world, rank, pass) = member.into_parts();
-        let mut future = AgreeFuture::new(&world, pass, rank, 0, FlagAnd { bits: 0xff });
-        assert!(rt; polled_once(&rt, &mut future)?.is_none());
-        assert!(rt; polled_once(&rt, &mut future)?.is_none());
-    }
+    let (one, _) = two_members(&rt, rt.alloc())?;
+    let (world, rank, pass) = one.into_parts();
+    let mut future = AgreeFuture::new(&world, pass, rank, 0, FlagAnd { bits: 0xff });
+    assert!(rt; polled_once(&rt, &mut future)?.is_none());
+    assert!(rt; polled_once(&rt, &mut future)?.is_none());
     Ok(())
 }
 
@@ -170,11 +168,7 @@ fn agree_after_drop<R: Wait + RandomSource + AllocGlobal>(
 #[test]
 fn future_is_dropped(rt: HostRuntime) -> Result<(), Fail> {
     for is_polled in [false, true] {
-        let words: BookWords<FlagAnd> = BookWords::open(rt.alloc(), limits(2))?;
-        let (_, mut members) = ulfm_wait::open(rt.alloc(), words)?;
-        let (Some(other), Some(one)) = (members.pop(), members.pop()) else {
-            return Ok(());
-        };
+        let (one, other) = two_members(&rt, rt.alloc())?;
         let expected = if is_polled { AGREED } else { Polled::Pending };
         assert_eq!(rt; agree_after_drop(&rt, one, other, is_polled)?, expected);
     }

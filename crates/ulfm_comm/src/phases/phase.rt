@@ -188,11 +188,7 @@ impl<P: Packed, A: Allocator> Doing<P, A> {
     /// The name of the next step. There is none where the rank was refused for good before: then the reply comes without one.
     ///
     /// ```
-    /// let asked = Call::IsRevoked {
-    ///     rank: rank.number(),
-    ///     comm: 0,
-    /// };
-    /// let doing = rank.begin(asked);
+    /// // The call asks whether a communicator is revoked.
     /// assert!(rt; doing.next() == Some(StepName::List));
     /// ```
     pub fn next(&self) -> Option<StepName>
@@ -230,11 +226,7 @@ impl<P: Packed, A: Allocator> Doing<P, A> {
     /// Whether its look goes on: that it has not ended yet. The step after which it does has ended it.
     ///
     /// ```
-    /// let asked = Call::IsRevoked {
-    ///     rank: rank.number(),
-    ///     comm: 0,
-    /// };
-    /// let doing = rank.begin(asked);
+    /// // The call asks whether a communicator is revoked.
     /// assert!(rt; doing.is_looking());
     /// ```
     pub fn is_looking(&self) -> bool
@@ -249,11 +241,7 @@ impl<P: Packed, A: Allocator> Doing<P, A> {
     /// Whether it is a barrier's poll that makes its last load next, that of the revocation: who is missing is found.
     ///
     /// ```
-    /// let asked = Call::IsRevoked {
-    ///     rank: rank.number(),
-    ///     comm: 0,
-    /// };
-    /// let doing = rank.begin(asked);
+    /// // The call asks whether a communicator is revoked.
     /// assert!(rt; !doing.is_checking());
     /// ```
     pub fn is_checking(&self) -> bool

@@ -22,9 +22,8 @@ use ulfm_wait::Member;
 use ulfm_words::{PlainWords, Step};
 
 pub(crate) fn agreed(bits: u64, failed: u16, raised: bool) -> Reply<FlagAnd> {
-    let value = FlagAnd { bits };
     Reply::Agreed {
-        value,
+        value: FlagAnd { bits },
         failed,
         raised,
     }

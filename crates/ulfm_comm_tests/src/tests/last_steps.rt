@@ -1,6 +1,7 @@
 // How many steps a rank's last call made: of whole calls, and of calls that are taken step by step.
 
 use crate::tests::calls::apply;
+use crate::tests::last_steps::Move::{Agree, Declare, Get, Poll};
 use crate::tests::play::{Play, Verb, call_of};
 use std::alloc::Global;
 use std::process::Abort;
@@ -16,7 +17,7 @@ use ulfm_words::PlainWords;
 #[derive(Clone, Copy, Debug)]
 enum Move {
     /// The outside declares a rank, which wasn't declared before.
-    Fail(u16),
+    Declare(u16),
     /// A rank asks for the failed group.
     Get(u16, u32),
     /// It contributes to its next round.
@@ -28,10 +29,10 @@ enum Move {
 // The rank of a move, what it asks, and how many steps that is to take.
 fn asked_of(made: Move) -> Option<(u16, Verb<FlagAnd>, u32)> {
     match made {
-        Move::Fail(_) => None,
-        Move::Get(rank, steps) => Some((rank, Verb::Get, steps)),
-        Move::Agree(rank, steps) => Some((rank, Verb::Agree(FlagAnd { bits: 0x3 }), steps)),
-        Move::Poll(rank, steps) => Some((rank, Verb::Poll, steps)),
+        Declare(_) => None,
+        Get(rank, steps) => Some((rank, Verb::Get, steps)),
+        Agree(rank, steps) => Some((rank, Verb::Agree(FlagAnd { bits: 0x3 }), steps)),
+        Poll(rank, steps) => Some((rank, Verb::Poll, steps)),
     }
 }
 
@@ -48,7 +49,7 @@ fn whole(rt: &impl Abort, alloc: Global, ranks: u16, moves: &[Move]) -> Result<(
     let mut job = Job::open(alloc, PlainWords::<FlagAnd>::open(limits(ranks, 1))?)?;
     let mut group = Vec::new(alloc);
     for made in moves {
-        if let Move::Fail(rank) = *made {
+        if let Declare(rank) = *made {
             let reply = apply(&mut job, &Call::Fail { rank }, &mut group)?;
             assert!(rt; reply == Reply::Declared);
         }
@@ -64,7 +65,7 @@ fn whole(rt: &impl Abort, alloc: Global, ranks: u16, moves: &[Move]) -> Result<(
 fn stepped(rt: &impl Abort, alloc: Global, ranks: u16, moves: &[Move]) -> Result<(), Fail> {
     let mut play = Play::open(alloc, PlainWords::<FlagAnd>::open(limits(ranks, 1))?)?;
     for made in moves {
-        if let Move::Fail(rank) = *made {
+        if let Declare(rank) = *made {
             assert!(rt; play.fail(rank) == Ok(true));
         }
         if let Some((rank, verb, steps)) = asked_of(*made) {
@@ -81,98 +82,93 @@ fn stepped(rt: &impl Abort, alloc: Global, ranks: u16, moves: &[Move]) -> Result
     Ok(())
 }
 
-fn both(rt: &impl Abort, alloc: Global, ranks: u16, moves: &[Move]) -> Result<(), Fail> {
-    whole(rt, alloc, ranks, moves)?;
-    stepped(rt, alloc, ranks, moves)
-}
+// Worlds of so many ranks, whether single steps count as whole calls do, and what happens: one rank looks; polls of two blocks; polls behind
+// marks; polls of a single block; polls that wait, in a world of one block and in one of two. A whole poll that is pending remembers at whom
+// it ended: the next one loads that place first, once. One that is taken step by step reads in order. Where a member is to be marked, the poll
+// reads in order behind its mark.
+const COUNTED: [(u16, bool, &[Move]); 6] = [
+    (3, true, &[Get(0, 1), Declare(2), Get(0, 2), Get(0, 1)]),
+    (
+        3,
+        true,
+        &[
+            Agree(0, 3),
+            Agree(1, 3),
+            Agree(2, 3),
+            Poll(0, 15),
+            Poll(1, 5),
+        ],
+    ),
+    (
+        3,
+        true,
+        &[
+            Declare(2),
+            Agree(0, 4),
+            Agree(1, 4),
+            Poll(0, 15),
+            Poll(1, 5),
+        ],
+    ),
+    (
+        4,
+        true,
+        &[
+            Agree(0, 3),
+            Agree(1, 3),
+            Agree(2, 3),
+            Agree(3, 3),
+            Poll(0, 12),
+            Poll(1, 3),
+        ],
+    ),
+    (
+        4,
+        false,
+        &[
+            Agree(0, 3),
+            Poll(0, 5),
+            Poll(0, 3),
+            Agree(2, 3),
+            Poll(0, 3),
+            Agree(1, 3),
+            Poll(0, 10),
+            Poll(0, 3),
+            Agree(3, 3),
+            Poll(0, 13),
+            Agree(0, 3),
+            Poll(0, 5),
+            Declare(3),
+            Poll(0, 7),
+            Poll(0, 6),
+        ],
+    ),
+    (
+        3,
+        false,
+        &[
+            Agree(0, 3),
+            Agree(1, 3),
+            Poll(0, 12),
+            Poll(0, 5),
+            Poll(1, 7),
+            Poll(1, 5),
+            Agree(2, 3),
+            Poll(0, 11),
+            Poll(1, 5),
+        ],
+    ),
+];
 
 #[test]
-fn looks_are_counted(rt: HostRuntime) -> Result<(), Fail> {
-    let moves = [
-        Move::Get(0, 1),
-        Move::Fail(2),
-        Move::Get(0, 2),
-        Move::Get(0, 1),
-    ];
-    both(&rt, rt.alloc(), 3, &moves)
-}
-
-#[test]
-fn polls_are_counted(rt: HostRuntime) -> Result<(), Fail> {
-    let moves = [
-        Move::Agree(0, 3),
-        Move::Agree(1, 3),
-        Move::Agree(2, 3),
-        Move::Poll(0, 15),
-        Move::Poll(1, 5),
-    ];
-    both(&rt, rt.alloc(), 3, &moves)
-}
-
-#[test]
-fn marks_are_counted(rt: HostRuntime) -> Result<(), Fail> {
-    let moves = [
-        Move::Fail(2),
-        Move::Agree(0, 4),
-        Move::Agree(1, 4),
-        Move::Poll(0, 15),
-        Move::Poll(1, 5),
-    ];
-    both(&rt, rt.alloc(), 3, &moves)
-}
-
-#[test]
-fn single_blocks_are_counted(rt: HostRuntime) -> Result<(), Fail> {
-    let moves = [
-        Move::Agree(0, 3),
-        Move::Agree(1, 3),
-        Move::Agree(2, 3),
-        Move::Agree(3, 3),
-        Move::Poll(0, 12),
-        Move::Poll(1, 3),
-    ];
-    both(&rt, rt.alloc(), 4, &moves)
-}
-
-// A whole poll that is pending remembers at whom it ended: the next one loads that place first, once. One that is taken step by step reads
-// in order.
-#[test]
-fn waiting_polls_are_counted(rt: HostRuntime) -> Result<(), Fail> {
-    let moves = [
-        Move::Agree(0, 3),
-        Move::Poll(0, 5),
-        Move::Poll(0, 3),
-        Move::Agree(2, 3),
-        Move::Poll(0, 3),
-        Move::Agree(1, 3),
-        Move::Poll(0, 10),
-        Move::Poll(0, 3),
-        Move::Agree(3, 3),
-        Move::Poll(0, 13),
-        Move::Agree(0, 3),
-        Move::Poll(0, 5),
-        // Where a member is to be marked, the poll reads in order behind its mark.
-        Move::Fail(3),
-        Move::Poll(0, 7),
-        Move::Poll(0, 6),
-    ];
-    whole(&rt, rt.alloc(), 4, &moves)
-}
-
-#[test]
-fn waiting_polls_of_two_blocks_are_counted(rt: HostRuntime) -> Result<(), Fail> {
-    let moves = [
-        Move::Agree(0, 3),
-        Move::Agree(1, 3),
-        Move::Poll(0, 12),
-        Move::Poll(0, 5),
-        Move::Poll(1, 7),
-        Move::Poll(1, 5),
-        Move::Agree(2, 3),
-        Move::Poll(0, 11),
-        Move::Poll(1, 5),
-    ];
-    whole(&rt, rt.alloc(), 3, &moves)
+fn calls_are_counted(rt: HostRuntime) -> Result<(), Fail> {
+    for (ranks, alike, moves) in COUNTED {
+        whole(&rt, rt.alloc(), ranks, moves)?;
+        if alike {
+            stepped(&rt, rt.alloc(), ranks, moves)?;
+        }
+    }
+    Ok(())
 }
 
 // Shrinks by the only rank of a world in which five communicators may be, one after the other: the parent, and how many steps the poll makes,

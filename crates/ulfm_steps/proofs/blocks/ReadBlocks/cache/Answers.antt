@@ -5,19 +5,16 @@ use Rattle.ulfm_words.specs.Steps.{over, view_of, Goes}
 use Rattle.ulfm_words.proofs.{Trails.{did_prefix}, Tried.{tries_one}}
 use Rattle.ulfm_steps.specs.Blocks.{reads_most}
 use Rattle.ulfm_steps.specs.{Blocks.{BothTell, AreSet, MembersTell, blocks_left, is_whole, site_of}, Turns.{TakesAt}}
-use Rattle.ulfm_steps.proofs.InBlocks.{apart_lt, are_with, few_members, is_written, nothing_held, known_with, next_by, next_cost, takes_cache, within_of}
+use Rattle.ulfm_steps.proofs.InBlocks.{apart_lt, are_with, few_members, nothing_held, known_with, next_by, next_cost, reads_within, takes_cache, writes}
 use Rattle.ulfm_steps.proofs.KnownBlocks.{all_known, set_known}
 use Rattle.ulfm_steps.proofs.blocks.ReadBlocks.cache.Goals as goal
 use Rattle.ulfm_steps.proofs.blocks.ReadBlocks.cache.Goals.{Joined-self, in-Front, in-Back}
 
 pub cache-requires-clause-within : goal.cache-requires-clause-within
-cache-requires-clause-within g c =
-    within_of g.P.Meld.meld (g.W.Words.name c.args.words.now).limits (g.W.Words.sight c.args.pass.now).seen c.args.self.now.comm c.args.self.now.round c.args.self.now.side c.args.group.now c.requires.may.of.legal c.requires.may.of.may_open c.requires.may.round
+cache-requires-clause-within g c = reads_within g.P.Meld.meld c.args.group.now _ c.requires.may
 
 pub cache-requires-clause-may : goal.cache-requires-clause-may
-cache-requires-clause-may g c =
-    let r = c.args.self.now in
-    is_written g.P.Meld.meld (block_word g.P.Packed.pack) (g.W.Words.name c.args.words.now).limits (g.W.Words.sight c.args.pass.now).seen r.comm r.round r.side c.args.group.now r.read c.block_word.result r.all c.requires.may.round c.requires.may.at.side c.requires.all c.requires.may.at.read c.block_word.ensures
+cache-requires-clause-may g c = writes g.P.Meld.meld c.args.group.now _ (block_word g.P.Packed.pack) c.block_word.result c.requires.may c.requires.all c.block_word.ensures
 
 pub overflow_cast-members : goal.overflow_cast-members
 overflow_cast-members g c =

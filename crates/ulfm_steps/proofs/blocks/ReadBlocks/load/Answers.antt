@@ -4,31 +4,21 @@ use Rattle.ulfm_model.specs.{Laws.{summary_of}, History.{slot}, declared.{block.
 use Rattle.ulfm_words.specs.{Blocks.{IsFirstOf}, Steps.{over, view_of, Goes}, declared.step.Site.{Site}}
 use Rattle.ulfm_words.proofs.{Trails.{did_prefix}, Tried.{tries_none}}
 use Rattle.ulfm_steps.specs.{Blocks.{block_at, blocks_left, next_in_block, reads_most, site_of}, Turns.{TakesAt}}
-use Rattle.ulfm_steps.proofs.{InBlocks.{are_later, at_block_later, few_members, rank_is, rank_within, takes_member, takes_member_wing}, KnownBlocks.{set_later, spread_later}, OneMore.{reads_one}, Reading.{has_at, member_within, missing_at}, Turning.{takes_load}}
+use Rattle.ulfm_steps.proofs.{InBlocks.{are_later, at_block_later, rank_is, takes_member}, KnownBlocks.{set_later, spread_later}, OneMore.{next_cell, next_few, next_within, reads_one}, Reading.{missing_at}, Turning.{takes_load}}
 use Rattle.ulfm_steps.proofs.blocks.ReadBlocks.load.Goals as goal
 use Rattle.ulfm_steps.proofs.blocks.ReadBlocks.load.Goals.{After-load_slot}
 
 pub overflow_add-rank : goal.overflow_add-rank
-overflow_add-rank g c =
-    let lt = rank_within g.P.Meld.meld (g.W.Words.sight c.args.pass.now).seen c.args.group.now c.args.self.now c.requires.may.at c.requires.more in
-    let most = few_members (g.W.Words.name c.args.words.now).limits (g.W.Words.sight c.args.pass.now).seen c.args.self.now.comm c.args.self.now.round c.args.group.now c.requires.may.of.may_open c.requires.may.round in
-    omega (arith, lt, most)
+overflow_add-rank g c = let few = next_few g.P.Meld.meld c.args.group.now _ c.requires.may c.requires.more in omega (arith, few)
 
 pub bounds-group-self : goal.bounds-group-self
-bounds-group-self g c = rank_within g.P.Meld.meld (g.W.Words.sight c.args.pass.now).seen c.args.group.now c.args.self.now c.requires.may.at c.requires.more
+bounds-group-self g c = next_within g.P.Meld.meld c.args.group.now _ c.requires.may c.requires.more
 
 pub load_slot-requires-clause-within : goal.load_slot-requires-clause-within
-load_slot-requires-clause-within g c =
-    let r = c.args.self.now in
-    let lt = rank_within g.P.Meld.meld (g.W.Words.sight c.args.pass.now).seen c.args.group.now c.args.self.now c.requires.may.at c.requires.more in
-    member_within (g.W.Words.name c.args.words.now).limits g.P.Meld.meld (g.W.Words.sight c.args.pass.now).seen r.comm r.round (slice_index_or c.args.group.now (r.begin + r.read) 0) c.args.group.now
-    c.requires.may.of.legal c.requires.may.of.may_open c.requires.may.round (has_at c.args.group.now (r.begin + r.read) 0 lt)
+load_slot-requires-clause-within g c = next_cell g.P.Meld.meld c.args.group.now _ c.requires.may c.requires.more
 
 pub overflow_add-self : goal.overflow_add-self
-overflow_add-self g c =
-    let lt = rank_within g.P.Meld.meld (g.W.Words.sight c.args.pass.now).seen c.args.group.now c.args.self.now c.requires.may.at c.requires.more in
-    let most = few_members (g.W.Words.name c.args.words.now).limits (g.W.Words.sight c.args.pass.now).seen c.args.self.now.comm c.args.self.now.round c.args.group.now c.requires.may.of.may_open c.requires.may.round in
-    omega (arith, lt, most)
+overflow_add-self g c = let few = next_few g.P.Meld.meld c.args.group.now _ c.requires.may c.requires.more in omega (arith, few)
 
 -- the load is a step of the reading
 takes : (g : _) (c : After-load_slot g) (after : ℕ) → after + 1 ≤ blocks_left (length c.args.group.now) c.args.self.now
@@ -48,7 +38,7 @@ went g c = let l = c.load_slot.ensures.loads in record { of = l.of; did = l.did;
 pub returns-in-Nothing : goal.returns-in-Nothing
 returns-in-Nothing g c =
     let r = c.args.self.now in
-    let lt = rank_within g.P.Meld.meld (g.W.Words.sight c.args.pass.now).seen c.args.group.now r c.requires.may.at c.requires.more in
+    let lt = next_within g.P.Meld.meld c.args.group.now _ c.requires.may c.requires.more in
     record {
       goes = went g (goal.at.returns-in-Nothing g c).After-load_slot;
       takes = takes g (goal.at.returns-in-Nothing g c).After-load_slot 0 (rw c.requires.none (omega (arith, c.requires.more)));

@@ -4,19 +4,16 @@ use Rattle.ulfm_model.specs.{Laws.{summary_of}, History.{slot}, declared.{block.
 use Rattle.ulfm_words.specs.{Blocks.{IsFirstOf}, Steps.{over, view_of, Goes}, declared.step.Site.{Site}}
 use Rattle.ulfm_words.proofs.{Trails.{did_prefix}, Tried.{tries_one}}
 use Rattle.ulfm_steps.specs.{Blocks.{block_at, blocks_left, next_in_block, reads_most, site_of}, Turns.{TakesAt}}
-use Rattle.ulfm_steps.proofs.{InBlocks.{are_later, at_block_later, few_members, rank_is, rank_within, nothing_held, takes_wing, is_written, within_of}, KnownBlocks.{set_later, spread_later}, OneMore.{one_more}, Reading.{has_at, member_within, missing_at}, Turning.{takes_load}}
+use Rattle.ulfm_steps.proofs.{InBlocks.{are_later, at_block_later, few_members, rank_is, rank_within, nothing_held, reads_within, takes_wing, writes}, KnownBlocks.{set_later, spread_later}, OneMore.{one_more}, Reading.{has_at, member_within, missing_at}, Turning.{takes_load}}
 use Rattle.ulfm_model.specs.Blocks.{block_wing}
 use Rattle.ulfm_words.specs.Blocks.{standing}
 use Rattle.ulfm_steps.proofs.blocks.ReadBlocks.spread.Goals as goal
 
 pub set_wing-requires-clause-within : goal.set_wing-requires-clause-within
-set_wing-requires-clause-within g c =
-    within_of g.P.Meld.meld (g.W.Words.name c.args.words.now).limits (g.W.Words.sight c.args.pass.now).seen c.args.self.now.comm c.args.self.now.round c.args.self.now.side c.args.group.now c.requires.may.of.legal c.requires.may.of.may_open c.requires.may.round
+set_wing-requires-clause-within g c = reads_within g.P.Meld.meld c.args.group.now _ c.requires.may
 
 pub set_wing-requires-clause-may : goal.set_wing-requires-clause-may
-set_wing-requires-clause-may g c =
-    let r = c.args.self.now in
-    is_written g.P.Meld.meld (block_wing g.P.Packed.pack) (g.W.Words.name c.args.words.now).limits (g.W.Words.sight c.args.pass.now).seen r.comm r.round r.side c.args.group.now r.read c.block_wing.result r.all c.requires.may.round c.requires.may.at.side c.requires.all c.requires.may.at.read c.block_wing.ensures
+set_wing-requires-clause-may g c = writes g.P.Meld.meld c.args.group.now _ (block_wing g.P.Packed.pack) c.block_wing.result c.requires.may c.requires.all c.block_wing.ensures
 
 pub returns : goal.returns
 returns g c =

@@ -1,7 +1,7 @@
 // Examples of words, and of what stands below them.
 ghost use Rattle.std.specs.Prelude.{◌≡◌};
 
-use crate::open::two;
+use crate::tests::open::two;
 use std::test::Fail;
 use ulfm_laws::meld_all::meld_all;
 use ulfm_laws::{Acked, FlagAnd, Known};

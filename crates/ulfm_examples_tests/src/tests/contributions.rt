@@ -1,6 +1,6 @@
 // Agrees over the contributions beside flags under AND: two ranks, and what theirs come to.
 
-use crate::open::TWO;
+use crate::tests::open::TWO;
 use std::alloc::Global;
 use std::process::Abort;
 use std::test::Fail;

@@ -3,7 +3,7 @@ use Rattle.std.specs.Arc.{arc_value}
 use Rattle.ulfm_laws.specs.{Flags.{flag_meld}, declared.flag_and.FlagAnd.{FlagAnd}}
 use Rattle.ulfm_wait.specs.Members.{IsMember}
 use Rattle.ulfm_examples_tests.proofs.Begun.{stands_begun}
-use Rattle.ulfm_examples_tests.proofs.ranks.rank_step.Goals as goal
+use Rattle.ulfm_examples_tests.proofs.tests.ranks.rank_step.Goals as goal
 
 pub step-requires-clause-stood : goal.step-requires-clause-stood
 step-requires-clause-stood g c =

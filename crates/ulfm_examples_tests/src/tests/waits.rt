@@ -1,6 +1,6 @@
 // Examples of calls that wait, of the future of an agree, and of a race.
 
-use crate::open::left;
+use crate::tests::open::left;
 use futures::executor::block_on;
 use std::test::Fail;
 use ulfm_comm::Polled;

@@ -1,6 +1,6 @@
 // Examples of `Member`, `Outside` and `ulfm_wait::open`.
 
-use crate::open::{TWO, two};
+use crate::tests::open::{TWO, two};
 use std::test::Fail;
 use ulfm_book::BookWords;
 use ulfm_comm::Polled;

@@ -1,11 +1,22 @@
 // Examples of `Rank`, and of its calls step by step.
 
-use crate::open::{left, two};
+use crate::tests::open::{left, two};
+use std::alloc::Global;
+use std::process::Abort;
 use std::test::Fail;
-use ulfm_comm::Polled;
+use ulfm_comm::{Doing, Polled};
 use ulfm_laws::FlagAnd;
 use ulfm_model::event::{Caller, Entry, Event};
 use ulfm_model::{Call, Refusal, Reply, Request, StepName};
+
+/// The question of rank 0 whether the world's communicator is revoked, begun.
+fn begun(rt: &impl Abort, alloc: Global) -> Result<Doing<FlagAnd, Global>, Fail> {
+    let (_, rank, _) = two(rt, alloc)?.1.into_parts();
+    Ok(rank.begin(Call::IsRevoked {
+        rank: rank.number(),
+        comm: 0,
+    }))
+}
 
 #[test]
 fn rank_number(rt: HostRuntime) -> Result<(), Fail> {
@@ -277,13 +288,9 @@ fn rank_proposal(rt: HostRuntime) -> Result<(), Fail> {
 
 #[test]
 fn doing_next(rt: HostRuntime) -> Result<(), Fail> {
-    let (_, rank, _) = two(&rt, rt.alloc())?.1.into_parts();
+    let doing = begun(&rt, rt.alloc())?;
 
-    let asked = Call::IsRevoked {
-        rank: rank.number(),
-        comm: 0,
-    };
-    let doing = rank.begin(asked);
+    // The call asks whether a communicator is revoked.
     assert!(rt; doing.next() == Some(StepName::List));
 
     Ok(())
@@ -291,13 +298,9 @@ fn doing_next(rt: HostRuntime) -> Result<(), Fail> {
 
 #[test]
 fn doing_is_looking(rt: HostRuntime) -> Result<(), Fail> {
-    let (_, rank, _) = two(&rt, rt.alloc())?.1.into_parts();
+    let doing = begun(&rt, rt.alloc())?;
 
-    let asked = Call::IsRevoked {
-        rank: rank.number(),
-        comm: 0,
-    };
-    let doing = rank.begin(asked);
+    // The call asks whether a communicator is revoked.
     assert!(rt; doing.is_looking());
 
     Ok(())
@@ -319,13 +322,9 @@ fn doing_asked(rt: HostRuntime) -> Result<(), Fail> {
 
 #[test]
 fn doing_is_checking(rt: HostRuntime) -> Result<(), Fail> {
-    let (_, rank, _) = two(&rt, rt.alloc())?.1.into_parts();
+    let doing = begun(&rt, rt.alloc())?;
 
-    let asked = Call::IsRevoked {
-        rank: rank.number(),
-        comm: 0,
-    };
-    let doing = rank.begin(asked);
+    // The call asks whether a communicator is revoked.
     assert!(rt; !doing.is_checking());
 
     Ok(())

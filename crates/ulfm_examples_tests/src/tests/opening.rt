@@ -1,6 +1,6 @@
 // An example of opening a world over shared words.
 
-use crate::open::TWO;
+use crate::tests::open::TWO;
 use std::test::Fail;
 use vukrasp::{Member, Outside};
 

@@ -1,12 +1,18 @@
 // Examples of `World` and `Job`.
 
-use crate::open::{TWO, two};
+use crate::tests::open::{TWO, Words, two};
+use std::alloc::Global;
 use std::test::Fail;
 use ulfm_comm::World;
 use ulfm_laws::FlagAnd;
 use ulfm_model::{Call, Refusal, Reply};
 use ulfm_run::Job;
 use ulfm_words::PlainWords;
+
+/// A job of two ranks.
+fn job_of_two(alloc: Global) -> Result<Job<Words, FlagAnd, Global>, Fail> {
+    Ok(Job::open(alloc, Words::open(TWO)?)?)
+}
 
 #[test]
 fn world_open(rt: HostRuntime) -> Result<(), Fail> {
@@ -21,8 +27,7 @@ fn world_open(rt: HostRuntime) -> Result<(), Fail> {
 
 #[test]
 fn world_limits(rt: HostRuntime) -> Result<(), Fail> {
-    let (_, member) = two(&rt, rt.alloc())?;
-    let (world, _, _) = member.into_parts();
+    let (world, _, _) = two(&rt, rt.alloc())?.1.into_parts();
 
     assert!(rt; world.limits().ranks == 2);
 
@@ -31,8 +36,7 @@ fn world_limits(rt: HostRuntime) -> Result<(), Fail> {
 
 #[test]
 fn world_pass(rt: HostRuntime) -> Result<(), Fail> {
-    let (_, member) = two(&rt, rt.alloc())?;
-    let (world, _, _) = member.into_parts();
+    let (world, _, _) = two(&rt, rt.alloc())?.1.into_parts();
     let alloc = rt.alloc();
 
     let mut pass = world.pass(alloc)?;
@@ -43,37 +47,32 @@ fn world_pass(rt: HostRuntime) -> Result<(), Fail> {
 
 #[test]
 fn world_told(rt: HostRuntime) -> Result<(), Fail> {
-    let (_, member) = two(&rt, rt.alloc())?;
-    let (world, _, _) = member.into_parts();
+    let (world, mut rank, mut pass) = two(&rt, rt.alloc())?.1.into_parts();
     let alloc = rt.alloc();
 
-    let mut pass = world.pass(alloc)?;
-    let mut other = world.pass(alloc)?;
-    world.fail(&mut pass, 1)?;
-    world.learn(&mut other, &world.told(&pass));
-
-    Ok(())
-}
-
-#[test]
-fn world_learn(rt: HostRuntime) -> Result<(), Fail> {
-    let (_, member) = two(&rt, rt.alloc())?;
-    let (world, _, _) = member.into_parts();
-    let alloc = rt.alloc();
-
-    let mut pass = world.pass(alloc)?;
-    let mut other = world.pass(alloc)?;
-    world.fail(&mut pass, 1)?;
+    rank.revoke(&world, &mut pass, 0)?;
     let told = world.told(&pass);
+    let mut other = world.pass(alloc)?;
     world.learn(&mut other, &told);
 
     Ok(())
 }
 
 #[test]
+fn world_learn(rt: HostRuntime) -> Result<(), Fail> {
+    let (world, _, mut pass) = two(&rt, rt.alloc())?.1.into_parts();
+    let alloc = rt.alloc();
+
+    let mut detector = world.pass(alloc)?;
+    world.fail(&mut detector, 1)?;
+    world.learn(&mut pass, &world.told(&detector));
+
+    Ok(())
+}
+
+#[test]
 fn world_fail(rt: HostRuntime) -> Result<(), Fail> {
-    let (_, member) = two(&rt, rt.alloc())?;
-    let (world, _, mut pass) = member.into_parts();
+    let (world, _, mut pass) = two(&rt, rt.alloc())?.1.into_parts();
 
     assert!(rt; world.fail(&mut pass, 1) == Ok(true));
     assert!(rt; world.fail(&mut pass, 1) == Ok(false));
@@ -95,9 +94,7 @@ fn job_open(rt: HostRuntime) -> Result<(), Fail> {
 
 #[test]
 fn job_pass(rt: HostRuntime) -> Result<(), Fail> {
-    let (alloc, limits) = (rt.alloc(), TWO);
-    let words: PlainWords<FlagAnd> = PlainWords::open(limits)?;
-    let job = Job::open(alloc, words)?;
+    let job = job_of_two(rt.alloc())?;
 
     assert!(rt; job.pass().nth(0).is_none());
 
@@ -106,9 +103,7 @@ fn job_pass(rt: HostRuntime) -> Result<(), Fail> {
 
 #[test]
 fn job_rank(rt: HostRuntime) -> Result<(), Fail> {
-    let (alloc, limits) = (rt.alloc(), TWO);
-    let words: PlainWords<FlagAnd> = PlainWords::open(limits)?;
-    let job = Job::open(alloc, words)?;
+    let job = job_of_two(rt.alloc())?;
 
     assert!(rt; job.rank(1).is_some());
     assert!(rt; job.rank(2).is_none());
@@ -118,9 +113,8 @@ fn job_rank(rt: HostRuntime) -> Result<(), Fail> {
 
 #[test]
 fn job_apply(rt: HostRuntime) -> Result<(), Fail> {
-    let (alloc, limits) = (rt.alloc(), TWO);
-    let words: PlainWords<FlagAnd> = PlainWords::open(limits)?;
-    let mut job = Job::open(alloc, words)?;
+    let alloc = rt.alloc();
+    let mut job = job_of_two(alloc)?;
 
     let mut group = Vec::new(alloc);
     let failed = job.apply(&Call::Fail { rank: 1 }, &mut group)?;

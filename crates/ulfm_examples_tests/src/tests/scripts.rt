@@ -1,6 +1,6 @@
 // Examples of scripts and traces, and of the sequential object.
 
-use crate::open::TWO;
+use crate::tests::open::TWO;
 use std::test::Fail;
 use ulfm_draw::{Form, Looks, draw};
 use ulfm_laws::FlagAnd;

@@ -1,0 +1,11 @@
+// The examples, by what they are of.
+
+mod contributions;
+mod members;
+mod open;
+mod opening;
+mod ranks;
+mod scripts;
+mod waits;
+mod words;
+mod worlds;
