@@ -1,33 +1,17 @@
 //! Memory that is refused: a call that gets none leaves the object as it was.
 use crate::calls::{
-    Line, acknowledgements_script, fail, free, limits, names_of_2013_script, one_rank_script, poll,
-    shrink, shrunk,
+    Line, acknowledgements_script, call_of, limits, names_of_2013_script, one_rank_script,
 };
 use linked_list_allocator::LocalHeap;
-use std::alloc::{AllocError, Allocator, Global};
+use std::alloc::{Allocator, Global};
 use std::process::Abort;
 use std::test::Fail;
+use ulfm_devices::memory::filled;
 use ulfm_laws::flag_and::FlagAnd;
 use ulfm_model::limits::{Limits, OpenFault};
 use ulfm_model::reply::Reply;
 use ulfm_model::{HeldComm, RankRecord};
 use ulfm_object::Object;
-
-/// Fills a heap, block by block, until it has no more than so many bytes of room. The room comes back with what is
-/// answered.
-fn filled<'a>(
-    alloc: Global,
-    heap: &'a LocalHeap,
-    room: usize,
-) -> Result<Vec<Vec<u8, &'a LocalHeap>, Global>, AllocError> {
-    let mut blocks = Vec::new(alloc);
-    for _ in 0..1024usize {
-        if heap.free() > room {
-            blocks.push(Vec::with_capacity(heap, 16)?)?;
-        }
-    }
-    Ok(blocks)
-}
 
 /// Whether two ranks hold the same communicator in the same way.
 fn are_held_alike<A: Allocator, B: Allocator>(one: &HeldComm<A>, other: &HeldComm<B>) -> bool {
@@ -79,18 +63,20 @@ fn apply_refused<'a>(
     twin: &mut Object<FlagAnd, Global>,
     line: &Line,
 ) -> Result<usize, Fail> {
+    let (text, wanted) = line;
+    let asked = call_of(text)?;
     for count in 0..200usize {
         let blocks = filled(alloc, heap, count * 16)?;
-        let answered = object.apply(&line.0);
+        let answered = object.apply(&asked);
         drop(blocks);
         if let Ok(reply) = answered {
-            assert!(rt; reply == line.1, "{:?} is answered {reply:?}", line.0);
-            twin.apply(&line.0)?;
+            assert_eq!(rt; reply, *wanted, "{text}");
+            twin.apply(&asked)?;
             return Ok(count);
         }
         expect_alike(rt, object, twin)?;
     }
-    assert!(rt; false, "{:?} is never answered", line.0);
+    assert!(rt; false, "{text} is never answered");
     Ok(0)
 }
 
@@ -122,11 +108,16 @@ fn scripts_are_refused_memory(rt: HostRuntime) -> Result<(), Fail> {
 
 #[test]
 fn shrinks_are_refused_memory(rt: HostRuntime) -> Result<(), Fail> {
+    let shrunk = Reply::Shrunk {
+        comm: 1,
+        context: 1,
+        size: 1,
+    };
     let script = [
-        (fail(1), Reply::Declared),
-        (shrink(0, 0), Reply::Started),
-        (poll(0, 0), shrunk(1, 1, 1)),
-        (free(0, 1), Reply::Freed),
+        ("fail 1", Reply::Declared),
+        ("shrink 0 0", Reply::Started),
+        ("poll 0 0", shrunk),
+        ("free 0 1", Reply::Freed),
     ];
     run_refused(&rt, rt.alloc(), limits(2, 2, 2), &script)
 }
