@@ -1,7 +1,7 @@
 //! The program's commands and their options, as the command line crate takes them.
 ghost use Rattle.std.specs.Prelude.{◌≡◌, IfOk, false};
 ghost use Rattle.clap.specs.Words.{rule_of};
-ghost use Rattle.ulfm_command.specs.CommandLines.{IsCommand, check, draw, drawers, explore, explorers, flag_rule, migrate, migrators, number_rule, race, readers, replay, replayers, run, runners, ulfm};
+ghost use Rattle.ulfm_command.specs.CommandLines.{IsCommand, check, draw, drawers, explore, explorers, fail_rule, flag_rule, migrate, migrators, most_rule, number_rule, outcome_rule, race, ranks_rule, readers, replay, replayers, rounds_rule, run, runners, ulfm};
 
 use crate::texts::{
     CHECK_HELP, DRAW_HELP, EXPLORE_HELP, MIGRATE_HELP, RACE_HELP, REPLAY_HELP, RUN_HELP, ULFM_HELP,
@@ -40,6 +40,46 @@ fn flag_option<'a>(global: Global, name: &'a str, help: &'a str) -> Arg<'a>
         .help(help)
 }
 
+/// How many ranks race.
+fn ranks_option<'a>(global: Global) -> Arg<'a>
+    ensures rule { rule_of result ≡ ranks_rule }
+    ensures local { result.global ≡ false }
+{
+    let parser = value_parser!(u16).range(1..=64);
+    number_option(global, "ranks", "N", "How many ranks race, 1 to 64", parser).required(true)
+}
+
+/// How often they agree.
+fn rounds_option<'a>(global: Global) -> Arg<'a>
+    ensures rule { rule_of result ≡ rounds_rule }
+    ensures local { result.global ≡ false }
+{
+    let parser = value_parser!(u16).range(1..=1000);
+    number_option(
+        global,
+        "rounds",
+        "K",
+        "How often they agree, 1 to 1000",
+        parser,
+    )
+    .required(true)
+}
+
+/// Which rank is declared.
+fn fail_option<'a>(global: Global) -> Arg<'a>
+    ensures rule { rule_of result ≡ fail_rule }
+    ensures local { result.global ≡ false }
+{
+    let parser = value_parser!(u16).range(0..=63);
+    number_option(
+        global,
+        "fail",
+        "R",
+        "The rank that is declared failed, below N",
+        parser,
+    )
+}
+
 /// `ulfm race`.
 fn race_command<'a>(global: Global) -> Result<Command<'a>, AllocError>
     ensures { IfOk result (IsCommand race) }
@@ -49,29 +89,9 @@ fn race_command<'a>(global: Global) -> Result<Command<'a>, AllocError>
             "Lets ranks agree and shrink, each on a thread of its own, and prints what they agreed on",
         )
         .after_help(RACE_HELP)
-        .arg(number_option(
-            global,
-            "ranks",
-            "N",
-            "How many ranks race, 1 to 64",
-            value_parser!(u16).range(1..=64),
-        )
-        .required(true))?
-        .arg(number_option(
-            global,
-            "rounds",
-            "K",
-            "How often they agree, 1 to 1000",
-            value_parser!(u16).range(1..=1000),
-        )
-        .required(true))?
-        .arg(number_option(
-            global,
-            "fail",
-            "R",
-            "The rank that is declared failed, below N",
-            value_parser!(u16).range(0..=63),
-        ))
+        .arg(ranks_option(global))?
+        .arg(rounds_option(global))?
+        .arg(fail_option(global))
 }
 
 /// `ulfm run`.
@@ -140,6 +160,36 @@ fn draw_command<'a>(global: Global) -> Result<Command<'a>, AllocError>
         ))
 }
 
+/// How many states there may be.
+fn most_option<'a>(global: Global) -> Arg<'a>
+    ensures rule { rule_of result ≡ most_rule }
+    ensures local { result.global ≡ false }
+{
+    let parser = value_parser!(u32).range(1..=1_000_000_000);
+    number_option(
+        global,
+        "most",
+        "STATES",
+        "How many states there may be at most, 5000000 if it isn't said",
+        parser,
+    )
+}
+
+/// Which outcome's script is wanted.
+fn outcome_option<'a>(global: Global) -> Arg<'a>
+    ensures rule { rule_of result ≡ outcome_rule }
+    ensures local { result.global ≡ false }
+{
+    let parser = value_parser!(u32).range(1..=1_000_000_000);
+    number_option(
+        global,
+        "outcome",
+        "N",
+        "Prints the script of outcome N alone",
+        parser,
+    )
+}
+
 /// `ulfm explore`.
 fn explore_command<'a>(global: Global) -> Result<Command<'a>, AllocError>
     ensures { IfOk result (IsCommand explore) }
@@ -149,20 +199,8 @@ fn explore_command<'a>(global: Global) -> Result<Command<'a>, AllocError>
             "Tries every schedule and every failure of the program on standard input, and prints its outcomes",
         )
         .after_help(EXPLORE_HELP)
-        .arg(number_option(
-            global,
-            "most",
-            "STATES",
-            "How many states there may be at most, 5000000 if it isn't said",
-            value_parser!(u32).range(1..=1_000_000_000),
-        ))?
-        .arg(number_option(
-            global,
-            "outcome",
-            "N",
-            "Prints the script of outcome N alone",
-            value_parser!(u32).range(1..=1_000_000_000),
-        ))
+        .arg(most_option(global))?
+        .arg(outcome_option(global))
 }
 
 /// `ulfm`, which wants a subcommand, with the one that runs scripts.
