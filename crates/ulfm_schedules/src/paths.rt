@@ -177,7 +177,8 @@ impl<A: Allocator + Copy + Drop> Writing<A> {
             if number != 0 && !goes_along(&self.state, rank) {
                 break;
             }
-            self.step(rank, step_name(self.state.seat(rank).phase));
+            let name = step_name(self.state.seat(rank).phase);
+            self.step(rank, name);
             if engine.step(&mut self.state, rank)? {
                 self.walk = None;
                 return self.add(StepLine::Finished {
