@@ -41,47 +41,21 @@ rounds_rule = record (number_rule (codes "rounds") (vp.Signed (pos 1) (pos 1000)
 abbrev pub fail_rule : Rule
 fail_rule = number_rule (codes "fail") (vp.Signed (pos 0) (pos 63))
 
--- the option that says that a script is one of single steps
-abbrev pub steps_rule : Rule
-steps_rule = flag_rule (codes "steps")
-
--- the option that says that each call is to be printed before its reply
-abbrev pub echo_rule : Rule
-echo_rule = flag_rule (codes "echo")
-
--- the command that runs a script
+-- the command that runs a script: of single steps, or with each call printed before its reply
 abbrev pub run : App
-run = with_rule (with_rule (new_app (codes "run")) steps_rule) echo_rule
+run = with_rule (with_rule (new_app (codes "run")) (flag_rule (codes "steps"))) (flag_rule (codes "echo"))
 
 -- the command that writes a script of the first version as one of the second
 abbrev pub migrate : App
 migrate = new_app (codes "migrate")
 
--- the option that says that the reason is to be explained
-abbrev pub explain_rule : Rule
-explain_rule = flag_rule (codes "explain")
-
--- the options that say that a log of calls and replies is to be judged, and that the trace is wanted which explains it
-abbrev pub observed_rule : Rule
-observed_rule = flag_rule (codes "observed")
-
-abbrev pub witness_rule : Rule
-witness_rule = flag_rule (codes "witness")
-
--- the command that judges a trace, or a log
+-- the command that judges a trace, whose reason may be explained, or a log of calls and replies, whose trace may be wanted
 abbrev pub check : App
-check = with_rule (with_rule (with_rule (new_app (codes "check")) explain_rule) observed_rule) witness_rule
+check = with_rule (with_rule (with_rule (new_app (codes "check")) (flag_rule (codes "explain"))) (flag_rule (codes "observed"))) (flag_rule (codes "witness"))
 
--- the options that say that a picture is wanted in characters, and in ASCII alone
-abbrev pub text_rule : Rule
-text_rule = flag_rule (codes "text")
-
-abbrev pub ascii_rule : Rule
-ascii_rule = flag_rule (codes "ascii")
-
--- the command that draws a trace
+-- the command that draws a trace: in characters, and in ASCII alone
 abbrev pub draw : App
-draw = with_rule (with_rule (new_app (codes "draw")) text_rule) ascii_rule
+draw = with_rule (with_rule (new_app (codes "draw")) (flag_rule (codes "text"))) (flag_rule (codes "ascii"))
 
 -- the options that say how many states there may be, and of which outcome the script is wanted
 abbrev pub most_rule : Rule
@@ -102,36 +76,24 @@ replay = new_app (codes "replay")
 abbrev pub race : App
 race = with_rule (with_rule (with_rule (new_app (codes "race")) ranks_rule) rounds_rule) fail_rule
 
--- the program as a command that has a version and subcommands, of which one must be given: the one that runs scripts
+-- the program as a command that has a version and subcommands, of which one must be given: those that run scripts and migrate them
 abbrev pub runners : App
 runners =
     let named = new_app (codes "ulfm") in
     let top = record named { top = record named.top { has_version = true; subcommand_required = true } } in
-    with_subcommand top run.top
+    with_subcommand (with_subcommand top run.top) migrate.top
 
--- the same with the one that migrates them
-abbrev pub migrators : App
-migrators = with_subcommand runners migrate.top
-
--- the same with the one that judges traces
+-- the same with those that judge traces and draw them
 abbrev pub readers : App
-readers = with_subcommand migrators check.top
+readers = with_subcommand (with_subcommand runners check.top) draw.top
 
--- the same with the one that draws them
-abbrev pub drawers : App
-drawers = with_subcommand readers draw.top
-
--- the same with the one that explores what it reads
+-- the same with those that explore what they read and replay logs
 abbrev pub explorers : App
-explorers = with_subcommand drawers explore.top
-
--- the same with the one that replays logs
-abbrev pub replayers : App
-replayers = with_subcommand explorers replay.top
+explorers = with_subcommand (with_subcommand readers explore.top) replay.top
 
 -- the program as a command, with all its subcommands
 abbrev pub ulfm : App
-ulfm = with_subcommand replayers race.top
+ulfm = with_subcommand explorers race.top
 
 -- the command is this one, and has no global option
 abbrev pub IsCommand : App → Command → Type 0

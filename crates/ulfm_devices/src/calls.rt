@@ -46,6 +46,15 @@ pub const THREE_FLAGS: Row = Row {
     status: 0,
 };
 
+/// Calls by the names of the interface of 2013.
+pub const NAMES_OF_2013: Row = Row {
+    name: "names_of_2013",
+    script: "ulfm 2 3 1 4\nfailure_get_acked 0 0\nfail 2\nfail 1\nack 0 0 1\nfailure_get_acked 0 0\nfailure_ack 0 0\nfailure_get_acked 0 0\nagree 0 0 000000000000000f\npoll 0 0\nfailure_ack 1 0\n",
+    output: "failed none\ndeclared\ndeclared\nacked 1\nfailed 2\nacked 2\nfailed 2 1\nstarted\nagreed 0000000f failed 2 clean\nrefused 1 self-failed\n",
+    errors: "",
+    status: 0,
+};
+
 /// What scripts of calls print, and the faults that end them.
 pub const ROWS: [Row; 27] = [
     Row {
@@ -168,13 +177,7 @@ pub const ROWS: [Row; 27] = [
         errors: "",
         status: 0,
     },
-    Row {
-        name: "names_of_2013",
-        script: "ulfm 2 3 1 4\nfailure_get_acked 0 0\nfail 2\nfail 1\nack 0 0 1\nfailure_get_acked 0 0\nfailure_ack 0 0\nfailure_get_acked 0 0\nagree 0 0 000000000000000f\npoll 0 0\nfailure_ack 1 0\n",
-        output: "failed none\ndeclared\ndeclared\nacked 1\nfailed 2\nacked 2\nfailed 2 1\nstarted\nagreed 0000000f failed 2 clean\nrefused 1 self-failed\n",
-        errors: "",
-        status: 0,
-    },
+    NAMES_OF_2013,
     Row {
         name: "short_flag",
         script: "ulfm 2 3 1 4\nagree 0 0 0000000f\n",

@@ -3,6 +3,8 @@
 #![tactic(auto)]
 
 pub mod calls;
+pub mod faults;
+pub mod memory;
 pub mod reader;
 pub mod row;
 pub mod steps;

@@ -3,12 +3,4 @@
 #![tactic(auto)]
 
 #[cfg(test)]
-mod devices;
-#[cfg(test)]
-mod faults;
-#[cfg(test)]
-mod filtered;
-#[cfg(test)]
-mod forged;
-#[cfg(test)]
-mod rows;
+mod tests;

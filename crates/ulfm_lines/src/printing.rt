@@ -1,7 +1,6 @@
 //! The lines of a trace, printed.
 ghost use Rattle.std.specs.Prelude.{◌≡◌, ◌++◌, ◌∷◌, [], OnOk};
 ghost use Rattle.std.specs.Fmt.{decimal};
-ghost use Rattle.ulfm_script.specs.Digits.{flag_text};
 ghost use Rattle.ulfm_lines.specs.LineTexts.{caller_text, event_text, given_text, line_text, offer_text, place_text, some_event_text, some_reply_text};
 
 use std::alloc::{AllocError, Allocator};
@@ -9,8 +8,10 @@ use ulfm_laws::FlagAnd;
 use ulfm_model::contribution::{Contribution, Offer};
 use ulfm_model::event::{Caller, Event};
 use ulfm_model::{Line, Reply};
-use ulfm_script::printing::flag_digits;
-use ulfm_script::{LastGroup, print_number, print_point, print_reply, print_spelled_call};
+use ulfm_script::{
+    LastGroup, print_behind, print_flag, print_labelled, print_number, print_point, print_reply,
+    print_spelled_call,
+};
 
 /// Appends a line of a trace, without a newline.
 ///
@@ -58,26 +59,6 @@ fn print_replied<A: Allocator>(
     print_point(text, point)?;
     text.push(b' ')?;
     print_some_reply(text, reply, group, last)
-}
-
-/// A number behind its label.
-fn print_labelled<A: Allocator>(
-    text: &mut Vec<u8, A>,
-    label: &[u8],
-    number: u16,
-) -> Result<(), AllocError>
-    ensures { OnOk result (text.new.items ≡ text.old.items ++ (label.now ++ decimal number)) }
-{
-    text.extend_from_slice(label)?;
-    print_number(text, number)
-}
-
-/// A number behind a space.
-fn print_behind<A: Allocator>(text: &mut Vec<u8, A>, number: u16) -> Result<(), AllocError>
-    ensures { OnOk result (text.new.items ≡ text.old.items ++ 32 ∷ decimal number) }
-{
-    text.push(b' ')?;
-    print_number(text, number)
 }
 
 /// A caller behind its label, and a space.
@@ -189,21 +170,10 @@ fn print_given<A: Allocator>(
 fn print_offer<A: Allocator>(text: &mut Vec<u8, A>, offer: Offer<FlagAnd>) -> Result<(), AllocError>
     ensures { OnOk result (text.new.items ≡ text.old.items ++ offer_text offer) }
 {
-    match offer {
-        Offer::Flag(flag) => print_flag(text, b"flag ", flag),
-        Offer::Ctx(mask) => print_flag(text, b"ctx ", FlagAnd { bits: mask.bits }),
-    }
-}
-
-/// A flag behind its label.
-fn print_flag<A: Allocator>(
-    text: &mut Vec<u8, A>,
-    label: &[u8],
-    flag: FlagAnd,
-) -> Result<(), AllocError>
-    ensures { OnOk result (text.new.items ≡ text.old.items ++ (label.now ++ flag_text flag)) }
-{
+    let (label, flag): (&[u8], FlagAnd) = match offer {
+        Offer::Flag(flag) => (b"flag ", flag),
+        Offer::Ctx(mask) => (b"ctx ", FlagAnd { bits: mask.bits }),
+    };
     text.extend_from_slice(label)?;
-    let digits = flag_digits(flag);
-    text.extend_from_slice(digits.text())
+    print_flag(text, flag)
 }

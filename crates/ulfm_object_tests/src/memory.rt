@@ -1,33 +1,17 @@
 //! Memory that is refused: a call that gets none leaves the object as it was.
-use crate::calls::{
-    Line, acknowledgements_script, fail, free, limits, names_of_2013_script, one_rank_script, poll,
-    shrink, shrunk,
-};
+use crate::calls::{call_of, limits, told};
 use linked_list_allocator::LocalHeap;
-use std::alloc::{AllocError, Allocator, Global};
+use std::alloc::{Allocator, Global};
 use std::process::Abort;
 use std::test::Fail;
+use ulfm_devices::calls::{ACKNOWLEDGEMENTS_COUNT, NAMES_OF_2013, ONE_RANK};
+use ulfm_devices::memory::filled;
 use ulfm_laws::flag_and::FlagAnd;
+use ulfm_model::call::Call;
 use ulfm_model::limits::{Limits, OpenFault};
 use ulfm_model::reply::Reply;
 use ulfm_model::{HeldComm, RankRecord};
 use ulfm_object::Object;
-
-/// Fills a heap, block by block, until it has no more than so many bytes of room. The room comes back with what is
-/// answered.
-fn filled<'a>(
-    alloc: Global,
-    heap: &'a LocalHeap,
-    room: usize,
-) -> Result<Vec<Vec<u8, &'a LocalHeap>, Global>, AllocError> {
-    let mut blocks = Vec::new(alloc);
-    for _ in 0..1024usize {
-        if heap.free() > room {
-            blocks.push(Vec::with_capacity(heap, 16)?)?;
-        }
-    }
-    Ok(blocks)
-}
 
 /// Whether two ranks hold the same communicator in the same way.
 fn are_held_alike<A: Allocator, B: Allocator>(one: &HeldComm<A>, other: &HeldComm<B>) -> bool {
@@ -70,43 +54,48 @@ fn expect_alike<'a>(
 }
 
 /// A call, with more room each time until it isn't refused any more; before that it must leave the object as it was. Answers
-/// how many times it was refused.
+/// how many times it was refused, and the reply.
 fn apply_refused<'a>(
     rt: &impl Abort,
     alloc: Global,
     heap: &'a LocalHeap,
     object: &mut Object<FlagAnd, &'a LocalHeap>,
     twin: &mut Object<FlagAnd, Global>,
-    line: &Line,
-) -> Result<usize, Fail> {
+    asked: &Call<FlagAnd>,
+) -> Result<(usize, Reply<FlagAnd>), Fail> {
     for count in 0..200usize {
         let blocks = filled(alloc, heap, count * 16)?;
-        let answered = object.apply(&line.0);
+        let answered = object.apply(asked);
         drop(blocks);
         if let Ok(reply) = answered {
-            assert!(rt; reply == line.1, "{:?} is answered {reply:?}", line.0);
-            twin.apply(&line.0)?;
-            return Ok(count);
+            twin.apply(asked)?;
+            return Ok((count, reply));
         }
         expect_alike(rt, object, twin)?;
     }
-    assert!(rt; false, "{:?} is never answered", line.0);
-    Ok(0)
+    Err(Fail::from("a call is never answered"))
 }
 
-/// A script, each call of which is refused its memory until there is enough; one is refused at least.
+/// A script of calls, each of which is refused its memory until there is enough, and then is replied as the output says; one is refused at least.
 fn run_refused(
     rt: &impl Abort,
     alloc: Global,
     limits: Limits,
-    script: &[Line],
+    script: &str,
+    output: &str,
 ) -> Result<(), Fail> {
     let heap = LocalHeap::new(alloc, 1 << 14)?;
     let mut object = Object::open(&heap, limits)?;
     let mut twin = Object::open(alloc, limits)?;
     let mut refused = 0usize;
-    for line in script {
-        let more = apply_refused(rt, alloc, &heap, &mut object, &mut twin, line)?;
+    for (line, wanted) in script.lines().skip(1).zip(output.lines()) {
+        let asked = call_of(line)?;
+        let (more, reply) = apply_refused(rt, alloc, &heap, &mut object, &mut twin, &asked)?;
+        assert_eq!(rt;
+            told(alloc, &twin, &asked, &reply)?.as_slice(),
+            wanted.as_bytes(),
+            "{line}"
+        );
         refused = refused.saturating_add(more);
     }
     assert!(rt; refused > 0, "no call was refused");
@@ -115,20 +104,22 @@ fn run_refused(
 
 #[test]
 fn scripts_are_refused_memory(rt: HostRuntime) -> Result<(), Fail> {
-    run_refused(&rt, rt.alloc(), limits(1, 1, 2), &one_rank_script())?;
-    run_refused(&rt, rt.alloc(), limits(3, 1, 2), &acknowledgements_script())?;
-    run_refused(&rt, rt.alloc(), limits(3, 1, 2), &names_of_2013_script())
+    let rows = [
+        (limits(1, 1, 2), ONE_RANK),
+        (limits(3, 1, 2), ACKNOWLEDGEMENTS_COUNT),
+        (limits(3, 1, 4), NAMES_OF_2013),
+    ];
+    for (limits, row) in rows {
+        run_refused(&rt, rt.alloc(), limits, row.script, row.output)?;
+    }
+    Ok(())
 }
 
 #[test]
 fn shrinks_are_refused_memory(rt: HostRuntime) -> Result<(), Fail> {
-    let script = [
-        (fail(1), Reply::Declared),
-        (shrink(0, 0), Reply::Started),
-        (poll(0, 0), shrunk(1, 1, 1)),
-        (free(0, 1), Reply::Freed),
-    ];
-    run_refused(&rt, rt.alloc(), limits(2, 2, 2), &script)
+    let script = "ulfm 2 2 2 2\nfail 1\nshrink 0 0\npoll 0 0\nfree 0 1\n";
+    let output = "declared\nstarted\nshrunk 1 context 1 members 0\nfreed\n";
+    run_refused(&rt, rt.alloc(), limits(2, 2, 2), script, output)
 }
 
 #[test]

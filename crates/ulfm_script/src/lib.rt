@@ -34,6 +34,7 @@ pub use laws::{prints_the_replies, stops_at_the_first_fault};
 pub use line_kind::LineKind;
 pub use machine::Machine;
 pub use printing::{
-    flag_digits, print_call, print_number, print_point, print_reply, print_spelled_call,
+    flag_digits, print_behind, print_call, print_flag, print_labelled, print_number, print_point,
+    print_reply, print_spelled_call,
 };
 pub use version::Version;

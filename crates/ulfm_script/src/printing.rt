@@ -3,7 +3,7 @@ ghost use Rattle.std.specs.Prelude.{◌≡◌, ◌<◌, ◌+◌, ◌++◌, ◌�
 ghost use Rattle.ulfm_script.specs.Digits.{flag_text, spelled_flag, half_digits, hex_digit, hex_digits, printed_digits, whole_digits};
 ghost use Rattle.std.specs.Fmt.{decimal};
 ghost use Rattle.ulfm_script.specs.Spelling.{call_text, fields_text, on_comm_text, spelled_text, verb_text};
-ghost use Rattle.ulfm_script.specs.Printed.{acked_text, agreed_text, failed_text, ranks_text, refused_text, reply_text, shrunk_text, standing_text};
+ghost use Rattle.ulfm_script.specs.Printed.{acked_text, error_text, failed_text, ranks_text, refused_text, reply_text, shrunk_text, standing_text};
 ghost use Rattle.ulfm_script.specs.Kept.{kept_digits};
 
 use crate::flag_places::FlagDigits;
@@ -33,7 +33,12 @@ pub fn print_reply<A: Allocator>(
             value,
             failed,
             raised,
-        } => print_agreed(text, value, failed, raised),
+        } => {
+            text.extend_from_slice(b"agreed ")?;
+            print_flag(text, value)?;
+            print_labelled(text, b" failed ", failed)?;
+            print_error(text, raised)
+        }
         Reply::Shrunk { comm, context, .. } => print_shrunk(text, comm, context, group, last),
         Reply::FailedGroup { .. } => print_group(text, group, last),
         Reply::Acked { count } => print_acked(text, count),
@@ -114,23 +119,6 @@ fn print_group<A: Allocator>(
     last.put(text, group)
 }
 
-fn print_agreed<A: Allocator>(
-    text: &mut Vec<u8, A>,
-    value: FlagAnd,
-    failed: u16,
-    raised: bool,
-) -> Result<(), AllocError>
-    ensures { OnOk result (text.new.items ≡ text.old.items ++ agreed_text value failed raised) }
-{
-    print_flag(text, b"agreed ", value)?;
-    print_labelled(text, b" failed ", failed)?;
-    if raised {
-        text.extend_from_slice(b" raised")
-    } else {
-        text.extend_from_slice(b" clean")
-    }
-}
-
 fn print_shrunk<A: Allocator>(
     text: &mut Vec<u8, A>,
     comm: u16,
@@ -150,6 +138,18 @@ fn print_acked<A: Allocator>(text: &mut Vec<u8, A>, count: u16) -> Result<(), Al
     ensures { OnOk result (text.new.items ≡ text.old.items ++ acked_text count) }
 {
     print_labelled(text, b"acked ", count)
+}
+
+/// Whether an agree raises an error.
+#[inline(always)]
+fn print_error<A: Allocator>(text: &mut Vec<u8, A>, raised: bool) -> Result<(), AllocError>
+    ensures { OnOk result (text.new.items ≡ text.old.items ++ error_text raised) }
+{
+    if raised {
+        text.extend_from_slice(b" raised")
+    } else {
+        text.extend_from_slice(b" clean")
+    }
 }
 
 /// Whether a communicator is revoked.
@@ -249,21 +249,19 @@ fn print_place<A: Allocator>(text: &mut Vec<u8, A>, rank: u16, comm: u16) -> Res
     print_behind(text, comm)
 }
 
-/// A number behind a space.
+/// Appends a number behind a space. After an error nothing is said of the text.
 #[inline(always)]
-pub(crate) fn print_behind<A: Allocator>(
-    text: &mut Vec<u8, A>,
-    number: u16,
-) -> Result<(), AllocError>
+pub fn print_behind<A: Allocator>(text: &mut Vec<u8, A>, number: u16) -> Result<(), AllocError>
     ensures { OnOk result (text.new.items ≡ text.old.items ++ 32 ∷ decimal number) }
 {
     text.push(b' ')?;
     print_number(text, number)
 }
 
-/// A number behind its label, which is known to each caller: inlined there, it is put as a word of memory or two.
+/// Appends a number behind its label, which is known to each caller: inlined there, it is put as a word of memory or two. After an error
+/// nothing is said of the text.
 #[inline(always)]
-pub(crate) fn print_labelled<A: Allocator>(
+pub fn print_labelled<A: Allocator>(
     text: &mut Vec<u8, A>,
     label: &[u8],
     number: u16,
@@ -274,16 +272,11 @@ pub(crate) fn print_labelled<A: Allocator>(
     print_number(text, number)
 }
 
-/// A flag behind its label.
+/// Appends the digits of a flag. After an error nothing is said of the text.
 #[inline(always)]
-fn print_flag<A: Allocator>(
-    text: &mut Vec<u8, A>,
-    label: &[u8],
-    flag: FlagAnd,
-) -> Result<(), AllocError>
-    ensures { OnOk result (text.new.items ≡ text.old.items ++ (label.now ++ flag_text flag)) }
+pub fn print_flag<A: Allocator>(text: &mut Vec<u8, A>, flag: FlagAnd) -> Result<(), AllocError>
+    ensures { OnOk result (text.new.items ≡ text.old.items ++ flag_text flag) }
 {
-    text.extend_from_slice(label)?;
     let digits = flag_digits(flag);
     text.extend_from_slice(digits.text())
 }

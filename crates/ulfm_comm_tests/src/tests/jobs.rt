@@ -4,6 +4,7 @@ use linked_list_allocator::LocalHeap;
 use std::alloc::{AllocError, Allocator, Global};
 use std::process::Abort;
 use std::test::Fail;
+use ulfm_devices::memory::filled;
 use ulfm_intruder::Intruder;
 use ulfm_laws::flag_and::FlagAnd;
 use ulfm_model::call::Call;
@@ -139,23 +140,6 @@ fn one_spawn(rt: HostRuntime) -> Result<(), Fail> {
     // Just before the exchange, and just after it.
     spawn_after(&rt, rt.alloc(), 13, Caller::Rank(2))?;
     spawn_after(&rt, rt.alloc(), 14, Caller::Rank(3))
-}
-
-/// Fills a heap, block by block, until it has no more than so many bytes of room. The room comes back with what is
-/// answered.
-fn filled<'a>(
-    alloc: Global,
-    heap: &'a LocalHeap,
-    room: usize,
-) -> Result<Vec<Vec<u8, &'a LocalHeap>, Global>, AllocError> {
-    let mut blocks = Vec::new(alloc);
-    for _ in 0..1024usize {
-        if heap.free() <= room {
-            break;
-        }
-        blocks.push(Vec::with_capacity(heap, 16)?)?;
-    }
-    Ok(blocks)
 }
 
 /// A job over plain words in a heap.

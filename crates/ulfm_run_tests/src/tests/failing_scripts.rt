@@ -45,10 +45,39 @@ fn write_mixed(script: &mut Vec<u8>, verbs: [&str; 3]) -> io::Result<()> {
     Ok(())
 }
 
+/// A piece of a script.
+#[derive(Clone, Copy)]
+enum Part {
+    /// This rank is declared.
+    Fail(u16),
+    /// Each rank makes this call of a communicator whole.
+    All(&'static str, u16),
+    /// The ranks make these calls of the world's communicator in turns.
+    Mixed([&'static str; 3]),
+}
+
+/// The ranks start an agree in turns.
+const AGREES: Part = Part::Mixed(["agree", "agree", "agree"]);
+
+/// They poll in turns.
+const POLLS: Part = Part::Mixed(["poll", "poll", "poll"]);
+
 /// What each script ends with.
-fn write_ending(script: &mut Vec<u8>) -> io::Result<()> {
-    for verb in ["poll", "agree", "poll", "shrink", "poll"] {
-        write_all(script, verb, 0)?;
+const ENDING: [Part; 5] = [
+    Part::All("poll", 0),
+    Part::All("agree", 0),
+    Part::All("poll", 0),
+    Part::All("shrink", 0),
+    Part::All("poll", 0),
+];
+
+fn write_parts(script: &mut Vec<u8>, parts: &[Part]) -> io::Result<()> {
+    for part in parts {
+        match *part {
+            Part::Fail(rank) => writeln!(script, "fail {rank}")?,
+            Part::All(verb, comm) => write_all(script, verb, comm)?,
+            Part::Mixed(verbs) => write_mixed(script, verbs)?,
+        }
     }
     Ok(())
 }
@@ -77,17 +106,17 @@ fn judge(alloc: Global, trace: &[u8]) -> Result<(), Fail> {
     judged::judge(alloc, text)
 }
 
-/// Declares each rank behind each step of a script, which makes so many.
+/// Declares each rank behind each step of a script of these parts, which makes so many.
 fn declare_everywhere(
     rt: &impl Abort,
     alloc: Global,
-    first: &[u8],
     steps: u32,
+    parts: &[Part],
 ) -> Result<(), Fail> {
     let mut script = Vec::new(alloc);
     writeln!(script, "ulfm-steps 1 3 4 8")?;
-    script.extend_from_slice(first)?;
-    write_ending(&mut script)?;
+    write_parts(&mut script, parts)?;
+    write_parts(&mut script, &ENDING)?;
     let mut reader = script.as_slice();
     let mut plain = Vec::new(alloc);
     assert_eq!(rt; run_steps(alloc, &mut reader, &mut plain), Ok(()));
@@ -107,54 +136,50 @@ fn declare_everywhere(
 
 #[test]
 fn one_by_one(rt: HostRuntime) -> Result<(), Fail> {
-    let mut script = Vec::new(rt.alloc());
-    write_all(&mut script, "agree", 0)?;
-    write_all(&mut script, "poll", 0)?;
-    declare_everywhere(&rt, rt.alloc(), &script, 109)
+    let parts = [Part::All("agree", 0), Part::All("poll", 0)];
+    declare_everywhere(&rt, rt.alloc(), 109, &parts)
 }
 
 #[test]
 fn in_turns(rt: HostRuntime) -> Result<(), Fail> {
-    let mut script = Vec::new(rt.alloc());
-    write_mixed(&mut script, ["agree", "agree", "agree"])?;
-    write_mixed(&mut script, ["poll", "poll", "poll"])?;
-    declare_everywhere(&rt, rt.alloc(), &script, 129)
+    declare_everywhere(&rt, rt.alloc(), 129, &[AGREES, POLLS])
 }
 
 #[test]
 fn acknowledged(rt: HostRuntime) -> Result<(), Fail> {
-    let mut script = Vec::new(rt.alloc());
-    writeln!(script, "fail 2")?;
-    write_all(&mut script, "get", 0)?;
-    write_all(&mut script, "ack", 0)?;
-    write_mixed(&mut script, ["agree", "agree", "agree"])?;
-    write_mixed(&mut script, ["poll", "poll", "poll"])?;
-    declare_everywhere(&rt, rt.alloc(), &script, 101)
+    let parts = [
+        Part::Fail(2),
+        Part::All("get", 0),
+        Part::All("ack", 0),
+        AGREES,
+        POLLS,
+    ];
+    declare_everywhere(&rt, rt.alloc(), 101, &parts)
 }
 
 #[test]
 fn shrunk(rt: HostRuntime) -> Result<(), Fail> {
-    let mut script = Vec::new(rt.alloc());
-    write_mixed(&mut script, ["shrink", "shrink", "shrink"])?;
-    write_mixed(&mut script, ["poll", "poll", "poll"])?;
-    write_all(&mut script, "agree", 1)?;
-    write_all(&mut script, "poll", 1)?;
-    declare_everywhere(&rt, rt.alloc(), &script, 172)
+    let parts = [
+        Part::Mixed(["shrink", "shrink", "shrink"]),
+        POLLS,
+        Part::All("agree", 1),
+        Part::All("poll", 1),
+    ];
+    declare_everywhere(&rt, rt.alloc(), 172, &parts)
 }
 
 #[test]
 fn revoked(rt: HostRuntime) -> Result<(), Fail> {
-    let mut script = Vec::new(rt.alloc());
-    write_mixed(&mut script, ["barrier", "barrier", "barrier"])?;
-    write_mixed(&mut script, ["poll", "revoke", "poll"])?;
-    write_all(&mut script, "isrevoked", 0)?;
-    declare_everywhere(&rt, rt.alloc(), &script, 103)
+    let parts = [
+        Part::Mixed(["barrier", "barrier", "barrier"]),
+        Part::Mixed(["poll", "revoke", "poll"]),
+        Part::All("isrevoked", 0),
+    ];
+    declare_everywhere(&rt, rt.alloc(), 103, &parts)
 }
 
 #[test]
 fn mismatched(rt: HostRuntime) -> Result<(), Fail> {
-    let mut script = Vec::new(rt.alloc());
-    write_mixed(&mut script, ["agree", "shrink", "shrink"])?;
-    write_mixed(&mut script, ["poll", "poll", "poll"])?;
-    declare_everywhere(&rt, rt.alloc(), &script, 129)
+    let parts = [Part::Mixed(["agree", "shrink", "shrink"]), POLLS];
+    declare_everywhere(&rt, rt.alloc(), 129, &parts)
 }

@@ -4,6 +4,7 @@ ghost use Rattle.std.specs.Prelude.{◌<◌};
 use linked_list_allocator::LocalHeap;
 use std::io::{self, Write};
 use std::test::Fail;
+use ulfm_devices::faults::LINE_FAULTS;
 use ulfm_object::run_over_object;
 use ulfm_run::{WordsMachine, run_calls};
 use ulfm_script::{Input, LineKind, RunFault, run_script_through};
@@ -186,7 +187,7 @@ fn refusals_come_in_their_states(rt: HostRuntime) -> Result<(), Fail> {
 /// The worked rows.
 #[test]
 fn worked_rows(rt: HostRuntime) -> Result<(), Fail> {
-    let rows: [(&str, &[u8], &[u8]); 21] = [
+    let rows: [(&str, &[u8], &[u8]); 19] = [
         (
             "acknowledged_by_all",
             b"ulfm 1 3 1 4\nfail 2\nack 0 0 1\nack 1 0 1\nagree 0 0 0000000f\nagree 1 0 0000003c\npoll 0 0\npoll 1 0\n",
@@ -235,72 +236,6 @@ fn worked_rows(rt: HostRuntime) -> Result<(), Fail> {
             b"ulfm 1 2 4 8\nshrink 0 0\nshrink 1 0\npoll 0 0\npoll 1 0\nfree 0 1\nshrink 0 0\nshrink 1 0\npoll 0 0\npoll 1 0\n",
             b"started\nstarted\nshrunk 1 context 1 members 0 1\nshrunk 1 context 1 members 0 1\nfreed\nstarted\nstarted\n\
                 shrunk 2 context 2 members 0 1\nshrunk 2 context 2 members 0 1\n",
-        ),
-        (
-            "contexts_come_back_b",
-            b"ulfm 1 1 40 40\nshrink 0 0\npoll 0 0\nshrink 0 0\npoll 0 0\nshrink 0 0\npoll 0 0\nshrink 0 0\npoll 0 0\nshrink 0 0\n\
-                poll 0 0\nshrink 0 0\npoll 0 0\nshrink 0 0\npoll 0 0\nshrink 0 0\npoll 0 0\nshrink 0 0\npoll 0 0\nshrink 0 0\npoll 0 0\n\
-                shrink 0 0\npoll 0 0\nshrink 0 0\npoll 0 0\nshrink 0 0\npoll 0 0\nshrink 0 0\npoll 0 0\nshrink 0 0\npoll 0 0\n\
-                shrink 0 0\npoll 0 0\nshrink 0 0\npoll 0 0\nshrink 0 0\npoll 0 0\nshrink 0 0\npoll 0 0\nshrink 0 0\npoll 0 0\n\
-                shrink 0 0\npoll 0 0\nshrink 0 0\npoll 0 0\nshrink 0 0\npoll 0 0\nshrink 0 0\npoll 0 0\nshrink 0 0\npoll 0 0\n\
-                shrink 0 0\npoll 0 0\nshrink 0 0\npoll 0 0\nshrink 0 0\npoll 0 0\nshrink 0 0\npoll 0 0\nshrink 0 0\npoll 0 0\n\
-                shrink 0 0\npoll 0 0\nshrink 0 0\npoll 0 0\nfree 0 7\nshrink 0 0\npoll 0 0\n",
-            b"started\nshrunk 1 context 1 members 0\nstarted\nshrunk 2 context 2 members 0\nstarted\nshrunk 3 context 3 members 0\n\
-                started\nshrunk 4 context 4 members 0\nstarted\nshrunk 5 context 5 members 0\nstarted\nshrunk 6 context 6 members 0\n\
-                started\nshrunk 7 context 7 members 0\nstarted\nshrunk 8 context 8 members 0\nstarted\nshrunk 9 context 9 members 0\n\
-                started\nshrunk 10 context 10 members 0\nstarted\nshrunk 11 context 11 members 0\nstarted\n\
-                shrunk 12 context 12 members 0\nstarted\nshrunk 13 context 13 members 0\nstarted\nshrunk 14 context 14 members 0\n\
-                started\nshrunk 15 context 15 members 0\nstarted\nshrunk 16 context 16 members 0\nstarted\n\
-                shrunk 17 context 17 members 0\nstarted\nshrunk 18 context 18 members 0\nstarted\nshrunk 19 context 19 members 0\n\
-                started\nshrunk 20 context 20 members 0\nstarted\nshrunk 21 context 21 members 0\nstarted\n\
-                shrunk 22 context 22 members 0\nstarted\nshrunk 23 context 23 members 0\nstarted\nshrunk 24 context 24 members 0\n\
-                started\nshrunk 25 context 25 members 0\nstarted\nshrunk 26 context 26 members 0\nstarted\n\
-                shrunk 27 context 27 members 0\nstarted\nshrunk 28 context 28 members 0\nstarted\nshrunk 29 context 29 members 0\n\
-                started\nshrunk 30 context 30 members 0\nstarted\nshrunk 31 context 31 members 0\nstarted\n\
-                shrunk 32 context 32 members 0\nfreed\nstarted\nshrunk 33 context 7 members 0\n",
-        ),
-        (
-            "contexts_come_back_c",
-            b"ulfm 1 1 70 70\nshrink 0 0\npoll 0 0\nshrink 0 0\npoll 0 0\nshrink 0 0\npoll 0 0\nshrink 0 0\npoll 0 0\nshrink 0 0\n\
-                poll 0 0\nshrink 0 0\npoll 0 0\nshrink 0 0\npoll 0 0\nshrink 0 0\npoll 0 0\nshrink 0 0\npoll 0 0\nshrink 0 0\n\
-                poll 0 0\nshrink 0 0\npoll 0 0\nshrink 0 0\npoll 0 0\nshrink 0 0\npoll 0 0\nshrink 0 0\npoll 0 0\nshrink 0 0\n\
-                poll 0 0\nshrink 0 0\npoll 0 0\nshrink 0 0\npoll 0 0\nshrink 0 0\npoll 0 0\nshrink 0 0\npoll 0 0\nshrink 0 0\n\
-                poll 0 0\nshrink 0 0\npoll 0 0\nshrink 0 0\npoll 0 0\nshrink 0 0\npoll 0 0\nshrink 0 0\npoll 0 0\nshrink 0 0\n\
-                poll 0 0\nshrink 0 0\npoll 0 0\nshrink 0 0\npoll 0 0\nshrink 0 0\npoll 0 0\nshrink 0 0\npoll 0 0\nshrink 0 0\n\
-                poll 0 0\nshrink 0 0\npoll 0 0\nshrink 0 0\npoll 0 0\nshrink 0 0\npoll 0 0\nshrink 0 0\npoll 0 0\nshrink 0 0\n\
-                poll 0 0\nshrink 0 0\npoll 0 0\nshrink 0 0\npoll 0 0\nshrink 0 0\npoll 0 0\nshrink 0 0\npoll 0 0\nshrink 0 0\n\
-                poll 0 0\nshrink 0 0\npoll 0 0\nshrink 0 0\npoll 0 0\nshrink 0 0\npoll 0 0\nshrink 0 0\npoll 0 0\nshrink 0 0\n\
-                poll 0 0\nshrink 0 0\npoll 0 0\nshrink 0 0\npoll 0 0\nshrink 0 0\npoll 0 0\nshrink 0 0\npoll 0 0\nshrink 0 0\n\
-                poll 0 0\nshrink 0 0\npoll 0 0\nshrink 0 0\npoll 0 0\nshrink 0 0\npoll 0 0\nshrink 0 0\npoll 0 0\nshrink 0 0\n\
-                poll 0 0\nshrink 0 0\npoll 0 0\nshrink 0 0\npoll 0 0\nshrink 0 0\npoll 0 0\nshrink 0 0\npoll 0 0\nshrink 0 0\n\
-                poll 0 0\nshrink 0 0\npoll 0 0\nshrink 0 0\npoll 0 0\nshrink 0 0\npoll 0 0\nshrink 0 0\npoll 0 0\nfree 0 7\n\
-                shrink 0 0\npoll 0 0\n",
-            b"started\nshrunk 1 context 1 members 0\nstarted\nshrunk 2 context 2 members 0\nstarted\n\
-                shrunk 3 context 3 members 0\nstarted\nshrunk 4 context 4 members 0\nstarted\nshrunk 5 context 5 members 0\n\
-                started\nshrunk 6 context 6 members 0\nstarted\nshrunk 7 context 7 members 0\nstarted\n\
-                shrunk 8 context 8 members 0\nstarted\nshrunk 9 context 9 members 0\nstarted\nshrunk 10 context 10 members 0\n\
-                started\nshrunk 11 context 11 members 0\nstarted\nshrunk 12 context 12 members 0\nstarted\n\
-                shrunk 13 context 13 members 0\nstarted\nshrunk 14 context 14 members 0\nstarted\nshrunk 15 context 15 members 0\n\
-                started\nshrunk 16 context 16 members 0\nstarted\nshrunk 17 context 17 members 0\nstarted\n\
-                shrunk 18 context 18 members 0\nstarted\nshrunk 19 context 19 members 0\nstarted\nshrunk 20 context 20 members 0\n\
-                started\nshrunk 21 context 21 members 0\nstarted\nshrunk 22 context 22 members 0\nstarted\n\
-                shrunk 23 context 23 members 0\nstarted\nshrunk 24 context 24 members 0\nstarted\nshrunk 25 context 25 members 0\n\
-                started\nshrunk 26 context 26 members 0\nstarted\nshrunk 27 context 27 members 0\nstarted\n\
-                shrunk 28 context 28 members 0\nstarted\nshrunk 29 context 29 members 0\nstarted\nshrunk 30 context 30 members 0\n\
-                started\nshrunk 31 context 31 members 0\nstarted\nshrunk 32 context 32 members 0\nstarted\n\
-                shrunk 33 context 33 members 0\nstarted\nshrunk 34 context 34 members 0\nstarted\nshrunk 35 context 35 members 0\n\
-                started\nshrunk 36 context 36 members 0\nstarted\nshrunk 37 context 37 members 0\nstarted\n\
-                shrunk 38 context 38 members 0\nstarted\nshrunk 39 context 39 members 0\nstarted\nshrunk 40 context 40 members 0\n\
-                started\nshrunk 41 context 41 members 0\nstarted\nshrunk 42 context 42 members 0\nstarted\n\
-                shrunk 43 context 43 members 0\nstarted\nshrunk 44 context 44 members 0\nstarted\nshrunk 45 context 45 members 0\n\
-                started\nshrunk 46 context 46 members 0\nstarted\nshrunk 47 context 47 members 0\nstarted\n\
-                shrunk 48 context 48 members 0\nstarted\nshrunk 49 context 49 members 0\nstarted\nshrunk 50 context 50 members 0\n\
-                started\nshrunk 51 context 51 members 0\nstarted\nshrunk 52 context 52 members 0\nstarted\n\
-                shrunk 53 context 53 members 0\nstarted\nshrunk 54 context 54 members 0\nstarted\nshrunk 55 context 55 members 0\n\
-                started\nshrunk 56 context 56 members 0\nstarted\nshrunk 57 context 57 members 0\nstarted\n\
-                shrunk 58 context 58 members 0\nstarted\nshrunk 59 context 59 members 0\nstarted\nshrunk 60 context 60 members 0\n\
-                started\nshrunk 61 context 61 members 0\nstarted\nshrunk 62 context 62 members 0\nstarted\n\
-                shrunk 63 context 63 members 0\nstarted\nrefused 8 no-context\nfreed\nstarted\nshrunk 64 context 7 members 0\n",
         ),
         (
             "sixteen_digits",
@@ -366,32 +301,36 @@ fn worked_rows(rt: HostRuntime) -> Result<(), Fail> {
     Ok(())
 }
 
-/// What stands behind the header, and the fault of line 2 that it has.
-const FAULTS: [(&[u8], LineKind); 14] = [
-    (b"\n", LineKind::Verb),
-    (b" fail 0\n", LineKind::Verb),
-    (b"\xff\n", LineKind::Verb),
-    (
-        b"xxxxxxxxxxxxxxxxxxxxxxxxxxxxxxxxxxxxxxxxxxxxxxxxxxxxxxxxxxxxxxxx\n",
-        LineKind::Verb,
-    ),
-    (
-        b"xxxxxxxxxxxxxxxxxxxxxxxxxxxxxxxxxxxxxxxxxxxxxxxxxxxxxxxxxxxxxxxxx\n",
-        LineKind::Long,
-    ),
-    (
-        b"xxxxxxxxxxxxxxxxxxxxxxxxxxxxxxxxxxxxxxxxxxxxxxxxxxxxxxxxxxxxxxxxxxxxxx",
-        LineKind::Cut,
-    ),
-    (b"fail 0 \n", LineKind::Words),
-    (b"fail\n", LineKind::Words),
-    (b"fail 00\n", LineKind::Number),
-    (b"fail 0\r\n", LineKind::Number),
-    (b"ack 0 0 10000\n", LineKind::Number),
-    (b"agree 0 256 0\n", LineKind::Number),
-    (b"agree 0 0 0000000F\n", LineKind::Flag),
-    (b"split 0 0\n", LineKind::Verb),
-];
+/// One rank shrinks so often alone, and gets the next communicator and the next context each time.
+fn write_shrinks(script: &mut Vec<u8>, wanted: &mut Vec<u8>, count: u16) -> io::Result<()> {
+    for made in 1..=count {
+        writeln!(script, "shrink 0 0\npoll 0 0")?;
+        writeln!(wanted, "started\nshrunk {made} context {made} members 0")?;
+    }
+    Ok(())
+}
+
+/// A context that is given back is taken again before the next one, and where none was left.
+#[test]
+fn contexts_come_back_to_one_rank(rt: HostRuntime) -> Result<(), Fail> {
+    let refused = ("shrink 0 0\npoll 0 0\n", "started\nrefused 8 no-context\n");
+    for (room, count, (more, told)) in [(40, 32, ("", "")), (70, 63, refused)] {
+        let mut script = Vec::new(rt.alloc());
+        let mut wanted = Vec::new(rt.alloc());
+        writeln!(script, "ulfm 1 1 {room} {room}")?;
+        write_shrinks(&mut script, &mut wanted, count)?;
+        let next = count + 1;
+        writeln!(script, "{more}free 0 7\nshrink 0 0\npoll 0 0")?;
+        writeln!(
+            wanted,
+            "{told}freed\nstarted\nshrunk {next} context 7 members 0"
+        )?;
+        let (out, end) = run(&rt, &script)?;
+        assert_eq!(rt; out.as_slice(), wanted.as_slice(), "{count}");
+        assert_eq!(rt; end, Ok(()), "{count}");
+    }
+    Ok(())
+}
 
 /// The first fault of a line, and what the lines before it print.
 #[test]
@@ -437,12 +376,17 @@ fn line_faults(rt: HostRuntime) -> Result<(), Fail> {
         assert_eq!(rt; end, ends, "{text}");
         assert_eq!(rt; out.as_slice(), wanted, "{text}");
     }
-    for (text, kind) in FAULTS {
+    for (text, kind) in LINE_FAULTS {
         let mut script = Vec::from_slice(rt.alloc(), b"ulfm 1 3 1 4\n")?;
         script.extend_from_slice(text)?;
         let (out, end) = run(&rt, &script)?;
         let name = std::str::from_utf8(text).unwrap_or("no text");
-        assert_eq!(rt; end, line(2, kind), "{name}");
+        let told = match end {
+            Err(fault) => format!(in rt.alloc(); "{fault}")?,
+            Ok(()) => String::new(rt.alloc()),
+        };
+        let wanted = format!(in rt.alloc(); "line 2: {kind}")?;
+        assert_eq!(rt; told.as_str(), wanted.as_str(), "{name}");
         assert!(rt; out.is_empty(), "{name}");
     }
     Ok(())

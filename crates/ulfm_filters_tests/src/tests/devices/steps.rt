@@ -1,7 +1,7 @@
 //! Scripts of single steps, traces, and a migration, over devices that fail.
-use crate::devices::lines::{given, whole_lines};
-use crate::devices::told::{require, run};
-use crate::devices::writes::{Texts, fail_all_writes};
+use crate::tests::devices::lines::{given, whole_lines};
+use crate::tests::devices::told::{require, run};
+use crate::tests::devices::writes::{Case, fail_all_writes};
 use std::alloc::Global;
 use std::test::Fail;
 use ulfm_devices::calls::MIGRATED;
@@ -67,12 +67,13 @@ fn each_read_fails(rt: HostRuntime) -> Result<(), Fail> {
 
 /// One write after another fails, and what was taken before is a beginning of the output.
 fn fail_writes_of(alloc: Global, filter: Filter, row: &Row) -> Result<(), Fail> {
-    let texts = Texts {
+    let case = Case {
+        filter,
         script: row.script.as_bytes(),
         output: row.output.as_bytes(),
     };
-    fail_all_writes(alloc, filter, texts, FailureMode::ByError)?;
-    fail_all_writes(alloc, filter, texts, FailureMode::ByNothing)
+    fail_all_writes(alloc, case, FailureMode::ByError)?;
+    fail_all_writes(alloc, case, FailureMode::ByNothing)
 }
 
 #[test]

@@ -1,7 +1,7 @@
 //! Scripts of calls over devices that fail.
-use crate::devices::lines::{count_lines, first_lines, given};
-use crate::devices::told::{require, run};
-use crate::devices::writes::{Failure, Texts, fail_all_writes, fail_each_write, fail_write};
+use crate::tests::devices::lines::{count_lines, first_lines, given};
+use crate::tests::devices::told::{require, run};
+use crate::tests::devices::writes::{Case, Failure, fail_all_writes, fail_each_write, fail_write};
 use std::alloc::{AllocError, Global};
 use std::test::Fail;
 use ulfm_devices::calls::{OUTPUT, SCRIPT};
@@ -12,8 +12,9 @@ use ulfm_filters::Filter;
 const BUFFER: u32 = 8192;
 
 /// The script with a reply of each form.
-fn short_texts() -> Texts<'static> {
-    Texts {
+fn short_case() -> Case<'static> {
+    Case {
+        filter: Filter::Calls,
         script: SCRIPT.as_bytes(),
         output: OUTPUT.as_bytes(),
     }
@@ -32,26 +33,26 @@ fn long_texts(alloc: Global) -> Result<(Vec<u8>, Vec<u8>), AllocError> {
 
 /// The read of this number fails, and the output is that of the lines that were given whole before. False where no read has this number:
 /// then the whole output was written.
-fn fail_read(alloc: Global, texts: Texts<'_>, most: usize, failing: u32) -> Result<bool, Fail> {
-    let mut input = Pieces::new(texts.script, most, failing);
+fn fail_read(alloc: Global, case: Case<'_>, most: usize, failing: u32) -> Result<bool, Fail> {
+    let mut input = Pieces::new(case.script, most, failing);
     let mut output = Vec::new(alloc);
     let told = run(alloc, Filter::Calls, &mut input, &mut output);
     let has_failed = input.calls >= failing;
     let is_wanted = if has_failed {
-        let calls = count_lines(given(texts.script, input.text)).saturating_sub(1);
-        output.as_slice() == first_lines(texts.output, calls)
+        let calls = count_lines(given(case.script, input.text)).saturating_sub(1);
+        output.as_slice() == first_lines(case.output, calls)
             && told.is_fault(b"ulfm: read failed\n")
     } else {
-        output.as_slice() == texts.output && told.status == 0
+        output.as_slice() == case.output && told.status == 0
     };
     require(is_wanted)?;
     Ok(has_failed)
 }
 
 /// One read after another fails, from this one on.
-fn fail_reads_from(alloc: Global, texts: Texts<'_>, most: usize, first: u32) -> Result<(), Fail> {
+fn fail_reads_from(alloc: Global, case: Case<'_>, most: usize, first: u32) -> Result<(), Fail> {
     for failing in first..20_000u32 {
-        if !fail_read(alloc, texts, most, failing)? {
+        if !fail_read(alloc, case, most, failing)? {
             return Ok(());
         }
     }
@@ -63,10 +64,11 @@ fn fail_reads_from(alloc: Global, texts: Texts<'_>, most: usize, first: u32) -> 
 fn each_read_fails(rt: HostRuntime) -> Result<(), Fail> {
     let alloc = rt.alloc();
     for most in [1, 7, 10_000] {
-        fail_reads_from(alloc, short_texts(), most, 1)?;
+        fail_reads_from(alloc, short_case(), most, 1)?;
     }
     let (script, output) = long_texts(alloc)?;
-    let long = Texts {
+    let long = Case {
+        filter: Filter::Calls,
         script: &script,
         output: &output,
     };
@@ -75,13 +77,13 @@ fn each_read_fails(rt: HostRuntime) -> Result<(), Fail> {
 }
 
 /// Of a long output the first writes of 7 bytes fail in this way, those about the end of the first buffer, and each of writes that take all.
-fn fail_long_writes(alloc: Global, long: Texts<'_>, how: FailureMode) -> Result<(), Fail> {
+fn fail_long_writes(alloc: Global, long: Case<'_>, how: FailureMode) -> Result<(), Fail> {
     let all = Failure { most: 10_000, how };
-    fail_each_write(alloc, Filter::Calls, long, all)?;
+    fail_each_write(alloc, long, all)?;
     let failure = Failure { most: 7, how };
     let end = BUFFER / 7;
     for failing in [1, 2, end - 1, end, end + 1, end + 2] {
-        require(fail_write(alloc, Filter::Calls, long, failure, failing)?)?;
+        require(fail_write(alloc, long, failure, failing)?)?;
     }
     Ok(())
 }
@@ -89,7 +91,8 @@ fn fail_long_writes(alloc: Global, long: Texts<'_>, how: FailureMode) -> Result<
 #[test]
 fn each_write_fails(rt: HostRuntime) -> Result<(), Fail> {
     let (script, output) = long_texts(rt.alloc())?;
-    let long = Texts {
+    let long = Case {
+        filter: Filter::Calls,
         script: &script,
         output: &output,
     };
@@ -98,7 +101,7 @@ fn each_write_fails(rt: HostRuntime) -> Result<(), Fail> {
         FailureMode::ByInterruption,
         FailureMode::ByNothing,
     ] {
-        fail_all_writes(rt.alloc(), Filter::Calls, short_texts(), how)?;
+        fail_all_writes(rt.alloc(), short_case(), how)?;
         fail_long_writes(rt.alloc(), long, how)?;
     }
     Ok(())

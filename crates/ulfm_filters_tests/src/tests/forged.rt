@@ -1,40 +1,15 @@
 //! Input that nobody meant: lines, headers and traces that are cut, too long or forged.
-use crate::filtered::require_answer;
+use crate::tests::filtered::require_answer;
 use std::alloc::Global;
 use std::test::Fail;
+use ulfm_devices::faults::LINE_FAULTS;
 use ulfm_devices::traces::TRACE_JUDGED_A;
 use ulfm_filters::Filter;
-
-/// What stands behind the header, and the fault of line 2 that it has.
-const FAULTS: [(&[u8], &str); 13] = [
-    (b"\n", "verb"),
-    (b" fail 0\n", "verb"),
-    (b"\xff\n", "verb"),
-    (
-        b"xxxxxxxxxxxxxxxxxxxxxxxxxxxxxxxxxxxxxxxxxxxxxxxxxxxxxxxxxxxxxxxx\n",
-        "verb",
-    ),
-    (
-        b"xxxxxxxxxxxxxxxxxxxxxxxxxxxxxxxxxxxxxxxxxxxxxxxxxxxxxxxxxxxxxxxxx\n",
-        "long",
-    ),
-    (
-        b"xxxxxxxxxxxxxxxxxxxxxxxxxxxxxxxxxxxxxxxxxxxxxxxxxxxxxxxxxxxxxxxxxxxxxx",
-        "cut",
-    ),
-    (b"fail 0 \n", "words"),
-    (b"fail\n", "words"),
-    (b"fail 00\n", "number"),
-    (b"fail 0\r\n", "number"),
-    (b"ack 0 0 10000\n", "number"),
-    (b"agree 0 256 0\n", "number"),
-    (b"agree 0 0 0000000F\n", "flag"),
-];
 
 /// Each line is the second of a script, and has its fault.
 #[test]
 fn forged_lines(rt: HostRuntime) -> Result<(), Fail> {
-    for (line, kind) in FAULTS {
+    for (line, kind) in LINE_FAULTS {
         let mut script = Vec::from_slice(rt.alloc(), b"ulfm 1 3 1 4\n")?;
         script.extend_from_slice(line)?;
         let fault = format!(in rt.alloc(); "ulfm: line 2: {kind}\n")?;
@@ -48,37 +23,34 @@ fn forged_lines(rt: HostRuntime) -> Result<(), Fail> {
     Ok(())
 }
 
-/// Numbers that are well written, of a rank and a communicator that there aren't, are refused.
+/// Scripts of one line or two, with what is printed and told of each: a fault of the header, none where a world of these limits is opened; and
+/// numbers that are well written, of a rank and a communicator that there aren't.
 #[test]
-fn unknown_numbers(rt: HostRuntime) -> Result<(), Fail> {
-    let rows: [(&[u8], &[u8]); 2] = [
-        (b"ulfm 1 3 1 4\nfail 1023\n", b"refused 13 no-such-rank\n"),
+fn forged_scripts(rt: HostRuntime) -> Result<(), Fail> {
+    let rows: [(&[u8], &[u8], &[u8], u8); 10] = [
+        (b"ulfm 1 3 1\n", b"", b"ulfm: line 1: header\n", 1),
+        (b"ulfm 1 03 1 4\n", b"", b"ulfm: line 1: header\n", 1),
+        (b"ulfm 3 3 1 4\n", b"", b"ulfm: line 1: header\n", 1),
+        (b"ulfm 1 0 1 1\n", b"", b"ulfm: line 1: limits\n", 1),
+        (b"ulfm 1 9999 1 1\n", b"", b"ulfm: line 1: limits\n", 1),
+        (b"ulfm 1 2 256 4096\n", b"", b"ulfm: line 1: limits\n", 1),
+        (b"ulfm 1 1 256 4096\n", b"", b"", 0),
+        (b"ulfm 1 1023 1 2048\n", b"", b"", 0),
+        (
+            b"ulfm 1 3 1 4\nfail 1023\n",
+            b"refused 13 no-such-rank\n",
+            b"",
+            0,
+        ),
         (
             b"ulfm 1 3 1 4\nagree 0 3 00000001\n",
             b"refused 2 no-such-comm\n",
+            b"",
+            0,
         ),
     ];
-    for (script, wanted) in rows {
-        require_answer(rt.alloc(), Filter::Calls, script, (wanted, b"", 0))?;
-    }
-    Ok(())
-}
-
-/// Each first line alone, with its fault; none where a world of these limits is opened.
-#[test]
-fn forged_headers(rt: HostRuntime) -> Result<(), Fail> {
-    let rows: [(&[u8], &[u8], u8); 8] = [
-        (b"ulfm 1 3 1\n", b"ulfm: line 1: header\n", 1),
-        (b"ulfm 1 03 1 4\n", b"ulfm: line 1: header\n", 1),
-        (b"ulfm 3 3 1 4\n", b"ulfm: line 1: header\n", 1),
-        (b"ulfm 1 0 1 1\n", b"ulfm: line 1: limits\n", 1),
-        (b"ulfm 1 9999 1 1\n", b"ulfm: line 1: limits\n", 1),
-        (b"ulfm 1 2 256 4096\n", b"ulfm: line 1: limits\n", 1),
-        (b"ulfm 1 1 256 4096\n", b"", 0),
-        (b"ulfm 1 1023 1 2048\n", b"", 0),
-    ];
-    for (header, fault, ends) in rows {
-        require_answer(rt.alloc(), Filter::Calls, header, (b"", fault, ends))?;
+    for (script, output, fault, ends) in rows {
+        require_answer(rt.alloc(), Filter::Calls, script, (output, fault, ends))?;
     }
     Ok(())
 }

@@ -1,5 +1,5 @@
 //! What is told of the faults of lines, and of words that can't be read.
-use crate::filtered::require_answer;
+use crate::tests::filtered::require_answer;
 use std::test::Fail;
 use ulfm_filters::{Filter, Unread, tell_unread};
 

@@ -1,6 +1,6 @@
 //! Memory that is refused: runs in heaps of all sizes that are too small.
-use crate::devices::lines::{count_lines, first_lines};
-use crate::devices::told::require;
+use crate::tests::devices::lines::{count_lines, first_lines};
+use crate::tests::devices::told::require;
 use linked_list_allocator::LocalHeap;
 use std::alloc::Global;
 use std::test::Fail;

@@ -1,5 +1,5 @@
 //! Writers that fail at each call in turn.
-use crate::devices::told::{require, run};
+use crate::tests::devices::told::{require, run};
 use std::alloc::Global;
 use std::test::Fail;
 use ulfm_devices::calls::SCRIPT;
@@ -15,9 +15,11 @@ pub(crate) struct Failure {
     pub(crate) how: FailureMode,
 }
 
-/// What a filter reads, and what it writes where no device fails.
+/// A filter, what it reads, and what it writes where no device fails.
 #[derive(Clone, Copy)]
-pub(crate) struct Texts<'a> {
+pub(crate) struct Case<'a> {
+    /// The filter.
+    pub(crate) filter: Filter,
     /// The input.
     pub(crate) script: &'a [u8],
     /// The whole output.
@@ -28,33 +30,27 @@ pub(crate) struct Texts<'a> {
 /// whole output was taken.
 pub(crate) fn fail_write(
     alloc: Global,
-    filter: Filter,
-    texts: Texts<'_>,
+    case: Case<'_>,
     failure: Failure,
     failing: u32,
 ) -> Result<bool, Fail> {
-    let mut input = texts.script;
+    let mut input = case.script;
     let mut taken = LimitedWriter::new(alloc, failure.most, failing, failure.how);
-    let told = run(alloc, filter, &mut input, &mut taken);
+    let told = run(alloc, case.filter, &mut input, &mut taken);
     let has_failed = taken.calls >= failing;
     let is_wanted = if has_failed {
-        texts.output.starts_with(taken.bytes.as_slice()) && told.is_fault(b"ulfm: write failed\n")
+        case.output.starts_with(taken.bytes.as_slice()) && told.is_fault(b"ulfm: write failed\n")
     } else {
-        taken.bytes.as_slice() == texts.output && told.status < 2
+        taken.bytes.as_slice() == case.output && told.status < 2
     };
     require(is_wanted)?;
     Ok(has_failed)
 }
 
 /// One write after another fails.
-pub(crate) fn fail_each_write(
-    alloc: Global,
-    filter: Filter,
-    texts: Texts<'_>,
-    failure: Failure,
-) -> Result<(), Fail> {
+pub(crate) fn fail_each_write(alloc: Global, case: Case<'_>, failure: Failure) -> Result<(), Fail> {
     for failing in 1..40_000u32 {
-        if !fail_write(alloc, filter, texts, failure, failing)? {
+        if !fail_write(alloc, case, failure, failing)? {
             return Ok(());
         }
     }
@@ -62,14 +58,9 @@ pub(crate) fn fail_each_write(
 }
 
 /// One write after another fails, of writers that take one byte a call, a few, and all.
-pub(crate) fn fail_all_writes(
-    alloc: Global,
-    filter: Filter,
-    texts: Texts<'_>,
-    how: FailureMode,
-) -> Result<(), Fail> {
+pub(crate) fn fail_all_writes(alloc: Global, case: Case<'_>, how: FailureMode) -> Result<(), Fail> {
     for most in [1, 7, 10_000] {
-        fail_each_write(alloc, filter, texts, Failure { most, how })?;
+        fail_each_write(alloc, case, Failure { most, how })?;
     }
     Ok(())
 }
