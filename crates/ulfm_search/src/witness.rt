@@ -434,7 +434,8 @@ impl<'a, A: Allocator + Copy, B: Allocator> Writing<'a, A, B> {
                 let known = place.saturating_sub(self.source.study.lacking(named.comm));
                 let most = greatest(at(&self.writer.known, round as usize), known);
                 put(&mut self.writer.known, round as usize, most);
-                write_mark(writer, named.comm, named.round, small(number(rank)), known)?;
+                self.writer
+                    .write_mark(named.comm, named.round, small(number(rank)), known)?;
             }
         }
         Ok(())
@@ -487,7 +488,7 @@ impl<'a, A: Allocator + Copy, B: Allocator> Writing<'a, A, B> {
             group.extend_from_slice(&line.group)?;
         }
         let size = small(number(group.len()));
-        let reply = Some(reply_of(writer, act, seen, size));
+        let reply = Some(self.writer.reply_of(act, seen, size));
         self.take_ids(act, place);
         let line = Line::Replied { by, point, reply };
         self.writer.steps.push(Step {
