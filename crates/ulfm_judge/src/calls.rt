@@ -184,6 +184,10 @@ pub(crate) fn look<P: Meld, A: Allocator>(
 pub(crate) fn first_of(group: &[u16], count: u16) -> &[u16]
     ensures { result.now ≡ take count group.now }
 {
-    let end = usize::from(count).min(group.len());
-    &group[..end]
+    let count = usize::from(count);
+    if count < group.len() {
+        &group[..count]
+    } else {
+        group
+    }
 }

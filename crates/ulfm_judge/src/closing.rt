@@ -32,40 +32,25 @@ use ulfm_model::refusal::Refusal;
 use ulfm_model::reply::Reply;
 use ulfm_numbers::numbers::Numbers;
 
-/// A call under way, with what a reply to it is judged by: the limits of the world, the tables, the records, and the reply's point.
-#[derive(Drop)]
-struct Judged<'a, P: Meld, A: Allocator> {
-    /// The limits of the world.
-    limits: Limits,
-    /// The tables of all events so far.
-    numbers: &'a Numbers<P, A>,
-    /// What the ranks keep, before this reply.
-    records: &'a [RankRecord<A>],
-    /// The call.
-    call: &'a OpenCall<P, A>,
-    /// On how many events the reply rests: the first so many.
-    point: u64,
-}
-
 /// Whether a rank's call is answered so, at a point.
 fn answers_rank<P: Packed, A: Allocator + Copy + Drop>(
     alloc: A,
-    judged: &Judged<P, A>,
+    limits: Limits,
+    numbers: &Numbers<P, A>,
+    records: &[RankRecord<A>],
+    u: &OpenCall<P, A>,
     rank: u16,
+    point: u64,
     reply: &Reply<P>,
 ) -> Result<bool, AllocError>
-    requires { map (λ own. own.number) judged.now.records.now ≡ first_ranks judged.now.limits.ranks }
-    ensures told { let on = judged.now in
-        AnswersBy on.limits on.numbers.now on.records.now result (λ now. rank_test P.meld P.pack now (under_of on.call.now) on.point reply.now (record_in now rank)) }
-    ensures fits { LeavesRound judged.now.limits judged.now.records.now (Caller.Rank rank) (under_of judged.now.call.now) reply.now result }
+    requires { map (λ own. own.number) records.now ≡ first_ranks limits.ranks }
+    ensures told { AnswersBy limits numbers.now records.now result (λ now. rank_test P.meld P.pack now (under_of u.now) point reply.now (record_in now rank)) }
+    ensures fits { LeavesRound limits records.now (Caller.Rank rank) (under_of u.now) reply.now result }
 {
-    let limits = judged.limits;
-    let numbers = judged.numbers;
-    let u = judged.call;
-    let Some(j) = place_of_rank(limits.ranks, judged.records, rank) else {
+    let Some(j) = place_of_rank(limits.ranks, records, rank) else {
         return Ok(is_refused(reply, Refusal::NoSuchRank));
     };
-    let own = &judged.records[j];
+    let own = &records[j];
     if own.refused {
         return Ok(is_refused(reply, Refusal::SelfFailed));
     }
@@ -78,7 +63,7 @@ fn answers_rank<P: Packed, A: Allocator + Copy + Drop>(
         caller: own,
         look,
         numbers,
-        point: judged.point,
+        point,
         own: &u.own,
     };
     is_answer(alloc, &view, &u.asked, reply)
@@ -87,49 +72,54 @@ fn answers_rank<P: Packed, A: Allocator + Copy + Drop>(
 /// Whether a caller's call is answered so, at a point.
 fn answers_call<P: Packed, A: Allocator + Copy + Drop>(
     alloc: A,
-    judged: &Judged<P, A>,
+    limits: Limits,
+    numbers: &Numbers<P, A>,
+    records: &[RankRecord<A>],
+    u: &OpenCall<P, A>,
     by: Caller,
+    point: u64,
     reply: &Reply<P>,
 ) -> Result<bool, AllocError>
-    requires { map (λ own. own.number) judged.now.records.now ≡ first_ranks judged.now.limits.ranks }
-    ensures told { let on = judged.now in
-        AnswersBy on.limits on.numbers.now on.records.now result (λ now. call_test P.meld P.pack now by (under_of on.call.now) on.point reply.now) }
-    ensures fits { LeavesRound judged.now.limits judged.now.records.now by (under_of judged.now.call.now) reply.now result }
+    requires { map (λ own. own.number) records.now ≡ first_ranks limits.ranks }
+    ensures told { AnswersBy limits numbers.now records.now result (λ now. call_test P.meld P.pack now by (under_of u.now) point reply.now) }
+    ensures fits { LeavesRound limits records.now by (under_of u.now) reply.now result }
 {
     match by {
         Caller::Outside => {
-            let u = judged.call;
             let rank = rank_of(&u.asked);
-            let declared = judged.numbers.is_declared_at(rank, judged.point);
-            Ok(is_fail_reply(judged.limits, declared, &u.own, rank, reply))
+            let declared = numbers.is_declared_at(rank, point);
+            Ok(is_fail_reply(limits, declared, &u.own, rank, reply))
         }
-        Caller::Rank(rank) => answers_rank(alloc, judged, rank, reply),
+        Caller::Rank(rank) => {
+            answers_rank(alloc, limits, numbers, records, u, rank, point, reply)
+        },
     }
 }
 
 /// Whether a reply may come to a call.
 fn may_reply<P: Packed, A: Allocator + Copy + Drop>(
     alloc: A,
-    judged: &Judged<P, A>,
+    limits: Limits,
+    numbers: &Numbers<P, A>,
+    records: &[RankRecord<A>],
+    u: &OpenCall<P, A>,
     by: Caller,
+    point: u64,
     group: &[u16],
     reply: &Reply<P>,
 ) -> Result<bool, AllocError>
-    requires { map (λ own. own.number) judged.now.records.now ≡ first_ranks judged.now.limits.ranks }
-    ensures told { let on = judged.now in let line = Line.Replied by on.point (Some reply.now) in
-        AnswersBy on.limits on.numbers.now on.records.now result (λ now. reply_test P.meld P.pack now group.now line (Some (under_of on.call.now))) }
-    ensures fits { LeavesRound judged.now.limits judged.now.records.now by (under_of judged.now.call.now) reply.now result }
+    requires { map (λ own. own.number) records.now ≡ first_ranks limits.ranks }
+    ensures told { let line = Line.Replied by point (Some reply.now) in
+        AnswersBy limits numbers.now records.now result (λ now. reply_test P.meld P.pack now group.now line (Some (under_of u.now))) }
+    ensures fits { LeavesRound limits records.now by (under_of u.now) reply.now result }
 {
-    let numbers = judged.numbers;
-    let point = judged.point;
-    let u = judged.call;
     if point < u.begun {
         return Ok(false);
     }
     if numbers.count < point {
         return Ok(false);
     }
-    let answers = answers_call(alloc, judged, by, reply)?;
+    let answers = answers_call(alloc, limits, numbers, records, u, by, point, reply)?;
     let lists = lists(numbers, point, comm_of(&u.asked), reply, group);
     Ok(answers && lists)
 }
@@ -260,19 +250,12 @@ pub(crate) fn take_reply<P: Packed, A: Allocator + Copy + Drop>(
     let Some(i) = place_by(calls, by) else {
         return Ok(Some(Why::Call));
     };
-    let call = &calls[i];
+    let u = &calls[i];
     let at = point as u64;
-    let judged = Judged {
-        limits,
-        numbers,
-        records,
-        call,
-        point: at,
-    };
-    if !may_reply(alloc, &judged, by, group, &reply)? {
+    if !may_reply(alloc, limits, numbers, records, u, by, at, group, &reply)? {
         return Ok(Some(Why::Reply));
     }
-    settle_call(alloc, limits, numbers, records, call, by, at, reply)?;
+    settle_call(alloc, limits, numbers, records, u, by, at, reply)?;
     close_call(calls, by);
     Ok(None)
 }

@@ -76,21 +76,30 @@ fn fails<P: Copy>(rank: u16, event: &Event<P>) -> bool
 fn only_fails<P: Copy>(rank: u16, own: &[Event<P>]) -> bool
     ensures { result ≡ only_test (fails_test rank) own.now }
 {
-    only_of(own).is_some_and(|event| fails(rank, &event))
+    match only_of(own) {
+        Some(event) => fails(rank, &event),
+        None => false,
+    }
 }
 
 /// Whether a rank's own events are its arrival in a round.
 fn only_arrives<P: Copy>(comm: u16, round: u16, rank: u16, own: &[Event<P>]) -> bool
     ensures { result ≡ only_test (arrives_test comm round rank) own.now }
 {
-    only_of(own).is_some_and(|event| arrives(comm, round, rank, &event))
+    match only_of(own) {
+        Some(event) => arrives(comm, round, rank, &event),
+        None => false,
+    }
 }
 
 /// Whether a rank's own events are the revocation of a communicator.
 fn only_revokes<P: Copy>(comm: u16, own: &[Event<P>]) -> bool
     ensures { result ≡ only_test (revokes_test comm) own.now }
 {
-    only_of(own).is_some_and(|event| revokes(comm, &event))
+    match only_of(own) {
+        Some(event) => revokes(comm, &event),
+        None => false,
+    }
 }
 
 /// Whether a declaration is answered so, by whether the rank is declared.

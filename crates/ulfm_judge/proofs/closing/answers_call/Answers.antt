@@ -8,14 +8,14 @@ use Rattle.ulfm_judge.proofs.closing.answers_call.Goals as goal
 
 pub returns-in-Outside-clause-told : goal.returns-in-Outside-clause-told
 returns-in-Outside-clause-told g c = λ h tells.
-    let u = under_of c.args.judged.now.call.now in
+    let u = under_of c.args.u.now in
     let r = rank_of u.asked in
-    let seen = seen_at c.args.judged.now.numbers.now c.args.judged.now.point in
-    let declared = c.is_declared_at-declared.ensures ∙ (ap seen.declared c.rank_of-rank.ensures ∙ ap (λ (s : Seen g.row.P.Denot). s.declared r) (seen_same c.args.judged.now.limits.ranks c.args.judged.now.numbers.now h tells c.args.judged.now.point)) in
+    let seen = seen_at c.args.numbers.now c.args.point in
+    let declared = c.is_declared_at-declared.ensures ∙ (ap seen.declared c.rank_of-rank.ensures ∙ ap (λ (s : Seen g.row.P.Denot). s.declared r) (seen_same c.args.limits.ranks c.args.numbers.now h tells c.args.point)) in
     rw c.in-Outside.is
     (c.is_fail_reply.ensures
-    ∙ (ap₂ (λ (own : List (Event g.row.P.Denot)) (n : ℕ). fail_test c.args.judged.now.limits c.is_declared_at-declared.result own n c.args.reply.now) c.deref.ensures.value c.rank_of-rank.ensures
-    ∙ ap (λ b. fail_test c.args.judged.now.limits b u.own r c.args.reply.now) declared))
+    ∙ (ap₂ (λ (own : List (Event g.row.P.Denot)) (n : ℕ). fail_test c.args.limits c.is_declared_at-declared.result own n c.args.reply.now) c.deref.ensures.value c.rank_of-rank.ensures
+    ∙ ap (λ b. fail_test c.args.limits b u.own r c.args.reply.now) declared))
 
 pub returns-in-Rank-clause-told : goal.returns-in-Rank-clause-told
 returns-in-Rank-clause-told g c = λ h tells. rw c.in-Rank.is (c.answers_rank.ensures.told h tells)

@@ -14,62 +14,62 @@ use Rattle.ulfm_judge.proofs.closing.answers_rank.Goals as goal
 use Rattle.ulfm_judge.proofs.closing.answers_rank.Goals.{After-index-records-j}
 
 -- the rank's record is found
-found : (g : _) (c : After-index-records-j g) (h : History g.row.P.Denot) → record_in (traced_of c.args.judged.now.limits h c.args.judged.now.records.now []) c.args.rank ≡ Some (record_of c.args.judged.now.limits c.index-records-j.result)
+found : (g : _) (c : After-index-records-j g) (h : History g.row.P.Denot) → record_in (traced_of c.args.limits h c.args.records.now []) c.args.rank ≡ Some (record_of c.args.limits c.index-records-j.result)
 found g c h =
-    find_place (record_of c.args.judged.now.limits) (λ (x : Record). x.number == c.args.rank) c.args.judged.now.records.now c.in-Some.j c.index-records-j.result (sym c.place_of_rank.ensures.at ∙ c.in-Some.is)
-    ∙ ap (λ (x : RankRecord g.row.A.Denot). Some (record_of c.args.judged.now.limits x)) (sym c.index-records-j.is)
+    find_place (record_of c.args.limits) (λ (x : Record). x.number == c.args.rank) c.args.records.now c.in-Some.j c.index-records-j.result (sym c.place_of_rank.ensures.at ∙ c.in-Some.is)
+    ∙ ap (λ (x : RankRecord g.row.A.Denot). Some (record_of c.args.limits x)) (sym c.index-records-j.is)
 
 -- so the test of its call is that of what its record tells
 tested : (g : _) (c : After-index-records-j g) (h : History g.row.P.Denot)
-    → let now = traced_of c.args.judged.now.limits h c.args.judged.now.records.now [] in let test = rank_test g.P.Meld.meld g.P.Packed.pack now (under_of c.args.judged.now.call.now) c.args.judged.now.point c.args.reply.now in
-    test (record_in now c.args.rank) ≡ test (Some (record_of c.args.judged.now.limits c.index-records-j.result))
-tested g c h = ap (rank_test g.P.Meld.meld g.P.Packed.pack (traced_of c.args.judged.now.limits h c.args.judged.now.records.now []) (under_of c.args.judged.now.call.now) c.args.judged.now.point c.args.reply.now) (found g c h)
+    → let now = traced_of c.args.limits h c.args.records.now [] in let test = rank_test g.P.Meld.meld g.P.Packed.pack now (under_of c.args.u.now) c.args.point c.args.reply.now in
+    test (record_in now c.args.rank) ≡ test (Some (record_of c.args.limits c.index-records-j.result))
+tested g c h = ap (rank_test g.P.Meld.meld g.P.Packed.pack (traced_of c.args.limits h c.args.records.now []) (under_of c.args.u.now) c.args.point c.args.reply.now) (found g c h)
 
 pub returns-in_default-clause-told : goal.returns-in_default-clause-told
 returns-in_default-clause-told g c = λ h tells.
-    let now = traced_of c.args.judged.now.limits h c.args.judged.now.records.now [] in
-    let none = find_no_place (record_of c.args.judged.now.limits) (λ (x : Record). x.number == c.args.rank) c.args.judged.now.records.now (sym c.place_of_rank.ensures.at ∙ c.in_default.is) in
-    c.is_refused.ensures ∙ sym (ap (rank_test g.P.Meld.meld g.P.Packed.pack now (under_of c.args.judged.now.call.now) c.args.judged.now.point c.args.reply.now) none)
+    let now = traced_of c.args.limits h c.args.records.now [] in
+    let none = find_no_place (record_of c.args.limits) (λ (x : Record). x.number == c.args.rank) c.args.records.now (sym c.place_of_rank.ensures.at ∙ c.in_default.is) in
+    c.is_refused.ensures ∙ sym (ap (rank_test g.P.Meld.meld g.P.Packed.pack now (under_of c.args.u.now) c.args.point c.args.reply.now) none)
 
 pub returns-then-own-clause-told : goal.returns-then-own-clause-told
 returns-then-own-clause-told g c = λ h tells.
-    let now = traced_of c.args.judged.now.limits h c.args.judged.now.records.now [] in
-    let u = under_of c.args.judged.now.call.now in
-    let old = record_of c.args.judged.now.limits c.index-records-j.result in
+    let now = traced_of c.args.limits h c.args.records.now [] in
+    let u = under_of c.args.u.now in
+    let old = record_of c.args.limits c.index-records-j.result in
     let own = tested g (goal.at.returns-then-own-clause-told g c).After-index-records-j h in
-    let other = is_some u.look && looked_test g.P.Meld.meld g.P.Packed.pack (call_of c.args.judged.now.limits (view_at now u c.args.judged.now.point) old) u.asked c.args.reply.now in
+    let other = is_some u.look && looked_test g.P.Meld.meld g.P.Packed.pack (call_of c.args.limits (view_at now u c.args.point) old) u.asked c.args.reply.now in
     c.is_refused-then-own.ensures ∙ sym (own ∙ ap (λ (b : Bool). if b then refused_test Refusal.SelfFailed c.args.reply.now else other) c.if-own.true)
 
 pub returns-in_default-look-clause-told : goal.returns-in_default-look-clause-told
 returns-in_default-look-clause-told g c = λ h tells.
-    let now = traced_of c.args.judged.now.limits h c.args.judged.now.records.now [] in
-    let u = under_of c.args.judged.now.call.now in
-    let old = record_of c.args.judged.now.limits c.index-records-j.result in
+    let now = traced_of c.args.limits h c.args.records.now [] in
+    let u = under_of c.args.u.now in
+    let old = record_of c.args.limits c.index-records-j.result in
     let own = tested g (goal.at.returns-in_default-look-clause-told g c).After-index-records-j h in
-    let told = call_of c.args.judged.now.limits (view_at now u c.args.judged.now.point) old in
+    let told = call_of c.args.limits (view_at now u c.args.point) old in
     let looked = λ (l : Option ℕ). is_some l && looked_test g.P.Meld.meld g.P.Packed.pack (record told { look = take (unwrap_or l 0) (failures h) }) u.asked c.args.reply.now in
     sym (own ∙ (ap (λ (b : Bool). if b then refused_test Refusal.SelfFailed c.args.reply.now else looked u.look) c.if-own.false ∙ ap looked c.in_default-look.is))
 
 pub returns-clause-told : goal.returns-clause-told
 returns-clause-told g c = λ h tells.
-    let now = traced_of c.args.judged.now.limits h c.args.judged.now.records.now [] in
-    let u = under_of c.args.judged.now.call.now in
-    let old = record_of c.args.judged.now.limits c.index-records-j.result in
+    let now = traced_of c.args.limits h c.args.records.now [] in
+    let u = under_of c.args.u.now in
+    let old = record_of c.args.limits c.index-records-j.result in
     let own = tested g (goal.at.returns-clause-told g c).After-index-records-j h in
-    let told = call_of c.args.judged.now.limits (view_at now u c.args.judged.now.point) old in
+    let told = call_of c.args.limits (view_at now u c.args.point) old in
     let looked = λ (l : Option ℕ). is_some l && looked_test g.P.Meld.meld g.P.Packed.pack (record told { look = take (unwrap_or l 0) (failures h) }) u.asked c.args.reply.now in
     let is = own ∙ (ap (λ (b : Bool). if b then refused_test Refusal.SelfFailed c.args.reply.now else looked u.look) c.if-own.false ∙ ap looked c.in-Some-look.is) in
     let look = c.first_of-look.ensures ∙ ap (take c.in-Some-look.count) (c.deref.ensures.value ∙ tells.failures.0) in
     let asked = λ (call : CallAt g.row.P.Denot). looked_test g.P.Meld.meld g.P.Packed.pack call u.asked c.args.reply.now in
     let same =
-    ap₂ (λ (xs : List ℕ) (s : Seen g.row.P.Denot). asked (record told { look = xs; seen = s; own = c.deref-2.result.now })) look (seen_same c.args.judged.now.limits.ranks c.args.judged.now.numbers.now h tells c.args.judged.now.point)
+    ap₂ (λ (xs : List ℕ) (s : Seen g.row.P.Denot). asked (record told { look = xs; seen = s; own = c.deref-2.result.now })) look (seen_same c.args.limits.ranks c.args.numbers.now h tells c.args.point)
     ∙ ap (λ (own : List (Event g.row.P.Denot)). asked (record told { look = take c.in-Some-look.count (failures h); own = own })) c.deref-2.ensures.value in
     subst (λ t. IfOk c.is_answer.result (λ b. b ≡ t)) (same ∙ sym is) c.is_answer.ensures
 
 pub returns-in_default-clause-fits : goal.returns-in_default-clause-fits
 returns-in_default-clause-fits g c = λ may is r own x same has.
-    let none = find_no_place (record_of c.args.judged.now.limits) (λ (x : Record). x.number == c.args.rank) c.args.judged.now.records.now (sym c.place_of_rank.ensures.at ∙ c.in_default.is) in
-    absurd (no_record {P = g.row.P.Denot} (traced_of c.args.judged.now.limits [] c.args.judged.now.records.now []) c.args.rank r own none same has)
+    let none = find_no_place (record_of c.args.limits) (λ (x : Record). x.number == c.args.rank) c.args.records.now (sym c.place_of_rank.ensures.at ∙ c.in_default.is) in
+    absurd (no_record {P = g.row.P.Denot} (traced_of c.args.limits [] c.args.records.now []) c.args.rank r own none same has)
 
 pub returns-then-own-clause-fits : goal.returns-then-own-clause-fits
 returns-then-own-clause-fits g c = λ may is r own x same has starts.
@@ -80,8 +80,8 @@ returns-in_default-look-clause-fits g c = λ may is. absurd (cc is)
 
 pub returns-clause-fits : goal.returns-clause-fits
 returns-clause-fits g c = λ may.
-    let u = under_of c.args.judged.now.call.now in
-    let old = record_of c.args.judged.now.limits c.index-records-j.result in
-    let call : CallAt g.row.P.Denot = record { limits = c.args.judged.now.limits; caller = old; look = c.first_of-look.result.now; seen = seen_at c.args.judged.now.numbers.now c.args.judged.now.point; own = c.deref-2.result.now } in
-    on_test c.is_answer.result _ _ (λ is. may_leave (traced_of c.args.judged.now.limits [] c.args.judged.now.records.now []) c.args.rank u c.args.reply.now old (found g (goal.at.returns-clause-fits g c).After-index-records-j [])
+    let u = under_of c.args.u.now in
+    let old = record_of c.args.limits c.index-records-j.result in
+    let call : CallAt g.row.P.Denot = record { limits = c.args.limits; caller = old; look = c.first_of-look.result.now; seen = seen_at c.args.numbers.now c.args.point; own = c.deref-2.result.now } in
+    on_test c.is_answer.result _ _ (λ is. may_leave (traced_of c.args.limits [] c.args.records.now []) c.args.rank u c.args.reply.now old (found g (goal.at.returns-clause-fits g c).After-index-records-j [])
     (started_fits g.P.Meld.meld g.P.Packed.pack call u.asked c.args.reply.now may.in_range.rounds is)) c.is_answer.ensures

@@ -8,13 +8,13 @@ use Rattle.ulfm_judge.proofs.closing.may_reply.Goals as goal
 
 pub returns-then-point-u : goal.returns-then-point-u
 returns-then-point-u g c = record {
-  told = λ h tells. first_fails _ _ (lt-leb c.args.judged.now.call.now.begun c.args.judged.now.point (omega (arith, c.if-point-u.true)));
+  told = λ h tells. first_fails _ _ (lt-leb c.args.u.now.begun c.args.point (omega (arith, c.if-point-u.true)));
   fits = λ may yes. absurd (false≢true yes);
 }
 
 pub returns-then-numbers-point : goal.returns-then-numbers-point
 returns-then-numbers-point g c = record {
-  told = λ h tells. second_fails _ _ _ (lt-leb c.args.judged.now.point (length h) (omega (arith, c.if-numbers-point.true, tells.count)));
+  told = λ h tells. second_fails _ _ _ (lt-leb c.args.point (length h) (omega (arith, c.if-numbers-point.true, tells.count)));
   fits = λ may yes. absurd (false≢true yes);
 }
 
@@ -27,10 +27,10 @@ returns-in_err-answers g c = record {
 pub returns-then-answers : goal.returns-then-answers
 returns-then-answers g c = record {
   told = λ h tells.
-      let since = le-leb c.args.judged.now.call.now.begun c.args.judged.now.point (omega (arith, c.if-point-u.false)) in
-      let by_now = le-leb c.args.judged.now.point (length h) (omega (arith, c.if-numbers-point.false, tells.count)) in
+      let since = le-leb c.args.u.now.begun c.args.point (omega (arith, c.if-point-u.false)) in
+      let by_now = le-leb c.args.point (length h) (omega (arith, c.if-numbers-point.false, tells.count)) in
       let answers = sym (c.in_ok-answers.ensures.told h tells) ∙ c.if-answers.true in
-      let seen = seen_same c.args.judged.now.limits.ranks c.args.judged.now.numbers.now h tells c.args.judged.now.point in
+      let seen = seen_same c.args.limits.ranks c.args.numbers.now h tells c.args.point in
       let lists =
       c.lists-lists.ensures
       ∙ ap₂ (λ (s : Seen g.row.P.Denot) (n : ℕ). same_ranks c.args.group.now (listed_in s n c.args.reply.now)) seen c.comm_of.ensures in
