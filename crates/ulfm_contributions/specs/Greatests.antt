@@ -1,10 +1,9 @@
 -- Numbers, of which the greatest is agreed on.
 use Rattle.std.specs.Prelude.{◌≡◌, ℕ, ◌<◌, ◌^◌, ◌%◌, max, Option, Some}
-use Rattle.std.specs.Coded.{le_prop}
 use Rattle.std.proofs.Common.{ap, le_refl, lit<, mod-eq_of_lt, mod-lt, zero-le}
 use Rattle.std.proofs.Math.Nat.{max_comm, max-eq_left, max-eq_right}
 use Rattle.ulfm_laws.specs.Lawful.{IsLawful, lawful_by_number}
-use Rattle.ulfm_laws.specs.Ranges.{payload_bits, same_by_number}
+use Rattle.ulfm_laws.specs.Ranges.{payload_bits, same_word}
 use Rattle.ulfm_laws.specs.Counts.{max_assoc, max_keeps}
 use Rattle.ulfm_contributions.specs.declared.greatest.Greatest.{Greatest}
 
@@ -18,8 +17,7 @@ greatest_meld x y = record { value = max x.value y.value; fits = max_keeps (λ n
 
 -- values with the same value are the same
 pub same_greatest : (x y : Greatest) → x.value ≡ y.value → x ≡ y
-same_greatest x y =
-    same_by_number (record { Fits = λ n. n < 2 ^ payload_bits; one_way = λ n. le_prop; value = λ n fits. record { value = n; fits = fits } }) x.fits y.fits
+same_greatest x y = same_word (λ n fits. record { value = n; fits = fits }) x.fits y.fits
 
 pub greatest_lawful : IsLawful greatest_unit greatest_meld
 greatest_lawful =

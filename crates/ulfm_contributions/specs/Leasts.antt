@@ -1,10 +1,9 @@
 -- Numbers, of which the least is agreed on.
-use Rattle.std.specs.Prelude.{◌≡◌, ℕ, ◌<◌, ◌^◌, ◌%◌, min, Option, Some}
-use Rattle.std.specs.Coded.{le_prop}
+use Rattle.std.specs.Prelude.{◌≡◌, ℕ, ◌^◌, ◌%◌, min, Option, Some}
 use Rattle.std.proofs.Common.{ap, le_refl, lit<, lt_of_le_of_lt, mod-eq_of_lt, mod-lt}
 use Rattle.std.proofs.Math.Nat.{le-pred_of_lt, min-le_left, min_comm, min-eq_left, min-eq_right}
 use Rattle.ulfm_laws.specs.Lawful.{IsLawful, lawful_by_number}
-use Rattle.ulfm_laws.specs.Ranges.{all_ones, payload_bits, same_by_number}
+use Rattle.ulfm_laws.specs.Ranges.{all_ones, payload_bits, same_word}
 use Rattle.ulfm_laws.specs.Counts.{min_assoc}
 use Rattle.ulfm_contributions.specs.declared.least.Least.{Least}
 
@@ -18,8 +17,7 @@ least_meld x y = record { value = min x.value y.value; fits = lt_of_le_of_lt (mi
 
 -- values with the same value are the same
 pub same_least : (x y : Least) → x.value ≡ y.value → x ≡ y
-same_least x y =
-    same_by_number (record { Fits = λ n. n < 2 ^ payload_bits; one_way = λ n. le_prop; value = λ n fits. record { value = n; fits = fits } }) x.fits y.fits
+same_least x y = same_word (λ n fits. record { value = n; fits = fits }) x.fits y.fits
 
 pub least_lawful : IsLawful least_unit least_meld
 least_lawful =

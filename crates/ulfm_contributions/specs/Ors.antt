@@ -1,13 +1,12 @@
 -- Flags, combined by OR.
-use Rattle.std.specs.Prelude.{◌≡◌, ℕ, ◌<◌, ◌^◌, ◌%◌, bit_or, max, Option, Some}
-use Rattle.std.specs.Coded.{le_prop}
+use Rattle.std.specs.Prelude.{◌≡◌, ℕ, ◌^◌, ◌%◌, bit_or, max, Option, Some}
 use Rattle.std.specs.Int.{bit_at}
 use Rattle.std.specs.Int.Bits.{or_self}
 use Rattle.std.proofs.Common.{◌∙◌, ap, refl, sym, lit<, mod-eq_of_lt, mod-lt}
 use Rattle.std.proofs.lemmas.Nat.{or_comm, or_lt}
 use Rattle.std.proofs.lemmas.Nat.Bits.{bit_at_or, same_from_bits}
 use Rattle.ulfm_laws.specs.Lawful.{IsLawful, lawful_by_number}
-use Rattle.ulfm_laws.specs.Ranges.{payload_bits, same_by_number}
+use Rattle.ulfm_laws.specs.Ranges.{payload_bits, same_word}
 use Rattle.ulfm_laws.specs.Counts.{max_assoc}
 use Rattle.ulfm_contributions.specs.declared.flag_or.FlagOr.{FlagOr}
 
@@ -21,8 +20,7 @@ or_meld x y = record { bits = bit_or x.bits y.bits; fits = or_lt payload_bits x.
 
 -- values with the same bits are the same
 pub same_or : (x y : FlagOr) → x.bits ≡ y.bits → x ≡ y
-same_or x y =
-    same_by_number (record { Fits = λ n. n < 2 ^ payload_bits; one_way = λ n. le_prop; value = λ n fits. record { bits = n; fits = fits } }) x.fits y.fits
+same_or x y = same_word (λ n fits. record { bits = n; fits = fits }) x.fits y.fits
 
 -- the bits that one of three has, in either grouping
 or_assoc : (a b c : ℕ) → bit_or (bit_or a b) c ≡ bit_or a (bit_or b c)

@@ -93,16 +93,10 @@ impl<A: Allocator + Copy> Ready<A> {
         self.high.take()
     }
 
-    /// Each of these, between two places of a list, has one fewer to be taken before it.
-    pub(crate) fn free(
-        &mut self,
-        class: &[u32],
-        list: &[u32],
-        start: usize,
-        end: usize,
-    ) -> Result<(), AllocError> {
-        for i in start..end {
-            let node = at(list, i);
+    /// Each of these has one fewer to be taken before it.
+    pub(crate) fn free(&mut self, class: &[u32], nodes: &[u32]) -> Result<(), AllocError> {
+        for node in nodes {
+            let node = *node;
             let left = at(&self.left, node as usize).wrapping_sub(1);
             put(&mut self.left, node as usize, left);
             if left == 0 {

@@ -1,11 +1,10 @@
 -- Flags, combined by AND.
-use Rattle.std.specs.Prelude.{◌≡◌, ℕ, ◌<◌, ◌^◌, ◌%◌, bit_and, Option, Some}
-use Rattle.std.specs.Coded.{le_prop}
+use Rattle.std.specs.Prelude.{◌≡◌, ℕ, ◌^◌, ◌%◌, bit_and, Option, Some}
 use Rattle.std.specs.Int.Bits.{and_self}
 use Rattle.std.proofs.Common.{ap, lit<, lt_of_le_of_lt, mod-eq_of_lt, mod-lt}
 use Rattle.std.proofs.lemmas.Nat.{and_le_l, and_comm, and_assoc}
 use Rattle.ulfm_laws.specs.Lawful.{IsLawful, lawful_by_number}
-use Rattle.ulfm_laws.specs.Ranges.{all_ones, ones-and, payload_bits, same_by_number}
+use Rattle.ulfm_laws.specs.Ranges.{all_ones, ones-and, payload_bits, same_word}
 use Rattle.ulfm_laws.specs.declared.flag_and.FlagAnd.{FlagAnd}
 
 -- every bit
@@ -18,8 +17,7 @@ flag_meld x y = record { bits = bit_and x.bits y.bits; fits = lt_of_le_of_lt (an
 
 -- flags with the same bits are the same
 pub same_flag : (x y : FlagAnd) → x.bits ≡ y.bits → x ≡ y
-same_flag x y =
-    same_by_number (record { Fits = λ n. n < 2 ^ payload_bits; one_way = λ n. le_prop; value = λ n fits. record { bits = n; fits = fits } }) x.fits y.fits
+same_flag x y = same_word (λ n fits. record { bits = n; fits = fits }) x.fits y.fits
 
 pub flag_lawful : IsLawful flag_unit flag_meld
 flag_lawful =

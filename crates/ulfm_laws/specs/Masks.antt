@@ -1,27 +1,36 @@
--- Sets of context ids, 0 to 63, as the bits of a word, combined by AND.
-use Rattle.std.specs.Prelude.{◌≡◌, ◌<◌, ◌^◌, bit_and}
-use Rattle.std.specs.Coded.{le_prop}
-use Rattle.std.specs.Int.Bits.{and_self}
-use Rattle.std.proofs.Common.{lit<, lt_of_le_of_lt}
-use Rattle.std.proofs.lemmas.Nat.{and_le_l, and_comm, and_assoc}
-use Rattle.ulfm_laws.specs.Lawful.{IsLawful, lawful_by_number}
-use Rattle.ulfm_laws.specs.Ranges.{all_ones, ones-and, payload_bits, same_by_number}
+-- Sets of context ids, 0 to 63, as the bits of a word: they are combined as flags are.
+use Rattle.std.specs.Prelude.{◌≡◌}
+use Rattle.std.proofs.Common.{ap}
+use Rattle.ulfm_laws.specs.Flags.{flag_unit, flag_meld, flag_lawful}
+use Rattle.ulfm_laws.specs.Lawful.{IsLawful}
+use Rattle.ulfm_laws.specs.Ranges.{same_word}
+use Rattle.ulfm_laws.specs.declared.flag_and.FlagAnd.{FlagAnd}
 use Rattle.ulfm_laws.specs.declared.summary.CtxMask.{CtxMask}
+
+-- the flag that has a set's bits
+abbrev flag_of : CtxMask → FlagAnd
+flag_of x = record { bits = x.bits; fits = x.fits }
+
+-- the set that has a flag's bits
+abbrev mask_of : FlagAnd → CtxMask
+mask_of x = record { bits = x.bits; fits = x.fits }
 
 -- every id
 abbrev pub mask_unit : CtxMask
-mask_unit = record { bits = all_ones; fits = lit< tt }
+mask_unit = mask_of flag_unit
 
 -- the ids that are in both
 abbrev pub mask_meld : CtxMask → CtxMask → CtxMask
-mask_meld x y = record { bits = bit_and x.bits y.bits; fits = lt_of_le_of_lt (and_le_l x.bits y.bits) x.fits }
+mask_meld x y = mask_of (flag_meld (flag_of x) (flag_of y))
 
 -- masks with the same bits are the same
 pub same_mask : (x y : CtxMask) → x.bits ≡ y.bits → x ≡ y
-same_mask x y =
-    same_by_number (record { Fits = λ n. n < 2 ^ payload_bits; one_way = λ n. le_prop; value = λ n fits. record { bits = n; fits = fits } }) x.fits y.fits
+same_mask x y = same_word (λ n fits. record { bits = n; fits = fits }) x.fits y.fits
 
 pub mask_lawful : IsLawful mask_unit mask_meld
-mask_lawful =
-    lawful_by_number (λ x. x.bits) same_mask
-    (λ x y z. and_assoc z.bits x.bits y.bits) (λ x y. and_comm x.bits y.bits) (λ x. and_self x.bits) (λ x. ones-and x.bits x.fits)
+mask_lawful = record {
+  associative = λ x y z. ap mask_of (flag_lawful.associative (flag_of x) (flag_of y) (flag_of z));
+  commutative = λ x y. ap mask_of (flag_lawful.commutative (flag_of x) (flag_of y));
+  idempotent = λ x. ap mask_of (flag_lawful.idempotent (flag_of x));
+  unit_left = λ x. ap mask_of (flag_lawful.unit_left (flag_of x));
+}

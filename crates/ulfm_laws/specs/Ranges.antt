@@ -1,5 +1,6 @@
 -- Numbers that keep a range.
 use Rattle.std.specs.Prelude.{◌≡◌, ℕ, ◌<◌, ◌^◌, ◌-◌, Bool, ◌||◌, ◌==◌, nat_le, bit_and}
+use Rattle.std.specs.Coded.{le_prop}
 use Rattle.std.proofs.Common.{ap, subst, ◌∙◌, mod-eq_of_lt}
 use Rattle.std.proofs.lemmas.Nat.{and_comm, and_mask}
 
@@ -22,6 +23,12 @@ same_by_number kind {m} {n} fit fits e =
 -- how many bits a payload has: a flag, or a mask of context ids
 abbrev pub payload_bits : ℕ
 payload_bits = 64
+
+-- a value that is a word's number with the fact that it fits is known by its number
+pub same_word :
+    {P : Type 0} (value : (n : ℕ) → n < 2 ^ payload_bits → P) {m n : ℕ} (fit : m < 2 ^ payload_bits) (fits : n < 2 ^ payload_bits)
+    → m ≡ n → value m fit ≡ value n fits
+same_word value fit fits = same_by_number (record { Fits = λ n. n < 2 ^ payload_bits; one_way = λ n. le_prop; value = value }) fit fits
 
 -- the word with every bit
 abbrev pub all_ones : ℕ
