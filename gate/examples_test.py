@@ -21,6 +21,7 @@ CRATES = ("ulfm_comm", "ulfm_book", "ulfm_wait", "vukrasp", "ulfm_race")
 SOME = {
     "ulfm_draw": {"drawing_draw"},
     "ulfm_laws": {"meld_all_meld_all"},
+    "ulfm_lines": {"trace_line_read_begin", "trace_line_read_happening", "trace_line_read_look"},
     "ulfm_model": {"limits_check", "limits_size", "refusal_name", "refusal_refusal_number"},
     "ulfm_object": {"object_apply", "object_failed", "object_history", "object_members", "object_open", "object_records"},
     "ulfm_run": {"job_open", "job_pass", "job_rank", "job_apply", "running_run_calls", "running_run_steps"},

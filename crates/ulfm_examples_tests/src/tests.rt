@@ -1,6 +1,7 @@
 // The examples, by what they are of.
 
 mod contributions;
+mod lines;
 mod members;
 mod open;
 mod opening;
