@@ -76,24 +76,24 @@ replay = new_app (codes "replay")
 abbrev pub race : App
 race = with_rule (with_rule (with_rule (new_app (codes "race")) ranks_rule) rounds_rule) fail_rule
 
--- the program as a command that has a version and subcommands, of which one must be given: those that run scripts and migrate them
+-- the program as a command that has a version and subcommands, of which one must be given: the one that runs scripts
 abbrev pub runners : App
 runners =
     let named = new_app (codes "ulfm") in
     let top = record named { top = record named.top { has_version = true; subcommand_required = true } } in
-    with_subcommand (with_subcommand top run.top) migrate.top
+    with_subcommand top run.top
 
--- the same with those that judge traces and draw them
+-- the same with those that migrate scripts and judge traces
 abbrev pub readers : App
-readers = with_subcommand (with_subcommand runners check.top) draw.top
+readers = with_subcommand (with_subcommand runners migrate.top) check.top
 
--- the same with those that explore what they read and replay logs
+-- the same with those that draw traces and explore programs
 abbrev pub explorers : App
-explorers = with_subcommand (with_subcommand readers explore.top) replay.top
+explorers = with_subcommand (with_subcommand readers draw.top) explore.top
 
--- the program as a command, with all its subcommands
+-- the program as a command, with all its subcommands: those that replay logs and run races, too
 abbrev pub ulfm : App
-ulfm = with_subcommand explorers race.top
+ulfm = with_subcommand (with_subcommand explorers replay.top) race.top
 
 -- the command is this one, and has no global option
 abbrev pub IsCommand : App → Command → Type 0

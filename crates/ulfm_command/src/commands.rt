@@ -203,7 +203,7 @@ fn explore_command<'a>(global: Global) -> Result<Command<'a>, AllocError>
         .arg(outcome_option(global))
 }
 
-/// `ulfm`, which wants a subcommand, with those that run scripts and migrate them.
+/// `ulfm`, which wants a subcommand, with the one that runs scripts.
 fn running_commands<'a>(global: Global) -> Result<Command<'a>, AllocError>
     ensures { IfOk result (IsCommand runners) }
 {
@@ -213,8 +213,7 @@ fn running_commands<'a>(global: Global) -> Result<Command<'a>, AllocError>
         .after_help(ULFM_HELP)
         .version(VERSION)
         .subcommand_required(true)
-        .subcommand(run_command(global)?)?
-        .subcommand(migrate_command(global)?)
+        .subcommand(run_command(global)?)
 }
 
 /// `ulfm migrate`.
@@ -243,27 +242,29 @@ fn replay_command<'a>(global: Global) -> Result<Command<'a>, AllocError>
     )
 }
 
-/// `ulfm` with those that judge traces and draw them, too.
+/// `ulfm` with those that migrate scripts and judge traces, too.
 fn reading_commands<'a>(global: Global) -> Result<Command<'a>, AllocError>
     ensures { IfOk result (IsCommand readers) }
 {
     running_commands(global)?
-        .subcommand(check_command(global)?)?
-        .subcommand(draw_command(global)?)
+        .subcommand(migrate_command(global)?)?
+        .subcommand(check_command(global)?)
 }
 
-/// `ulfm` with those that explore programs and replay logs, too.
+/// `ulfm` with those that draw traces and explore programs, too.
 fn exploring_commands<'a>(global: Global) -> Result<Command<'a>, AllocError>
     ensures { IfOk result (IsCommand explorers) }
 {
     reading_commands(global)?
-        .subcommand(explore_command(global)?)?
-        .subcommand(replay_command(global)?)
+        .subcommand(draw_command(global)?)?
+        .subcommand(explore_command(global)?)
 }
 
-/// `ulfm`.
+/// `ulfm`, with those that replay logs and run races, too.
 pub(crate) fn ulfm_command<'a>(global: Global) -> Result<Command<'a>, AllocError>
     ensures { IfOk result (IsCommand ulfm) }
 {
-    exploring_commands(global)?.subcommand(race_command(global)?)
+    exploring_commands(global)?
+        .subcommand(replay_command(global)?)?
+        .subcommand(race_command(global)?)
 }
