@@ -16,21 +16,40 @@ pub is_matched : is_simple ulfm ≡ true
 unfolding clap_on_literals
 is_matched = refl
 
--- `ulfm run`, `ulfm run --echo`, `ulfm run --steps`
-run_is_run : (name : List ℕ) → Asks (name ∷ codes "run" ∷ []) (Run Calls) × Asks (name ∷ codes "run" ∷ codes "--echo" ∷ []) (Run Echoed)
-    × Asks (name ∷ codes "run" ∷ codes "--steps" ∷ []) (Run Steps)
+-- `ulfm run`
+run_is_run : (name : List ℕ) → Asks (name ∷ codes "run" ∷ []) (Run Calls)
 unfolding clap_on_literals
-run_is_run name = ((refl, (_, refl, refl)), (refl, (_, refl, refl)), (refl, (_, refl, refl)))
+run_is_run name = (refl, (_, refl, refl))
 
--- `ulfm migrate`, `ulfm replay`
-others_are_alone : (name : List ℕ) → Asks (name ∷ codes "migrate" ∷ []) Migrate × Asks (name ∷ codes "replay" ∷ []) Replay
+-- `ulfm run --echo`
+echo_is_echo : (name : List ℕ) → Asks (name ∷ codes "run" ∷ codes "--echo" ∷ []) (Run Echoed)
 unfolding clap_on_literals
-others_are_alone name = ((refl, (_, refl, tt)), (refl, (_, refl, tt)))
+echo_is_echo name = (refl, (_, refl, refl))
 
--- `ulfm check`, `ulfm check --explain`
-check_is_check : (name : List ℕ) → Asks (name ∷ codes "check" ∷ []) (Check Trace) × Asks (name ∷ codes "check" ∷ codes "--explain" ∷ []) (Check Explained)
+-- `ulfm run --steps`
+steps_are_steps : (name : List ℕ) → Asks (name ∷ codes "run" ∷ codes "--steps" ∷ []) (Run Steps)
 unfolding clap_on_literals
-check_is_check name = ((refl, (_, refl, refl)), (refl, (_, refl, refl)))
+steps_are_steps name = (refl, (_, refl, refl))
+
+-- `ulfm migrate`
+migrate_is_migrate : (name : List ℕ) → Asks (name ∷ codes "migrate" ∷ []) Migrate
+unfolding clap_on_literals
+migrate_is_migrate name = (refl, (_, refl, tt))
+
+-- `ulfm replay`
+replay_is_replay : (name : List ℕ) → Asks (name ∷ codes "replay" ∷ []) Replay
+unfolding clap_on_literals
+replay_is_replay name = (refl, (_, refl, tt))
+
+-- `ulfm check`
+check_is_check : (name : List ℕ) → Asks (name ∷ codes "check" ∷ []) (Check Trace)
+unfolding clap_on_literals
+check_is_check name = (refl, (_, refl, refl))
+
+-- `ulfm check --explain`
+explain_is_explain : (name : List ℕ) → Asks (name ∷ codes "check" ∷ codes "--explain" ∷ []) (Check Explained)
+unfolding clap_on_literals
+explain_is_explain name = (refl, (_, refl, refl))
 
 -- `ulfm check --observed`, `ulfm check --observed --witness`
 observed_is_observed : (name : List ℕ) → Asks (name ∷ codes "check" ∷ codes "--observed" ∷ []) (Check (Log false))

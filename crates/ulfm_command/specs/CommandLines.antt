@@ -41,21 +41,47 @@ rounds_rule = record (number_rule (codes "rounds") (vp.Signed (pos 1) (pos 1000)
 abbrev pub fail_rule : Rule
 fail_rule = number_rule (codes "fail") (vp.Signed (pos 0) (pos 63))
 
--- the command that runs a script: of single steps, or with each call printed before its reply
+-- the option that says that a script is one of single steps
+abbrev pub steps_rule : Rule
+steps_rule = flag_rule (codes "steps")
+
+-- the option that says that each call is to be printed before its reply
+abbrev pub echo_rule : Rule
+echo_rule = flag_rule (codes "echo")
+
+-- the command that runs a script
 abbrev pub run : App
-run = with_rule (with_rule (new_app (codes "run")) (flag_rule (codes "steps"))) (flag_rule (codes "echo"))
+run = with_rule (with_rule (new_app (codes "run")) steps_rule) echo_rule
 
 -- the command that writes a script of the first version as one of the second
 abbrev pub migrate : App
 migrate = new_app (codes "migrate")
 
--- the command that judges a trace, whose reason may be explained, or a log of calls and replies, whose trace may be wanted
-abbrev pub check : App
-check = with_rule (with_rule (with_rule (new_app (codes "check")) (flag_rule (codes "explain"))) (flag_rule (codes "observed"))) (flag_rule (codes "witness"))
+-- the option that says that the reason is to be explained
+abbrev pub explain_rule : Rule
+explain_rule = flag_rule (codes "explain")
 
--- the command that draws a trace: in characters, and in ASCII alone
+-- the options that say that a log of calls and replies is to be judged, and that the trace is wanted which explains it
+abbrev pub observed_rule : Rule
+observed_rule = flag_rule (codes "observed")
+
+abbrev pub witness_rule : Rule
+witness_rule = flag_rule (codes "witness")
+
+-- the command that judges a trace, or a log
+abbrev pub check : App
+check = with_rule (with_rule (with_rule (new_app (codes "check")) explain_rule) observed_rule) witness_rule
+
+-- the options that say that a picture is wanted in characters, and in ASCII alone
+abbrev pub text_rule : Rule
+text_rule = flag_rule (codes "text")
+
+abbrev pub ascii_rule : Rule
+ascii_rule = flag_rule (codes "ascii")
+
+-- the command that draws a trace
 abbrev pub draw : App
-draw = with_rule (with_rule (new_app (codes "draw")) (flag_rule (codes "text"))) (flag_rule (codes "ascii"))
+draw = with_rule (with_rule (new_app (codes "draw")) text_rule) ascii_rule
 
 -- the options that say how many states there may be, and of which outcome the script is wanted
 abbrev pub most_rule : Rule
@@ -83,17 +109,29 @@ runners =
     let top = record named { top = record named.top { has_version = true; subcommand_required = true } } in
     with_subcommand top run.top
 
--- the same with those that migrate scripts and judge traces
+-- the same with the one that migrates them
+abbrev pub migrators : App
+migrators = with_subcommand runners migrate.top
+
+-- the same with the one that judges traces
 abbrev pub readers : App
-readers = with_subcommand (with_subcommand runners migrate.top) check.top
+readers = with_subcommand migrators check.top
 
--- the same with those that draw traces and explore programs
+-- the same with the one that draws them
+abbrev pub drawers : App
+drawers = with_subcommand readers draw.top
+
+-- the same with the one that explores what it reads
 abbrev pub explorers : App
-explorers = with_subcommand (with_subcommand readers draw.top) explore.top
+explorers = with_subcommand drawers explore.top
 
--- the program as a command, with all its subcommands: those that replay logs and run races, too
+-- the same with the one that replays logs
+abbrev pub replayers : App
+replayers = with_subcommand explorers replay.top
+
+-- the program as a command, with all its subcommands
 abbrev pub ulfm : App
-ulfm = with_subcommand (with_subcommand explorers replay.top) race.top
+ulfm = with_subcommand replayers race.top
 
 -- the command is this one, and has no global option
 abbrev pub IsCommand : App → Command → Type 0

@@ -1,7 +1,7 @@
 //! The program's commands and their options, as the command line crate takes them.
 ghost use Rattle.std.specs.Prelude.{◌≡◌, IfOk, false};
 ghost use Rattle.clap.specs.Words.{rule_of};
-ghost use Rattle.ulfm_command.specs.CommandLines.{IsCommand, check, draw, explore, explorers, fail_rule, flag_rule, migrate, most_rule, number_rule, outcome_rule, race, ranks_rule, readers, replay, rounds_rule, run, runners, ulfm};
+ghost use Rattle.ulfm_command.specs.CommandLines.{IsCommand, check, draw, drawers, explore, explorers, fail_rule, flag_rule, migrate, migrators, most_rule, number_rule, outcome_rule, race, ranks_rule, readers, replay, replayers, rounds_rule, run, runners, ulfm};
 
 use crate::texts::{
     CHECK_HELP, DRAW_HELP, EXPLORE_HELP, MIGRATE_HELP, RACE_HELP, REPLAY_HELP, RUN_HELP, ULFM_HELP,
@@ -229,6 +229,34 @@ fn migrate_command<'a>(global: Global) -> Result<Command<'a>, AllocError>
     )
 }
 
+/// `ulfm` with the one that migrates scripts, too.
+fn migrating_commands<'a>(global: Global) -> Result<Command<'a>, AllocError>
+    ensures { IfOk result (IsCommand migrators) }
+{
+    running_commands(global)?.subcommand(migrate_command(global)?)
+}
+
+/// `ulfm` with the one that judges traces, too.
+fn reading_commands<'a>(global: Global) -> Result<Command<'a>, AllocError>
+    ensures { IfOk result (IsCommand readers) }
+{
+    migrating_commands(global)?.subcommand(check_command(global)?)
+}
+
+/// `ulfm` with the one that draws what it reads, too.
+fn drawing_commands<'a>(global: Global) -> Result<Command<'a>, AllocError>
+    ensures { IfOk result (IsCommand drawers) }
+{
+    reading_commands(global)?.subcommand(draw_command(global)?)
+}
+
+/// `ulfm` with the one that explores what it reads, too.
+fn exploring_commands<'a>(global: Global) -> Result<Command<'a>, AllocError>
+    ensures { IfOk result (IsCommand explorers) }
+{
+    drawing_commands(global)?.subcommand(explore_command(global)?)
+}
+
 /// `ulfm replay`.
 fn replay_command<'a>(global: Global) -> Result<Command<'a>, AllocError>
     ensures { IfOk result (IsCommand replay) }
@@ -242,29 +270,16 @@ fn replay_command<'a>(global: Global) -> Result<Command<'a>, AllocError>
     )
 }
 
-/// `ulfm` with those that migrate scripts and judge traces, too.
-fn reading_commands<'a>(global: Global) -> Result<Command<'a>, AllocError>
-    ensures { IfOk result (IsCommand readers) }
+/// `ulfm` with the one that replays logs, too.
+fn replaying_commands<'a>(global: Global) -> Result<Command<'a>, AllocError>
+    ensures { IfOk result (IsCommand replayers) }
 {
-    running_commands(global)?
-        .subcommand(migrate_command(global)?)?
-        .subcommand(check_command(global)?)
+    exploring_commands(global)?.subcommand(replay_command(global)?)
 }
 
-/// `ulfm` with those that draw traces and explore programs, too.
-fn exploring_commands<'a>(global: Global) -> Result<Command<'a>, AllocError>
-    ensures { IfOk result (IsCommand explorers) }
-{
-    reading_commands(global)?
-        .subcommand(draw_command(global)?)?
-        .subcommand(explore_command(global)?)
-}
-
-/// `ulfm`, with those that replay logs and run races, too.
+/// `ulfm`.
 pub(crate) fn ulfm_command<'a>(global: Global) -> Result<Command<'a>, AllocError>
     ensures { IfOk result (IsCommand ulfm) }
 {
-    exploring_commands(global)?
-        .subcommand(replay_command(global)?)?
-        .subcommand(race_command(global)?)
+    replaying_commands(global)?.subcommand(race_command(global)?)
 }

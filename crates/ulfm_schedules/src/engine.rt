@@ -723,8 +723,9 @@ fn after_marks<A: Allocator + Copy + Drop>(state: &mut State<A>, turn: Turn, sea
     if seat.at < failed.count() {
         return Next::Step;
     }
+    seat.phase = Phase::Slot;
     seat.at = 0;
-    state.stand_at(turn.rank, seat, Phase::Slot);
+    state.put_seat(turn.rank, seat);
     Next::Step
 }
 
@@ -750,7 +751,8 @@ fn after_arrivals<A: Allocator + Copy + Drop>(
     if seat.at < members.count() {
         return Next::Step;
     }
+    seat.phase = Phase::Ending;
     seat.known = 0;
-    state.stand_at(turn.rank, seat, Phase::Ending);
+    state.put_seat(turn.rank, seat);
     Next::Step
 }

@@ -30,17 +30,24 @@ pub(crate) fn after_look<A: Allocator + Copy + Drop>(
         Ask::Ack(count) => acknowledge(state, turn, seat, count),
         Ask::Agree(_) | Ask::Shrink => begin_round(state, turn, seat),
         Ask::Barrier => begin_barrier(state, turn, seat),
-        Ask::Revoke => {
-            state.stand_at(turn.rank, seat, Phase::Revoke);
-            Next::Step
-        }
-        Ask::IsRevoked => {
-            state.stand_at(turn.rank, seat, Phase::Revocation);
-            Next::Step
-        }
+        Ask::Revoke => stand_at(state, turn, seat, Phase::Revoke),
+        Ask::IsRevoked => stand_at(state, turn, seat, Phase::Revocation),
         Ask::Free => free(state, turn),
         Ask::Poll | Ask::Wait => ask_for(state, turn, seat),
     }
+}
+
+/// The call stands before a step of this phase.
+fn stand_at<A: Allocator + Copy + Drop>(
+    state: &mut State<A>,
+    turn: Turn,
+    seat: Seat,
+    phase: Phase,
+) -> Next {
+    let mut seat = seat;
+    seat.phase = phase;
+    state.put_seat(turn.rank, seat);
+    Next::Step
 }
 
 /// The failed group that is known.
@@ -98,8 +105,7 @@ fn begin_round<A: Allocator + Copy + Drop>(state: &mut State<A>, turn: Turn, sea
     if needed >= state.layout.rounds {
         return Next::Answer(refused(Refusal::RoundsUsedUp));
     }
-    state.stand_at(turn.rank, seat, Phase::Spread);
-    Next::Step
+    stand_at(state, turn, seat, Phase::Spread)
 }
 
 /// A barrier goes on to its arrival.
@@ -111,8 +117,7 @@ fn begin_barrier<A: Allocator + Copy + Drop>(state: &mut State<A>, turn: Turn, s
     if held.barriers >= state.layout.rounds {
         return Next::Answer(refused(Refusal::RoundsUsedUp));
     }
-    state.stand_at(turn.rank, seat, Phase::Arrive);
-    Next::Step
+    stand_at(state, turn, seat, Phase::Arrive)
 }
 
 /// A communicator is given back.

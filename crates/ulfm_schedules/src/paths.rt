@@ -94,19 +94,17 @@ pub(crate) struct Taken<A: Allocator> {
     pub(crate) parts: Option<Vec<Part, A>>,
 }
 
-/// A script as far as it is written.
+/// The steps of a script as far as it is written.
 #[derive(Drop)]
 struct Writing<A: Allocator> {
-    /// Where the world stands.
-    state: State<A>,
     lines: Vec<StepLine<FlagAnd>, A>,
     callers: Vec<u8, A>,
     walk: Option<Walk>,
 }
 
 impl<A: Allocator + Copy + Drop> Writing<A> {
-    /// Ends the steps of a rank, if there are any, whose call isn't answered yet.
-    fn break_off(&mut self) -> Result<(), AllocError> {
+    /// Ends the steps of a rank, whose call isn't answered yet, with this step next.
+    fn break_off(&mut self, next: StepName) -> Result<(), AllocError> {
         let Some(walk) = self.walk.take() else {
             return Ok(());
         };
@@ -114,7 +112,6 @@ impl<A: Allocator + Copy + Drop> Writing<A> {
         if walk.count == 0 {
             return Ok(());
         }
-        let next = step_name(self.state.seat(walk.rank).phase);
         let line = if walk.made & name_bit(next) != 0 {
             StepLine::Stepped {
                 rank,
@@ -123,7 +120,8 @@ impl<A: Allocator + Copy + Drop> Writing<A> {
         } else {
             StepLine::Before { rank, name: next }
         };
-        self.add(line)
+        self.lines.push(line)?;
+        Ok(())
     }
 
     /// A rank makes a step of this name.
@@ -148,66 +146,73 @@ impl<A: Allocator + Copy + Drop> Writing<A> {
         self.lines.push(line)?;
         Ok(())
     }
+}
 
-    /// A declaration, by this caller.
-    fn add_failed(&mut self, whom: u8, caller: u8) -> Result<(), AllocError> {
-        let rank = u16::from(whom);
-        self.add(StepLine::Failed { rank })?;
-        self.callers.push(caller)?;
-        Ok(())
+/// Takes a rank's step, with those that go along with it, and writes its lines.
+fn write_step<A: Allocator + Copy + Drop>(
+    engine: &mut Engine<A>,
+    state: &mut State<A>,
+    writing: &mut Writing<A>,
+    rank: u8,
+) -> Result<(), AllocError> {
+    if let Some(whom) = engine.declares(state, rank) {
+        writing.add(StepLine::Failed {
+            rank: u16::from(whom),
+        })?;
+        writing.callers.push(rank)?;
+        engine.step(state, rank)?;
+        return Ok(());
     }
+    if state.seat(rank).phase == Phase::Idle {
+        if let Some(turn) = engine.turn(state, rank) {
+            let call: Call<FlagAnd> = engine.call_of(turn);
+            writing.add(StepLine::Called {
+                call,
+                padded: false,
+            })?;
+        }
+    }
+    for number in 0..MOST_STEPS {
+        if number != 0 && !goes_along(state, rank) {
+            break;
+        }
+        writing.step(rank, step_name(state.seat(rank).phase));
+        if engine.step(state, rank)? {
+            writing.walk = None;
+            return writing.add(StepLine::Finished {
+                rank: u16::from(rank),
+            });
+        }
+    }
+    Ok(())
+}
 
-    /// Takes a rank's step, with those that go along with it, and writes its lines.
-    fn take_step(&mut self, engine: &mut Engine<A>, rank: u8) -> Result<(), AllocError> {
-        if let Some(whom) = engine.declares(&self.state, rank) {
-            self.add_failed(whom, rank)?;
-            engine.step(&mut self.state, rank)?;
-            return Ok(());
-        }
-        if self.state.seat(rank).phase == Phase::Idle {
-            if let Some(turn) = engine.turn(&self.state, rank) {
-                let call: Call<FlagAnd> = engine.call_of(turn);
-                self.add(StepLine::Called {
-                    call,
-                    padded: false,
-                })?;
-            }
-        }
-        for number in 0..MOST_STEPS {
-            if number != 0 && !goes_along(&self.state, rank) {
-                break;
-            }
-            let name = step_name(self.state.seat(rank).phase);
-            self.step(rank, name);
-            if engine.step(&mut self.state, rank)? {
-                self.walk = None;
-                return self.add(StepLine::Finished {
-                    rank: u16::from(rank),
-                });
-            }
-        }
-        Ok(())
+/// Takes an act, and writes its lines; false where it can't come.
+fn write_act<A: Allocator + Copy + Drop>(
+    engine: &mut Engine<A>,
+    state: &mut State<A>,
+    writing: &mut Writing<A>,
+    act: Act,
+) -> Result<bool, AllocError> {
+    if !can_act(engine, state, act) {
+        return Ok(false);
     }
-
-    /// Takes an act, and writes its lines; false where it can't come.
-    fn take(&mut self, engine: &mut Engine<A>, act: Act) -> Result<bool, AllocError> {
-        if !can_act(engine, &self.state, act) {
-            return Ok(false);
+    if let Some(walk) = writing.walk {
+        if act != Act::Step(walk.rank) {
+            writing.break_off(step_name(state.seat(walk.rank).phase))?;
         }
-        if let Some(walk) = self.walk {
-            if act != Act::Step(walk.rank) {
-                self.break_off()?;
-            }
-        }
-        match act {
-            Act::Step(rank) => self.take_step(engine, rank)?,
-            Act::Declare(rank) => {
-                take_act(engine, &mut self.state, act)?;
-                self.add_failed(rank, OUTSIDE)?;
-            }
-        }
-        Ok(true)
     }
+    match act {
+        Act::Step(rank) => write_step(engine, state, writing, rank)?,
+        Act::Declare(rank) => {
+            take_act(engine, state, act)?;
+            writing.add(StepLine::Failed {
+                rank: u16::from(rank),
+            })?;
+            writing.callers.push(OUTSIDE)?;
+        }
+    }
+    Ok(true)
 }
 
 /// Takes acts from the first state on; none where one of them can't come.
@@ -216,21 +221,23 @@ pub(crate) fn take_path<A: Allocator + Copy + Drop>(
     engine: &mut Engine<A>,
     acts: &[Act],
 ) -> Result<Option<Taken<A>>, AllocError> {
+    let mut state = engine.first(alloc)?;
     let mut writing = Writing {
-        state: engine.first(alloc)?,
         lines: Vec::new(alloc),
         callers: Vec::new(alloc),
         walk: None,
     };
     for act in acts {
-        if !writing.take(engine, *act)? {
+        if !write_act(engine, &mut state, &mut writing, *act)? {
             return Ok(None);
         }
     }
-    writing.break_off()?;
+    if let Some(walk) = writing.walk {
+        writing.break_off(step_name(state.seat(walk.rank).phase))?;
+    }
     let mut parts = None;
-    if is_settled(engine, &writing.state) {
-        parts = Some(parts_of(alloc, &writing.state)?);
+    if is_settled(engine, &state) {
+        parts = Some(parts_of(alloc, &state)?);
     }
     Ok(Some(Taken {
         lines: writing.lines,

@@ -71,89 +71,95 @@ fn moved<A: Allocator + Copy>(
     Ok(path)
 }
 
-/// A path that is made shorter, where its outcome stays.
+/// What a path is made shorter for.
 #[derive(Drop)]
-struct Shortening<'a, A: Allocator> {
-    alloc: A,
-    /// The outcome.
-    parts: &'a [Part],
-    /// The shortest path so far.
+struct Best<A: Allocator> {
     acts: Vec<Act, A>,
-    /// What it comes to.
     taken: Taken<A>,
 }
 
-impl<'a, A: Allocator + Copy + Drop> Shortening<'a, A> {
-    /// Whether a path's script is shorter than the best one's: it has fewer lines, or as many and the path has fewer acts.
-    fn is_shorter(&self, lines: usize, acts: usize) -> bool {
-        let most = self.taken.lines.len();
-        lines < most || (lines == most && acts < self.acts.len())
-    }
+/// Whether a path's script is shorter than another's: it has fewer lines, or as many and the path has fewer acts.
+fn is_shorter<A: Allocator>(best: &Best<A>, lines: usize, acts: usize) -> bool {
+    lines < best.taken.lines.len() || (lines == best.taken.lines.len() && acts < best.acts.len())
+}
 
-    /// Takes a path in place of the best one, where it comes to the same outcome and is shorter.
-    fn try_path(&mut self, engine: &mut Engine<A>, acts: Vec<Act, A>) -> Result<bool, AllocError> {
-        let Some(taken) = take_path(self.alloc, engine, &acts)? else {
-            return Ok(false);
-        };
-        let same = match &taken.parts {
-            Some(found) => found.as_slice() == self.parts,
-            None => false,
-        };
-        if !same || !self.is_shorter(taken.lines.len(), acts.len()) {
-            return Ok(false);
-        }
-        self.acts = acts;
-        self.taken = taken;
-        Ok(true)
+/// Takes a path in place of the best one, where it comes to the same outcome and is shorter.
+fn try_path<A: Allocator + Copy + Drop>(
+    alloc: A,
+    engine: &mut Engine<A>,
+    best: &mut Best<A>,
+    acts: Vec<Act, A>,
+    parts: &[Part],
+) -> Result<bool, AllocError> {
+    let Some(taken) = take_path(alloc, engine, &acts)? else {
+        return Ok(false);
+    };
+    let same = match &taken.parts {
+        Some(found) => found.as_slice() == parts,
+        None => false,
+    };
+    if !same || !is_shorter(best, taken.lines.len(), acts.len()) {
+        return Ok(false);
     }
+    *best = Best { acts, taken };
+    Ok(true)
+}
 
-    /// Tries to put a block beside another of the same rank.
-    fn try_beside(
-        &mut self,
-        engine: &mut Engine<A>,
-        block: Block,
-        other: Block,
-    ) -> Result<bool, AllocError> {
-        if other.act != block.act || other.start == block.start {
-            return Ok(false);
-        }
-        let before = moved(self.alloc, &self.acts, block, other.start)?;
-        if self.try_path(engine, before)? {
+/// Tries to put a block beside another of the same rank.
+fn try_beside<A: Allocator + Copy + Drop>(
+    alloc: A,
+    engine: &mut Engine<A>,
+    best: &mut Best<A>,
+    block: Block,
+    other: Block,
+    parts: &[Part],
+) -> Result<bool, AllocError> {
+    if other.act != block.act || other.start == block.start {
+        return Ok(false);
+    }
+    let before = moved(alloc, &best.acts, block, other.start)?;
+    if try_path(alloc, engine, best, before, parts)? {
+        return Ok(true);
+    }
+    let behind = moved(alloc, &best.acts, block, other.end)?;
+    try_path(alloc, engine, best, behind, parts)
+}
+
+/// Tries to leave out a block, or to put it beside another.
+fn try_block<A: Allocator + Copy + Drop>(
+    alloc: A,
+    engine: &mut Engine<A>,
+    best: &mut Best<A>,
+    blocks: &[Block],
+    block: Block,
+    parts: &[Part],
+) -> Result<bool, AllocError> {
+    let rest = without(alloc, &best.acts, block)?;
+    if try_path(alloc, engine, best, rest, parts)? {
+        return Ok(true);
+    }
+    for other in blocks {
+        if try_beside(alloc, engine, best, block, *other, parts)? {
             return Ok(true);
         }
-        let behind = moved(self.alloc, &self.acts, block, other.end)?;
-        self.try_path(engine, behind)
     }
+    Ok(false)
+}
 
-    /// Tries to leave out a block, or to put it beside another.
-    fn try_block(
-        &mut self,
-        engine: &mut Engine<A>,
-        blocks: &[Block],
-        block: Block,
-    ) -> Result<bool, AllocError> {
-        let rest = without(self.alloc, &self.acts, block)?;
-        if self.try_path(engine, rest)? {
+/// Makes the best path shorter once, and says whether it could.
+fn shorten_once<A: Allocator + Copy + Drop>(
+    alloc: A,
+    engine: &mut Engine<A>,
+    best: &mut Best<A>,
+    parts: &[Part],
+) -> Result<bool, AllocError> {
+    let blocks = blocks_of(alloc, &best.acts)?;
+    for block in &blocks {
+        if try_block(alloc, engine, best, &blocks, *block, parts)? {
             return Ok(true);
         }
-        for other in blocks {
-            if self.try_beside(engine, block, *other)? {
-                return Ok(true);
-            }
-        }
-        Ok(false)
     }
-
-    /// Makes the best path shorter once, and says whether it could.
-    fn shorten_once(&mut self, engine: &mut Engine<A>) -> Result<bool, AllocError> {
-        let blocks = blocks_of(self.alloc, &self.acts)?;
-        for block in &blocks {
-            if self.try_block(engine, &blocks, *block)? {
-                return Ok(true);
-            }
-        }
-        Ok(false)
-    }
+    Ok(false)
 }
 
 /// What a path with this outcome comes to once it is made short; none where it doesn't come to the outcome.
@@ -166,14 +172,9 @@ pub(crate) fn shortest<A: Allocator + Copy + Drop>(
     let Some(taken) = take_path(alloc, engine, &acts)? else {
         return Ok(None);
     };
-    let mut best = Shortening {
-        alloc,
-        parts,
-        acts,
-        taken,
-    };
+    let mut best = Best { acts, taken };
     for _ in 0..MOST_TIMES {
-        if !best.shorten_once(engine)? {
+        if !shorten_once(alloc, engine, &mut best, parts)? {
             break;
         }
     }

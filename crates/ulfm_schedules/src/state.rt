@@ -420,13 +420,6 @@ impl<A: Allocator + Copy + Drop> State<A> {
         self.set(at.saturating_add(12), seat.known);
     }
 
-    /// A rank stands so before a step of this phase.
-    pub(crate) fn stand_at(&mut self, rank: u8, seat: Seat, phase: Phase) {
-        let mut seat = seat;
-        seat.phase = phase;
-        self.put_seat(rank, seat);
-    }
-
     /// What a rank holds of a communicator.
     pub(crate) fn held(&self, rank: u8, comm: u8) -> Held {
         let at = self.layout.held(rank, comm);
