@@ -1,5 +1,5 @@
-//! What tests stand on. Devices: a reader that gives its text in pieces, a writer that takes a few bytes at once; each fails at one call. And
-//! worked rows: scripts and traces, and what the program gives for each.
+//! What tests stand on. Devices: a reader that gives its text in pieces, a writer that takes a few bytes at once; each fails at one call. Memory
+//! that is taken away. And worked rows: scripts and traces, and what the program gives for each, and lines that have a fault.
 #![tactic(auto)]
 
 pub mod calls;

@@ -14,7 +14,7 @@ use Rattle.ulfm_lines.proofs.{Calls.{opens_all, opens_append, said_opens}, Joine
 use Rattle.ulfm_lines.specs.{LineTexts.{lines_text}, StepLines.{ScriptStep, step_line_of}, Stepped.{IsOpenCall, TellsStep, TraceState}, Walked.{IsCountOf, IsTaken, TellsSteps, to_the_end}}
 use Rattle.ulfm_lines.specs.declared.step_machine.{Reach.{Reach}, Taken.{Taken}, Taken.TheVariants.{Open as IsOpenStill, Run}}
 use Rattle.ulfm_script.proofs.RunLemmas.{ran_all_as}
-use Rattle.ulfm_run.specs.{FailingScripts.{DeclaresIfDue, EngineState, FailsAfter, FindsOpenBehind, HasFailed, LeavesDue, LeavesOut, LeavesSoFar, Lines, RestsAt, RunsFailing, RunsStep, StandsSoFar, TakesStepLine, TellsWalk, behind_of, failing_scripts, fails_after, fewer, ranks_event, ranks_events, up_to}, StepScripts.{first_line, trace_text}}
+use Rattle.ulfm_run.specs.{FailingScripts.{DeclaresIfDue, EngineState, FailsAfter, FindsOpenBehind, HasFailed, LeavesDue, LeavesOut, LeavesSoFar, Lines, RestsAt, RunsFailing, RunsStep, StandsSoFar, TakesStepLine, TellsWalk, behind_of, failing_scripts, fewer, ranks_event, ranks_events, up_to}, StepScripts.{first_line, trace_text}}
 use Rattle.ulfm_run.specs.declared.plan.Failing.{Failing}
 use Rattle.ulfm_run.proofs.TraceLemmas.{follows_append}
 
@@ -563,6 +563,23 @@ has_opened plan old new limits false same first d = record {
   out_is = d.1 ∙ (first ∙ sym (append-nil (first_line limits)));
 }
 
+-- so much was written of lines that were run
+fails_after : (plan : Failing) (own : EngineState) (limits : Limits) (lines : List ScriptStep) (out : List ℕ) → HasFailed plan own limits lines out
+    → FailsAfter own.plan.at own.plan.rank own.made limits lines out
+fails_after plan own limits lines out h =
+    let s = h.rests.stands in
+    record {
+      trace = h.trace;
+      rest = h.rest;
+      steps = s.steps;
+      legal = s.legal;
+      number_is = s.made_is;
+      left_out = h.rests.left_out;
+      follows = h.follows;
+      counted = s.counted;
+      out_is = h.out_is;
+    }
+
 -- the state before a line, with nothing told of it yet
 abbrev cleared : EngineState → List ℕ → EngineState
 cleared was text = record was { text = text }
@@ -601,6 +618,7 @@ module _ (plan : Failing) (was own : EngineState) (before : RunSoFar failing_scr
   -- a line begins a call of a rank that has one under way
   pub finds_failing : (text : List ℕ) → (RestsAt (cleared was text) before.heading.limits h.trace h.rest → IsOpenCall (said_by (nothing before.heading.limits) h.trace) step × (own.text ≡ text))
       → HasFault failing_scripts before (step_line_of line) Open
+  unfolding fails_after
   finds_failing text finds =
       let is = (finds (rests_cleared text)).0 in
       let lines : List ScriptStep = before.items in

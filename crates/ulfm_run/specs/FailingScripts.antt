@@ -138,21 +138,6 @@ pub record HasFailed (plan : Failing) (now : EngineState) (limits : Limits) (lin
   pub follows : Follows (nothing limits) lines rest
   pub out_is : out ≡ trace_text limits trace
 
--- so much of a trace was written, then, and it fails the rank
-abbrev pub fails_after : (plan : Failing) (own : EngineState) (limits : Limits) (lines : List ScriptStep) (out : List ℕ) → HasFailed plan own limits lines out
-    → FailsAfter own.plan.at own.plan.rank own.made limits lines out
-fails_after plan own limits lines out h = record {
-  trace = h.trace;
-  rest = h.rest;
-  steps = h.rests.stands.steps;
-  legal = h.rests.stands.legal;
-  number_is = h.rests.stands.made_is;
-  left_out = h.rests.left_out;
-  follows = h.follows;
-  counted = h.rests.stands.counted;
-  out_is = h.out_is;
-}
-
 -- at most so many steps, and no more than before
 abbrev pub fewer : ℕ → Option ℕ → ℕ
 fewer left None = left
