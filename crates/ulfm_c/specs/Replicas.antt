@@ -2,7 +2,8 @@
 use Rattle.std.specs.Prelude.{◌≡◌, ◌≢◌, ◌⊎◌, ℕ, ℤ, Bool, false, true, List, Option, Some, None, Result, filter, Ok, Err, if◌then◌else◌, length, pos}
 use Rattle.ulfm_laws.specs.Flags.{flag_meld}
 use Rattle.ulfm_laws.specs.declared.flag_and.FlagAnd.{FlagAnd}
-use Rattle.ulfm_model.specs.declared.{call.Call.{Call}, call.Call.TheVariants.{Agree}, limits.Limits.{Limits}}
+use Rattle.ulfm_model.specs.declared.{call.Call.{Call}, limits.Limits.{Limits}}
+use Rattle.ulfm_model.specs.declared.call.Call.TheVariants as call
 use Rattle.ulfm_model.specs.declared.reply.Reply.{Reply}
 use Rattle.ulfm_model.specs.declared.reply.Reply.TheVariants as reply
 use Rattle.ulfm_model.specs.{Answers.{printed}, History.{has}, Records.{Held, Record, held_at}}
@@ -13,6 +14,8 @@ use Rattle.ulfm_replica.specs.declared.answers.Fed.TheVariants as fed
 use Rattle.ulfm_replica.specs.declared.answers.Ran.TheVariants as ran
 use Rattle.ulfm_c.specs.Calls.{flag_pack}
 use Rattle.ulfm_c.specs.Written.{HasNoComm, HasNoFlag, Lent, Lists}
+use Rattle.ulfm_c.specs.declared.asked.Asked.{Asked}
+use Rattle.ulfm_c.specs.declared.asked.Asked.TheVariants as asked
 use Rattle.ulfm_c.specs.declared.polled.PolledReply.{PolledReply}
 use Rattle.ulfm_c.specs.declared.party.Party.{Party}
 use Rattle.ulfm_c.specs.declared.party.Party.TheVariants.{Outside, Rank, Replica}
@@ -35,10 +38,23 @@ ReplicaBegins asked None new answered = (new ≡ None) × (answered ≡ pos 23)
 ReplicaBegins asked (Some old) new answered =
     (begun : Bool) × BeginsIn flag_rules (Some old) (asked old.at.own.number) begun new × (answered ≡ (if begun then pos 0 else pos 21))
 
+-- the call that is asked of a rank of this number
+abbrev pub call_of : Asked → ℕ → Call FlagAnd
+call_of (asked.Shrink comm) r = call.Shrink r comm
+call_of (asked.Barrier comm) r = call.Barrier r comm
+call_of (asked.Poll comm) r = call.Poll r comm
+call_of (asked.Revoke comm) r = call.Revoke r comm
+call_of (asked.IsRevoked comm) r = call.IsRevoked r comm
+call_of (asked.GetFailed comm) r = call.GetFailed r comm
+call_of (asked.Ack comm count) r = call.Ack r comm count
+call_of (asked.FailureAck comm) r = call.FailureAck r comm
+call_of (asked.FailureGetAcked comm) r = call.FailureGetAcked r comm
+call_of (asked.Free comm) r = call.Free r comm
+
 -- an agree, on the flag with these bits
 abbrev pub ReplicaAgrees : ℕ → ℕ → Option (Replicated FlagAnd) → Option (Replicated FlagAnd) → ℤ → Type 0
 ReplicaAgrees comm bits None new answered = (new ≡ None) × (answered ≡ pos 23)
-ReplicaAgrees comm bits (Some old) new answered = (flag : FlagAnd) × (flag.bits ≡ bits) × ReplicaBegins (λ r. Agree r comm flag) (Some old) new answered
+ReplicaAgrees comm bits (Some old) new answered = (flag : FlagAnd) × (flag.bits ≡ bits) × ReplicaBegins (λ r. call.Agree r comm flag) (Some old) new answered
 
 -- what an entry did, by its number
 abbrev pub fed_code : Fed → ℕ

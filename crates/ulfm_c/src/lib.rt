@@ -13,6 +13,7 @@
 //! written where the code is 0, and is as it was at any other.
 #![tactic(auto)]
 
+mod asked;
 pub mod calls;
 pub mod code;
 pub mod handle;

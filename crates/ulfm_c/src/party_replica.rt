@@ -5,10 +5,10 @@ ghost use Rattle.ulfm_c.specs.Written.{lent};
 ghost use Rattle.ulfm_laws.specs.Flags.{flag_meld};
 ghost use Rattle.ulfm_model.specs.Answers.{traits_of};
 ghost use Rattle.ulfm_model.specs.declared.{call.Call.{Call as CallOf}, event.Caller.TheVariants.{Rank as OfRank}};
-ghost use Rattle.ulfm_model.specs.declared.call.Call.TheVariants as asks;
 ghost use Rattle.ulfm_replica.specs.Replicas.{BeginsIn, Replicated};
-ghost use Rattle.ulfm_c.specs.Replicas.{PartyReplays, ReplicaAgrees, ReplicaBegins, ReplicaCounts, ReplicaFeeds, ReplicaLists, ReplicaRuns, GroupOf, IsPlain, Tells, fed_code};
+ghost use Rattle.ulfm_c.specs.Replicas.{PartyReplays, ReplicaAgrees, ReplicaBegins, ReplicaCounts, ReplicaFeeds, ReplicaLists, ReplicaRuns, GroupOf, IsPlain, Tells, call_of, fed_code};
 
+use crate::asked::Asked;
 use crate::code::{CALL, GAP, LOST, NOT_A_RANK, refusal_code};
 use crate::party::{Party, Replica};
 use crate::polled::{AGREED, DONE, Flag, PENDING, PolledReply, SHRUNK};
@@ -177,120 +177,12 @@ impl Party {
         }
     }
 
-    pub(crate) fn begin_shrink(&mut self, comm: u16) -> i32
-        ensures { PartyReplays (ReplicaBegins (λ r. asks.Shrink r comm)) self.old self.new result }
+    pub(crate) fn begin_asked(&mut self, asked: Asked) -> i32
+        ensures { PartyReplays (ReplicaBegins (call_of asked)) self.old self.new result }
     {
         match self {
             Party::Replica(replica) => match replica.number() {
-                Some(rank) => begin(replica, Call::Shrink { rank, comm }),
-                None => LOST,
-            },
-            Party::Rank(_) | Party::Outside(_) => NOT_A_RANK,
-        }
-    }
-
-    pub(crate) fn begin_barrier(&mut self, comm: u16) -> i32
-        ensures { PartyReplays (ReplicaBegins (λ r. asks.Barrier r comm)) self.old self.new result }
-    {
-        match self {
-            Party::Replica(replica) => match replica.number() {
-                Some(rank) => begin(replica, Call::Barrier { rank, comm }),
-                None => LOST,
-            },
-            Party::Rank(_) | Party::Outside(_) => NOT_A_RANK,
-        }
-    }
-
-    pub(crate) fn begin_poll(&mut self, comm: u16) -> i32
-        ensures { PartyReplays (ReplicaBegins (λ r. asks.Poll r comm)) self.old self.new result }
-    {
-        match self {
-            Party::Replica(replica) => match replica.number() {
-                Some(rank) => begin(replica, Call::Poll { rank, comm }),
-                None => LOST,
-            },
-            Party::Rank(_) | Party::Outside(_) => NOT_A_RANK,
-        }
-    }
-
-    pub(crate) fn begin_revoke(&mut self, comm: u16) -> i32
-        ensures { PartyReplays (ReplicaBegins (λ r. asks.Revoke r comm)) self.old self.new result }
-    {
-        match self {
-            Party::Replica(replica) => match replica.number() {
-                Some(rank) => begin(replica, Call::Revoke { rank, comm }),
-                None => LOST,
-            },
-            Party::Rank(_) | Party::Outside(_) => NOT_A_RANK,
-        }
-    }
-
-    pub(crate) fn begin_is_revoked(&mut self, comm: u16) -> i32
-        ensures { PartyReplays (ReplicaBegins (λ r. asks.IsRevoked r comm)) self.old self.new result }
-    {
-        match self {
-            Party::Replica(replica) => match replica.number() {
-                Some(rank) => begin(replica, Call::IsRevoked { rank, comm }),
-                None => LOST,
-            },
-            Party::Rank(_) | Party::Outside(_) => NOT_A_RANK,
-        }
-    }
-
-    pub(crate) fn begin_get_failed(&mut self, comm: u16) -> i32
-        ensures { PartyReplays (ReplicaBegins (λ r. asks.GetFailed r comm)) self.old self.new result }
-    {
-        match self {
-            Party::Replica(replica) => match replica.number() {
-                Some(rank) => begin(replica, Call::GetFailed { rank, comm }),
-                None => LOST,
-            },
-            Party::Rank(_) | Party::Outside(_) => NOT_A_RANK,
-        }
-    }
-
-    pub(crate) fn begin_ack_failed(&mut self, comm: u16, count: u16) -> i32
-        ensures { PartyReplays (ReplicaBegins (λ r. asks.Ack r comm count)) self.old self.new result }
-    {
-        match self {
-            Party::Replica(replica) => match replica.number() {
-                Some(rank) => begin(replica, Call::Ack { rank, comm, count }),
-                None => LOST,
-            },
-            Party::Rank(_) | Party::Outside(_) => NOT_A_RANK,
-        }
-    }
-
-    pub(crate) fn begin_failure_ack(&mut self, comm: u16) -> i32
-        ensures { PartyReplays (ReplicaBegins (λ r. asks.FailureAck r comm)) self.old self.new result }
-    {
-        match self {
-            Party::Replica(replica) => match replica.number() {
-                Some(rank) => begin(replica, Call::FailureAck { rank, comm }),
-                None => LOST,
-            },
-            Party::Rank(_) | Party::Outside(_) => NOT_A_RANK,
-        }
-    }
-
-    pub(crate) fn begin_failure_get_acked(&mut self, comm: u16) -> i32
-        ensures { PartyReplays (ReplicaBegins (λ r. asks.FailureGetAcked r comm)) self.old self.new result }
-    {
-        match self {
-            Party::Replica(replica) => match replica.number() {
-                Some(rank) => begin(replica, Call::FailureGetAcked { rank, comm }),
-                None => LOST,
-            },
-            Party::Rank(_) | Party::Outside(_) => NOT_A_RANK,
-        }
-    }
-
-    pub(crate) fn begin_free(&mut self, comm: u16) -> i32
-        ensures { PartyReplays (ReplicaBegins (λ r. asks.Free r comm)) self.old self.new result }
-    {
-        match self {
-            Party::Replica(replica) => match replica.number() {
-                Some(rank) => begin(replica, Call::Free { rank, comm }),
+                Some(rank) => begin(replica, asked.by(rank)),
                 None => LOST,
             },
             Party::Rank(_) | Party::Outside(_) => NOT_A_RANK,

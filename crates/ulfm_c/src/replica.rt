@@ -11,6 +11,7 @@ ghost use Rattle.ulfm_c.specs.Opens.{limits_of};
 ghost use Rattle.ulfm_c.specs.Replicas.{OpensReplica, PartyReplays, ReplicaAgrees, ReplicaBegins, ReplicaCounts, ReplicaFeeds, ReplicaLists, ReplicaRuns};
 ghost use Rattle.ulfm_c.specs.Written.{lent};
 
+use crate::asked::Asked;
 use crate::code::NO_HANDLE;
 use crate::handle::Handle;
 use crate::opening::{no_replica_code, open_replica};
@@ -72,7 +73,7 @@ pub extern "C" fn ulfm_begin_shrink(handle: &mut Handle, comm: u16) -> i32
 {
     match handle.party() {
         None => NO_HANDLE,
-        Some(party) => party.begin_shrink(comm),
+        Some(party) => party.begin_asked(Asked::Shrink { comm }),
     }
 }
 
@@ -85,7 +86,7 @@ pub extern "C" fn ulfm_begin_barrier(handle: &mut Handle, comm: u16) -> i32
 {
     match handle.party() {
         None => NO_HANDLE,
-        Some(party) => party.begin_barrier(comm),
+        Some(party) => party.begin_asked(Asked::Barrier { comm }),
     }
 }
 
@@ -98,7 +99,7 @@ pub extern "C" fn ulfm_begin_poll(handle: &mut Handle, comm: u16) -> i32
 {
     match handle.party() {
         None => NO_HANDLE,
-        Some(party) => party.begin_poll(comm),
+        Some(party) => party.begin_asked(Asked::Poll { comm }),
     }
 }
 
@@ -111,7 +112,7 @@ pub extern "C" fn ulfm_begin_revoke(handle: &mut Handle, comm: u16) -> i32
 {
     match handle.party() {
         None => NO_HANDLE,
-        Some(party) => party.begin_revoke(comm),
+        Some(party) => party.begin_asked(Asked::Revoke { comm }),
     }
 }
 
@@ -124,7 +125,7 @@ pub extern "C" fn ulfm_begin_is_revoked(handle: &mut Handle, comm: u16) -> i32
 {
     match handle.party() {
         None => NO_HANDLE,
-        Some(party) => party.begin_is_revoked(comm),
+        Some(party) => party.begin_asked(Asked::IsRevoked { comm }),
     }
 }
 
@@ -137,7 +138,7 @@ pub extern "C" fn ulfm_begin_get_failed(handle: &mut Handle, comm: u16) -> i32
 {
     match handle.party() {
         None => NO_HANDLE,
-        Some(party) => party.begin_get_failed(comm),
+        Some(party) => party.begin_asked(Asked::GetFailed { comm }),
     }
 }
 
@@ -150,7 +151,7 @@ pub extern "C" fn ulfm_begin_ack_failed(handle: &mut Handle, comm: u16, count: u
 {
     match handle.party() {
         None => NO_HANDLE,
-        Some(party) => party.begin_ack_failed(comm, count),
+        Some(party) => party.begin_asked(Asked::Ack { comm, count }),
     }
 }
 
@@ -163,7 +164,7 @@ pub extern "C" fn ulfm_begin_failure_ack(handle: &mut Handle, comm: u16) -> i32
 {
     match handle.party() {
         None => NO_HANDLE,
-        Some(party) => party.begin_failure_ack(comm),
+        Some(party) => party.begin_asked(Asked::FailureAck { comm }),
     }
 }
 
@@ -176,7 +177,7 @@ pub extern "C" fn ulfm_begin_failure_get_acked(handle: &mut Handle, comm: u16) -
 {
     match handle.party() {
         None => NO_HANDLE,
-        Some(party) => party.begin_failure_get_acked(comm),
+        Some(party) => party.begin_asked(Asked::FailureGetAcked { comm }),
     }
 }
 
@@ -189,7 +190,7 @@ pub extern "C" fn ulfm_begin_free(handle: &mut Handle, comm: u16) -> i32
 {
     match handle.party() {
         None => NO_HANDLE,
-        Some(party) => party.begin_free(comm),
+        Some(party) => party.begin_asked(Asked::Free { comm }),
     }
 }
 

@@ -1,5 +1,5 @@
 -- One more member of a block is read.
-use Rattle.std.proofs.Common.{◌≡◌, ℕ, ◌+◌, ◌<◌, Bool, true, false, List, [], ◌∷◌, ◌++◌, take, slice_index_or, length, Option, None, Some, refl, ap, sym, ◌∙◌, subst, arith}
+use Rattle.std.proofs.Common.{◌≡◌, ℕ, ◌+◌, ◌<◌, Bool, true, false, List, [], ◌∷◌, ◌++◌, take, slice_index_or, length, Option, None, Some, refl, ap, sym, ◌∙◌, arith}
 use mathlib.Core.List.{IsPrefix}
 use Rattle.ulfm_laws.specs.{declared.summary.Summary.{Summary}, Lawful.{IsLawful}, Summaries.{summary_meld}}
 use Rattle.ulfm_model.specs.{Blocks.{IsSummed, block_of, width}, History.{History, slot}, Laws.{summary_of}, declared.contribution.Slot.{Slot}}

@@ -1,9 +1,9 @@
-use Rattle.std.proofs.Common.{◌≡◌, ℕ, ◌+◌, ◌≤◌, false, true, slice_index_or, nat_lt, is_some, refl, ap, sym, subst, arith, rules, Some, None, IfSome}
+use Rattle.std.proofs.Common.{ℕ, ◌+◌, ◌≤◌, false, true, nat_lt, ap, subst, arith, rules}
 use Rattle.std.specs.Prelude.{length}
-use Rattle.ulfm_model.specs.{Laws.{summary_of}, History.{slot}, declared.{block.Side.{Side}, block.Wing.{Wing}, contribution.Slot.{Slot}, place.Place.TheVariants.{Slot as SlotAt}}}
-use Rattle.ulfm_words.specs.{Blocks.{IsFirstOf}, Steps.{over, view_of, Goes}, declared.step.Site.{Site}}
+use Rattle.ulfm_model.specs.{History.{slot}, declared.{place.Place.TheVariants.{Slot as SlotAt}}}
+use Rattle.ulfm_words.specs.{Blocks.{IsFirstOf}, Steps.{over, view_of, Goes}}
 use Rattle.ulfm_words.proofs.{Trails.{did_prefix}, Tried.{tries_none}}
-use Rattle.ulfm_steps.specs.{Blocks.{block_at, blocks_left, next_in_block, reads_most, site_of}, Turns.{TakesAt}}
+use Rattle.ulfm_steps.specs.{Blocks.{block_at, blocks_left, reads_most, site_of}, Turns.{TakesAt}}
 use Rattle.ulfm_steps.proofs.{InBlocks.{are_later, at_block_later, rank_is, takes_member}, KnownBlocks.{set_later, spread_later}, OneMore.{next_cell, next_few, next_within, reads_one}, Reading.{missing_at}, Turning.{takes_load}}
 use Rattle.ulfm_steps.proofs.blocks.ReadBlocks.load.Goals as goal
 use Rattle.ulfm_steps.proofs.blocks.ReadBlocks.load.Goals.{After-load_slot}

@@ -1,9 +1,9 @@
-use Rattle.std.proofs.Common.{◌≡◌, ℕ, ◌+◌, ◌≤◌, false, true, slice_index_or, nat_lt, is_some, refl, ap, sym, subst, arith, Some, None, IfSome}
+use Rattle.std.proofs.Common.{ℕ, ◌+◌, ◌≤◌, false, true, nat_lt, refl, ap, sym, subst, arith, None, IfSome}
 use Rattle.std.specs.Prelude.{length}
-use Rattle.ulfm_model.specs.{Laws.{summary_of}, History.{slot}, declared.{block.Side.{Side}, block.Wing.{Wing}, contribution.Slot.{Slot}, place.Place.TheVariants.{Slot as SlotAt}}}
-use Rattle.ulfm_words.specs.{Blocks.{IsFirstOf}, Steps.{over, Goes}, declared.step.Site.{Site}}
+use Rattle.ulfm_model.specs.{History.{slot}, declared.{block.Wing.{Wing}}}
+use Rattle.ulfm_words.specs.{Blocks.{IsFirstOf}, Steps.{over}, declared.step.Site.{Site}}
 use Rattle.ulfm_words.proofs.Tried.{tries_none}
-use Rattle.ulfm_steps.specs.{Blocks.{blocks_left, next_in_block, reads_most, site_of}, Turns.{TakesAt}}
+use Rattle.ulfm_steps.specs.{Blocks.{blocks_left, next_in_block, site_of}, Turns.{TakesAt}}
 use Rattle.ulfm_steps.proofs.{InBlocks.{rank_is, takes_member_wing}, OneMore.{next_cell, next_few, next_within, reads_one}}
 use Rattle.ulfm_steps.proofs.blocks.ReadBlocks.load_rest.Goals as goal
 use Rattle.ulfm_steps.proofs.blocks.ReadBlocks.load_rest.Goals.{After-load_rest-said}

@@ -1,12 +1,8 @@
-use Rattle.std.proofs.Common.{◌≡◌, ℕ, ◌+◌, ◌≤◌, false, true, slice_index_or, nat_lt, is_some, refl, ap, sym, subst, arith, rules, Some, None, IfSome}
-use Rattle.std.specs.Prelude.{length}
-use Rattle.ulfm_model.specs.{Laws.{summary_of}, History.{slot}, declared.{block.Side.{Side}, block.Wing.{Wing}, contribution.Slot.{Slot}, place.Place.TheVariants.{Slot as SlotAt}}}
-use Rattle.ulfm_words.specs.{Blocks.{IsFirstOf}, Steps.{over, view_of, Goes}, declared.step.Site.{Site}}
+use Rattle.std.proofs.Common.{true, arith, rules}
+use Rattle.ulfm_words.specs.{Steps.{view_of}}
 use Rattle.ulfm_words.proofs.{Trails.{did_prefix}, Tried.{tries_one}}
-use Rattle.ulfm_steps.specs.{Blocks.{block_at, blocks_left, next_in_block, reads_most, site_of}, Turns.{TakesAt}}
-use Rattle.ulfm_steps.proofs.{InBlocks.{are_later, at_block_later, few_members, rank_is, rank_within, nothing_held, reads_within, takes_wing, writes}, KnownBlocks.{set_later, spread_later}, OneMore.{one_more}, Reading.{has_at, member_within, missing_at}, Turning.{takes_load}}
+use Rattle.ulfm_steps.proofs.{InBlocks.{at_block_later, nothing_held, reads_within, takes_wing, writes}, KnownBlocks.{set_later}}
 use Rattle.ulfm_model.specs.Blocks.{block_wing}
-use Rattle.ulfm_words.specs.Blocks.{standing}
 use Rattle.ulfm_steps.proofs.blocks.ReadBlocks.spread.Goals as goal
 
 pub set_wing-requires-clause-within : goal.set_wing-requires-clause-within
