@@ -8,8 +8,7 @@ use std::alloc::{AllocError, Allocator};
 use ulfm_graph::tables::{NONE, at, count_up, greatest, number, put, small};
 use ulfm_model::Refusal;
 use ulfm_observed::LogLine;
-use ulfm_study::rules::{Rules, missing};
-use ulfm_study::{Deals, Plan, Standing, Study, Why, places};
+use ulfm_study::{Deals, Plan, Standing, Study, Why, places, rules};
 
 /// What came of a judgement.
 #[derive(Drop)]
@@ -170,7 +169,7 @@ fn fault<A: Allocator + Copy>(study: &Study<A>, deals: &Deals<A>) -> Option<Why>
             return Some(why);
         }
     }
-    missing(study)
+    rules::missing(study)
 }
 
 /// Puts in all that is asked.
@@ -180,21 +179,19 @@ fn fill<A: Allocator + Copy, B: Allocator>(
     settled: &mut Settled<A>,
     lines: &[LogLine<B>],
 ) -> Result<Option<Why>, AllocError> {
-    let deals = &settled.deals;
-    let mut rules = Rules { plan, study, deals };
-    rules.lines()?;
-    rules.failures()?;
-    rules.calls(lines)?;
-    rules.rounds()?;
-    rules.roomless()?;
-    rules.groups(settled.top)?;
-    if !makers(rules.plan, study, settled)? {
+    rules::lines(plan, study)?;
+    rules::failures(plan, study)?;
+    rules::calls(plan, study, &settled.deals, lines)?;
+    rules::rounds(plan, study, &settled.deals)?;
+    rules::roomless(plan, study, &settled.deals)?;
+    rules::groups(plan, study, settled.top)?;
+    if !makers(plan, study, settled)? {
         return Ok(Some(Why::Choices));
     }
     if study.logged {
-        open_declarations(rules.plan, study)?;
+        open_declarations(plan, study)?;
     }
-    rules.revocations(&mut settled.revokers)
+    rules::revocations(plan, study, &mut settled.revokers)
 }
 
 /// A communicator that nobody was told of comes after the round that makes it; false where one round makes two.

@@ -92,98 +92,6 @@ impl<A: Allocator + Copy> Writer<A> {
         let failures = small(self.failures);
         self.write(Line::Looked { rank, failures }, false)
     }
-
-    /// What a start offers, which is combined with what others offered to its round.
-    fn offer_of(&mut self, act: &Act) -> Offer<FlagAnd> {
-        let cell = act.round as usize;
-        if act.is(Kind::Shrink) {
-            let free = bits_at(&self.free, act.rank as usize);
-            let old = bits_at(&self.mask, cell);
-            put_bits(&mut self.mask, cell, old & free);
-            return Offer::Ctx(CtxMask { bits: free });
-        }
-        let old = bits_at(&self.value, cell);
-        put_bits(&mut self.value, cell, old & act.number);
-        Offer::Flag(FlagAnd { bits: act.number })
-    }
-
-    /// Takes in how many failures a contributor knew, and how many it had acknowledged.
-    fn note_counts(&mut self, act: &Act, known: u32) {
-        let cell = act.round as usize;
-        let most = greatest(at(&self.known, cell), known);
-        put(&mut self.known, cell, most);
-        let fewest = least(at(&self.acked, cell), u32::from(act.acked));
-        put(&mut self.acked, cell, fewest);
-    }
-
-    /// Writes a mark.
-    fn write_mark(
-        &mut self,
-        comm: u16,
-        round: u16,
-        rank: u16,
-        count: u32,
-    ) -> Result<(), AllocError> {
-        let known = known_of(count);
-        if known.count == 0 {
-            return Ok(());
-        }
-        let known = MarkCount { known };
-        let event = Event::Mark {
-            comm,
-            round,
-            rank,
-            known,
-        };
-        self.happen(Caller::Outside, event)
-    }
-
-    /// Takes in that a rank was told of a new communicator: it holds its context id.
-    fn take_context(&mut self, act: &Act, place: u32, comm: u16, told: Option<u8>) {
-        let id = at(&self.contexts, comm as usize);
-        if let Some(context) = told {
-            if u32::from(context) != id && self.wrong == NONE {
-                self.wrong = place;
-            }
-        }
-        if id == NONE && self.wrong == NONE {
-            self.wrong = place;
-        }
-        let old = bits_at(&self.free, act.rank as usize);
-        put_bits(&mut self.free, act.rank as usize, old & !bit_of(id));
-    }
-
-    /// The reply as a trace tells it.
-    fn reply_of(&self, act: &Act, seen: Seen, size: u16) -> Reply<FlagAnd> {
-        match seen {
-            Seen::Whole(reply) => reply,
-            Seen::Agreed {
-                value,
-                failed,
-                raised,
-            } => Reply::Agreed {
-                value: match value {
-                    Some(value) => value,
-                    None => FlagAnd {
-                        bits: bits_at(&self.value, act.round as usize),
-                    },
-                },
-                failed: match failed {
-                    Some(count) => count,
-                    None => small(at(&self.known, act.round as usize)),
-                },
-                raised,
-            },
-            Seen::Shrunk { comm, context } => Reply::Shrunk {
-                comm,
-                context: match context {
-                    Some(id) => id,
-                    None => byte(at(&self.contexts, comm as usize)),
-                },
-                size,
-            },
-        }
-    }
 }
 
 /// A count of known failures.
@@ -231,332 +139,314 @@ pub(crate) struct Source<'a, A: Allocator, B: Allocator> {
     pub(crate) makers: &'a [u32],
 }
 
-impl<'a, A: Allocator + Copy, B: Allocator> Source<'a, A, B> {
-    /// Whether a call's look is made as it begins.
-    fn looks_at_once(&self, act: &Act, place: u32) -> bool {
-        match act.standing {
-            Standing::Unseen => false,
-            Standing::Refused => act.reply != NONE,
-            Standing::Dead => true,
-            Standing::Open => act.is(Kind::Revoke) && at(self.revokers, act.comm as usize) == place,
-            Standing::Answered => match act.kind {
-                Kind::Poll => !act.refused(Refusal::ProcFailed),
-                Kind::Revoke | Kind::IsRevoked | Kind::Free => true,
-                _ => false,
-            },
+/// Writes the whole trace.
+pub(crate) fn write<A: Allocator + Copy, B: Allocator>(
+    source: &Source<'_, A, B>,
+) -> Result<Writer<A>, AllocError> {
+    let mut writer = Writer::new(source.study)?;
+    for node in &source.plan.graph.order {
+        match source.plan.part(*node) {
+            Part::Line(line) => write_line(&mut writer, source, line)?,
+            Part::Failure(count) => write_failure(&mut writer, source, count)?,
+            Part::Look(place) => write_look(&mut writer, source, place)?,
+            Part::Settle(place) => write_settle(&mut writer, source, place)?,
+            Part::Point(place) => write_point(&mut writer, source, place)?,
+            Part::Decision(round) => write_marks(&mut writer, source, round)?,
+            Part::Spawn(comm) => write_spawn(&mut writer, source, comm)?,
+            Part::Revocation(comm) => write_revocation(&mut writer, source, comm)?,
         }
     }
+    Ok(writer)
+}
 
-    /// Whether a call's look is a node of its own.
-    fn looks_apart(&self, act: &Act, place: u32) -> bool {
-        match act.standing {
-            Standing::Answered => act.starts() || act.is(Kind::Get) || act.is(Kind::Ack),
-            Standing::Open => act.starts() && self.takes_effect(act, place),
+/// Writes a line of the log.
+fn write_line<A: Allocator + Copy, B: Allocator>(
+    writer: &mut Writer<A>,
+    source: &Source<'_, A, B>,
+    line: u32,
+) -> Result<(), AllocError> {
+    let place = at(&source.study.act_at, line as usize);
+    let Some(act) = source.study.act(place) else {
+        return Ok(());
+    };
+    if act.call == line {
+        return write_call(writer, source, &act, place);
+    }
+    write_reply(writer, source, &act, place)
+}
+
+/// Writes a call, and its look where it is made at once.
+fn write_call<A: Allocator + Copy, B: Allocator>(
+    writer: &mut Writer<A>,
+    source: &Source<'_, A, B>,
+    act: &Act,
+    place: u32,
+) -> Result<(), AllocError> {
+    put(&mut writer.begun, place as usize, writer.events);
+    if let Some(line) = source.lines.get(act.call as usize) {
+        if let Item::Called { call, padded } = line.item {
+            writer.write(Line::Called { call, padded }, true)?;
+        }
+    }
+    if looks_at_once(source, act, place) {
+        return writer.look(place, act.rank);
+    }
+    Ok(())
+}
+
+/// Whether a call's look is made as it begins.
+fn looks_at_once<A: Allocator + Copy, B: Allocator>(
+    source: &Source<'_, A, B>,
+    act: &Act,
+    place: u32,
+) -> bool {
+    match act.standing {
+        Standing::Unseen => false,
+        Standing::Refused => act.reply != NONE,
+        Standing::Dead => true,
+        Standing::Open => act.is(Kind::Revoke) && at(source.revokers, act.comm as usize) == place,
+        Standing::Answered => match act.kind {
+            Kind::Poll => !act.refused(Refusal::ProcFailed),
+            Kind::Revoke | Kind::IsRevoked | Kind::Free => true,
             _ => false,
-        }
-    }
-
-    /// Whether an open start took effect.
-    fn takes_effect(&self, act: &Act, place: u32) -> bool {
-        let done = act.is(Kind::Barrier) && at(&self.deals.done, act.round as usize) == 1;
-        done || at(&self.deals.counted, place as usize) == 1
+        },
     }
 }
 
-/// A trace under way, and what it is written from.
-#[derive(Drop)]
-struct Writing<'a, A: Allocator, B: Allocator> {
-    /// What is written so far.
-    writer: Writer<A>,
-    /// What it is written from.
-    source: &'a Source<'a, A, B>,
+/// Whether a call's look is a node of its own.
+fn looks_apart<A: Allocator + Copy, B: Allocator>(
+    source: &Source<'_, A, B>,
+    act: &Act,
+    place: u32,
+) -> bool {
+    match act.standing {
+        Standing::Answered => act.starts() || act.is(Kind::Get) || act.is(Kind::Ack),
+        Standing::Open => act.starts() && takes_effect(source, act, place),
+        _ => false,
+    }
 }
 
-impl<'a, A: Allocator + Copy, B: Allocator> Writing<'a, A, B> {
-    /// Writes what a node of the order comes to.
-    fn write_node(&mut self, node: u32) -> Result<(), AllocError> {
-        match self.source.plan.part(node) {
-            Part::Line(line) => self.write_line(line),
-            Part::Failure(count) => self.write_failure(count),
-            Part::Look(place) => self.write_look(place),
-            Part::Settle(place) => self.write_settle(place),
-            Part::Point(place) => self.write_point(place),
-            Part::Decision(round) => self.write_marks(round),
-            Part::Spawn(comm) => self.write_spawn(comm),
-            Part::Revocation(comm) => self.write_revocation(comm),
-        }
-    }
+/// Whether an open start took effect.
+fn takes_effect<A: Allocator + Copy, B: Allocator>(
+    source: &Source<'_, A, B>,
+    act: &Act,
+    place: u32,
+) -> bool {
+    let done = act.is(Kind::Barrier) && at(&source.deals.done, act.round as usize) == 1;
+    done || at(&source.deals.counted, place as usize) == 1
+}
 
-    /// Writes a line of the log.
-    fn write_line(&mut self, line: u32) -> Result<(), AllocError> {
-        let place = at(&self.source.study.act_at, line as usize);
-        let Some(act) = self.source.study.act(place) else {
-            return Ok(());
-        };
-        if act.call == line {
-            return self.write_call(&act, place);
-        }
-        self.write_reply(&act, place)
+/// Writes a look that is a node of its own.
+fn write_look<A: Allocator + Copy, B: Allocator>(
+    writer: &mut Writer<A>,
+    source: &Source<'_, A, B>,
+    place: u32,
+) -> Result<(), AllocError> {
+    let Some(act) = source.study.act(place) else {
+        return Ok(());
+    };
+    if !looks_apart(source, &act, place) {
+        return Ok(());
     }
+    put(&mut writer.pointed, place as usize, writer.events);
+    writer.look(place, act.rank)
+}
 
-    /// Writes a call, and its look where it is made at once.
-    fn write_call(&mut self, act: &Act, place: u32) -> Result<(), AllocError> {
-        put(&mut self.writer.begun, place as usize, self.writer.events);
-        if let Some(line) = self.source.lines.get(act.call as usize) {
-            if let Item::Called { call, padded } = line.item {
-                self.writer.write(Line::Called { call, padded }, true)?;
-            }
-        }
-        if self.source.looks_at_once(act, place) {
-            return self.writer.look(place, act.rank);
-        }
-        Ok(())
+/// Writes a declaration, if a rank stands at that place.
+fn write_failure<A: Allocator + Copy, B: Allocator>(
+    writer: &mut Writer<A>,
+    source: &Source<'_, A, B>,
+    count: u32,
+) -> Result<(), AllocError> {
+    let rank = at(&source.plan.ranked, count as usize);
+    if rank == NONE {
+        return Ok(());
     }
+    writer.failures = writer.failures.wrapping_add(1);
+    let rank = small(rank);
+    writer.happen(Caller::Outside, Event::Fail { rank })
+}
 
-    /// Writes a look that is a node of its own.
-    fn write_look(&mut self, place: u32) -> Result<(), AllocError> {
-        let Some(act) = self.source.study.act(place) else {
-            return Ok(());
-        };
-        if !self.source.looks_apart(&act, place) {
-            return Ok(());
-        }
-        put(&mut self.writer.pointed, place as usize, self.writer.events);
-        self.writer.look(place, act.rank)
+/// Writes a contribution or an arrival; behind it `started`, where the log doesn't have it, and the poll that ends a blocking call.
+fn write_settle<A: Allocator + Copy, B: Allocator>(
+    writer: &mut Writer<A>,
+    source: &Source<'_, A, B>,
+    place: u32,
+) -> Result<(), AllocError> {
+    let Some(act) = source.study.act(place) else {
+        return Ok(());
+    };
+    if !act.starts() || !looks_apart(source, &act, place) {
+        return Ok(());
     }
-
-    /// Writes a declaration, if a rank stands at that place.
-    fn write_failure(&mut self, count: u32) -> Result<(), AllocError> {
-        let rank = at(&self.source.plan.ranked, count as usize);
-        if rank == NONE {
-            return Ok(());
-        }
-        self.writer.failures = self.writer.failures.wrapping_add(1);
-        let rank = small(rank);
-        self.writer.happen(Caller::Outside, Event::Fail { rank })
-    }
-
-    /// Writes a contribution or an arrival; behind it `started`, where the log doesn't have it, and the poll that ends a blocking call.
-    fn write_settle(&mut self, place: u32) -> Result<(), AllocError> {
-        let Some(act) = self.source.study.act(place) else {
-            return Ok(());
-        };
-        if !act.starts() || !self.source.looks_apart(&act, place) {
-            return Ok(());
-        }
-        self.write_part(&act, place)?;
-        if act.standing == Standing::Open || act.blocking {
-            let by = Caller::Rank(act.rank);
-            let point = self.writer.events;
-            let reply = Some(Reply::Started);
-            self.writer
-                .write(Line::Replied { by, point, reply }, false)?;
-        }
-        if !act.blocking {
-            return Ok(());
-        }
-        put(&mut self.writer.begun, place as usize, self.writer.events);
-        let rank = act.rank;
-        let comm = act.comm;
-        let call = Call::Poll { rank, comm };
-        let padded = false;
-        self.writer.write(Line::Called { call, padded }, false)?;
-        if act.is(Kind::Barrier) && act.refused(Refusal::ProcFailed) {
-            return Ok(());
-        }
-        self.writer.look(place, act.rank)
-    }
-
-    /// Writes a contribution or an arrival.
-    fn write_part(&mut self, act: &Act, place: u32) -> Result<(), AllocError> {
+    write_part(writer, source, &act, place)?;
+    if act.standing == Standing::Open || act.blocking {
         let by = Caller::Rank(act.rank);
-        let rank = act.rank;
-        if act.is(Kind::Barrier) {
-            let round = self.source.study.barriers.round(act.round as usize);
-            let event = Event::Arrive {
-                comm: round.comm,
-                round: round.round,
-                rank,
-            };
-            return self.writer.happen(by, event);
-        }
-        let round = self.source.study.agreements.round(act.round as usize);
-        let lacks = self.source.study.lacking(act.comm);
-        let known = at(&self.writer.looked, place as usize).saturating_sub(lacks);
-        let offer = self.writer.offer_of(act);
-        self.writer.note_counts(act, known);
-        let given = contribution_of(offer, known, act.acked);
-        let event = Event::Settle {
+        let point = writer.events;
+        let reply = Some(Reply::Started);
+        writer.write(Line::Replied { by, point, reply }, false)?;
+    }
+    if !act.blocking {
+        return Ok(());
+    }
+    put(&mut writer.begun, place as usize, writer.events);
+    let rank = act.rank;
+    let comm = act.comm;
+    let call = Call::Poll { rank, comm };
+    let padded = false;
+    writer.write(Line::Called { call, padded }, false)?;
+    if act.is(Kind::Barrier) && act.refused(Refusal::ProcFailed) {
+        return Ok(());
+    }
+    writer.look(place, act.rank)
+}
+
+/// Writes a contribution or an arrival.
+fn write_part<A: Allocator + Copy, B: Allocator>(
+    writer: &mut Writer<A>,
+    source: &Source<'_, A, B>,
+    act: &Act,
+    place: u32,
+) -> Result<(), AllocError> {
+    let by = Caller::Rank(act.rank);
+    let rank = act.rank;
+    if act.is(Kind::Barrier) {
+        let round = source.study.barriers.round(act.round as usize);
+        let event = Event::Arrive {
             comm: round.comm,
             round: round.round,
             rank,
-            given,
         };
-        self.writer.happen(by, event)
+        return writer.happen(by, event);
     }
-
-    /// Writes the point of a barrier's poll, and its look where that is made there.
-    fn write_point(&mut self, place: u32) -> Result<(), AllocError> {
-        let Some(act) = self.source.study.act(place) else {
-            return Ok(());
-        };
-        if !self.source.study.polls(&act) || act.standing != Standing::Answered {
-            return Ok(());
-        }
-        if self.source.study.asked_by(&act) != Kind::Barrier {
-            return Ok(());
-        }
-        put(&mut self.writer.pointed, place as usize, self.writer.events);
-        if act.refused(Refusal::ProcFailed) {
-            return self.writer.look(place, act.rank);
-        }
-        Ok(())
-    }
-
-    /// Writes the marks of those who are left out of a decided round.
-    fn write_marks(&mut self, round: u32) -> Result<(), AllocError> {
-        if !self.source.deals.is_decided(round) {
-            return Ok(());
-        }
-        let Some(named) = self.source.study.agreements.list.get(round as usize) else {
-            return Ok(());
-        };
-        let named = *named;
-        for rank in 0..self.source.study.ranks {
-            let out = self.source.study.is_member(named.comm, rank)
-                && self
-                    .source
-                    .deals
-                    .contribution(self.source.study, round, rank)
-                    == NONE;
-            let place = at(&self.source.plan.place, rank);
-            if out && place != NONE {
-                let known = place.saturating_sub(self.source.study.lacking(named.comm));
-                let most = greatest(at(&self.writer.known, round as usize), known);
-                put(&mut self.writer.known, round as usize, most);
-                self.writer
-                    .write_mark(named.comm, named.round, small(number(rank)), known)?;
-            }
-        }
-        Ok(())
-    }
-
-    /// Writes that a communicator is made.
-    fn write_spawn(&mut self, comm: u16) -> Result<(), AllocError> {
-        let round = at(self.source.makers, comm as usize);
-        if round == NONE || comm == 0 {
-            return Ok(());
-        }
-        let named = self.source.study.agreements.round(round as usize);
-        let id = lowest(bits_at(&self.writer.mask, round as usize));
-        put(&mut self.writer.contexts, comm as usize, id);
-        let event = Event::Spawn {
-            comm,
-            parent: named.comm,
-            round: named.round,
-        };
-        self.writer.happen(Caller::Outside, event)
-    }
-
-    /// Writes a revocation.
-    fn write_revocation(&mut self, comm: u16) -> Result<(), AllocError> {
-        match self
-            .source
-            .study
-            .act(at(self.source.revokers, comm as usize))
-        {
-            Some(act) => self
-                .writer
-                .happen(Caller::Rank(act.rank), Event::Revoke { comm }),
-            None => Ok(()),
-        }
-    }
-
-    /// Writes a reply.
-    fn write_reply(&mut self, act: &Act, place: u32) -> Result<(), AllocError> {
-        let Some(seen) = act.seen else {
-            return Ok(());
-        };
-        let by = if act.is_ranks() {
-            Caller::Rank(act.rank)
-        } else {
-            Caller::Outside
-        };
-        let point = self.point_of(act, place);
-        let mut group = Vec::new(self.writer.alloc);
-        if let Some(line) = self.source.lines.get(act.reply as usize) {
-            group.extend_from_slice(&line.group)?;
-        }
-        let size = small(number(group.len()));
-        let reply = Some(self.writer.reply_of(act, seen, size));
-        self.take_ids(act, place);
-        let line = Line::Replied { by, point, reply };
-        self.writer.steps.push(Step {
-            line,
-            group,
-            logged: true,
-        })?;
-        Ok(())
-    }
-
-    /// Takes in which context ids a rank holds after a reply, and whether the reply tells of ids that it can't.
-    fn take_ids(&mut self, act: &Act, place: u32) {
-        let counts = self.source.study.counts(act);
-        if counts {
-            if let Some(Seen::Shrunk { comm, context }) = act.seen {
-                self.writer.take_context(act, place, comm, context);
-            }
-        }
-        if act.kind == Kind::Free && act.standing == Standing::Answered {
-            let old = bits_at(&self.writer.free, act.rank as usize);
-            let id = bit_of(at(&self.writer.contexts, act.comm as usize));
-            put_bits(&mut self.writer.free, act.rank as usize, old | id);
-        }
-        if counts
-            && act.refused(Refusal::NoContext)
-            && bits_at(&self.writer.mask, act.round as usize) != 0
-        {
-            self.writer.wrong = place;
-        }
-    }
-
-    /// The point of a reply.
-    fn point_of(&self, act: &Act, place: u32) -> u32 {
-        if act.standing != Standing::Answered {
-            return self.writer.events;
-        }
-        if act.is(Kind::Get) || act.is(Kind::Ack) {
-            return at(&self.writer.pointed, place as usize);
-        }
-        if let Some(Seen::Whole(Reply::Standing { revoked: false })) = act.seen {
-            return at(&self.writer.begun, place as usize);
-        }
-        if !self.source.study.polls(act) {
-            return self.writer.events;
-        }
-        if self.source.study.asked_by(act) == Kind::Barrier {
-            if act.refused(Refusal::IsRevoked) {
-                return self.writer.events;
-            }
-            return at(&self.writer.pointed, place as usize);
-        }
-        if tells_end(self.source.study, act) {
-            return self.writer.events;
-        }
-        at(&self.writer.begun, place as usize)
-    }
+    let round = source.study.agreements.round(act.round as usize);
+    let lacks = source.study.lacking(act.comm);
+    let known = at(&writer.looked, place as usize).saturating_sub(lacks);
+    let offer = offer_of(writer, act);
+    note_counts(writer, act, known);
+    let given = contribution_of(offer, known, act.acked);
+    let event = Event::Settle {
+        comm: round.comm,
+        round: round.round,
+        rank,
+        given,
+    };
+    writer.happen(by, event)
 }
 
-/// Writes the whole trace.
-pub(crate) fn write<'a, A: Allocator + Copy, B: Allocator>(
-    source: &'a Source<'a, A, B>,
-) -> Result<Writer<A>, AllocError> {
-    let writer = Writer::new(source.study)?;
-    let mut writing = Writing { writer, source };
-    for node in &source.plan.graph.order {
-        writing.write_node(*node)?;
+/// What a start offers, which is combined with what others offered to its round.
+fn offer_of<A: Allocator + Copy>(writer: &mut Writer<A>, act: &Act) -> Offer<FlagAnd> {
+    let cell = act.round as usize;
+    if act.is(Kind::Shrink) {
+        let free = bits_at(&writer.free, act.rank as usize);
+        let old = bits_at(&writer.mask, cell);
+        put_bits(&mut writer.mask, cell, old & free);
+        return Offer::Ctx(CtxMask { bits: free });
     }
-    Ok(writing.writer)
+    let old = bits_at(&writer.value, cell);
+    put_bits(&mut writer.value, cell, old & act.number);
+    Offer::Flag(FlagAnd { bits: act.number })
+}
+
+/// Takes in how many failures a contributor knew, and how many it had acknowledged.
+fn note_counts<A: Allocator + Copy>(writer: &mut Writer<A>, act: &Act, known: u32) {
+    let cell = act.round as usize;
+    let most = greatest(at(&writer.known, cell), known);
+    put(&mut writer.known, cell, most);
+    let fewest = least(at(&writer.acked, cell), u32::from(act.acked));
+    put(&mut writer.acked, cell, fewest);
+}
+
+/// Writes the point of a barrier's poll, and its look where that is made there.
+fn write_point<A: Allocator + Copy, B: Allocator>(
+    writer: &mut Writer<A>,
+    source: &Source<'_, A, B>,
+    place: u32,
+) -> Result<(), AllocError> {
+    let Some(act) = source.study.act(place) else {
+        return Ok(());
+    };
+    if !source.study.polls(&act) || act.standing != Standing::Answered {
+        return Ok(());
+    }
+    if source.study.asked_by(&act) != Kind::Barrier {
+        return Ok(());
+    }
+    put(&mut writer.pointed, place as usize, writer.events);
+    if act.refused(Refusal::ProcFailed) {
+        return writer.look(place, act.rank);
+    }
+    Ok(())
+}
+
+/// Writes the marks of those who are left out of a decided round.
+fn write_marks<A: Allocator + Copy, B: Allocator>(
+    writer: &mut Writer<A>,
+    source: &Source<'_, A, B>,
+    round: u32,
+) -> Result<(), AllocError> {
+    if !source.deals.is_decided(round) {
+        return Ok(());
+    }
+    let Some(named) = source.study.agreements.list.get(round as usize) else {
+        return Ok(());
+    };
+    let named = *named;
+    for rank in 0..source.study.ranks {
+        let out = source.study.is_member(named.comm, rank)
+            && source.deals.contribution(source.study, round, rank) == NONE;
+        let place = at(&source.plan.place, rank);
+        if out && place != NONE {
+            let known = place.saturating_sub(source.study.lacking(named.comm));
+            let most = greatest(at(&writer.known, round as usize), known);
+            put(&mut writer.known, round as usize, most);
+            write_mark(writer, named.comm, named.round, small(number(rank)), known)?;
+        }
+    }
+    Ok(())
+}
+
+/// Writes a mark.
+fn write_mark<A: Allocator + Copy>(
+    writer: &mut Writer<A>,
+    comm: u16,
+    round: u16,
+    rank: u16,
+    count: u32,
+) -> Result<(), AllocError> {
+    let known = known_of(count);
+    if known.count == 0 {
+        return Ok(());
+    }
+    let known = MarkCount { known };
+    let event = Event::Mark {
+        comm,
+        round,
+        rank,
+        known,
+    };
+    writer.happen(Caller::Outside, event)
+}
+
+/// Writes that a communicator is made.
+fn write_spawn<A: Allocator + Copy, B: Allocator>(
+    writer: &mut Writer<A>,
+    source: &Source<'_, A, B>,
+    comm: u16,
+) -> Result<(), AllocError> {
+    let round = at(source.makers, comm as usize);
+    if round == NONE || comm == 0 {
+        return Ok(());
+    }
+    let named = source.study.agreements.round(round as usize);
+    let id = lowest(bits_at(&writer.mask, round as usize));
+    put(&mut writer.contexts, comm as usize, id);
+    let event = Event::Spawn {
+        comm,
+        parent: named.comm,
+        round: named.round,
+    };
+    writer.happen(Caller::Outside, event)
 }
 
 /// The lowest bit that stands; none where none does.
@@ -583,7 +473,163 @@ fn bit_of(id: u32) -> u64 {
     0
 }
 
+/// Writes a revocation.
+fn write_revocation<A: Allocator + Copy, B: Allocator>(
+    writer: &mut Writer<A>,
+    source: &Source<'_, A, B>,
+    comm: u16,
+) -> Result<(), AllocError> {
+    match source.study.act(at(source.revokers, comm as usize)) {
+        Some(act) => writer.happen(Caller::Rank(act.rank), Event::Revoke { comm }),
+        None => Ok(()),
+    }
+}
+
+/// Writes a reply.
+fn write_reply<A: Allocator + Copy, B: Allocator>(
+    writer: &mut Writer<A>,
+    source: &Source<'_, A, B>,
+    act: &Act,
+    place: u32,
+) -> Result<(), AllocError> {
+    let Some(seen) = act.seen else {
+        return Ok(());
+    };
+    let by = if act.is_ranks() {
+        Caller::Rank(act.rank)
+    } else {
+        Caller::Outside
+    };
+    let point = point_of(writer, source, act, place);
+    let mut group = Vec::new(writer.alloc);
+    if let Some(line) = source.lines.get(act.reply as usize) {
+        group.extend_from_slice(&line.group)?;
+    }
+    let size = small(number(group.len()));
+    let reply = Some(reply_of(writer, act, seen, size));
+    take_ids(writer, source, act, place);
+    let line = Line::Replied { by, point, reply };
+    writer.steps.push(Step {
+        line,
+        group,
+        logged: true,
+    })?;
+    Ok(())
+}
+
+/// Takes in which context ids a rank holds after a reply, and whether the reply tells of ids that it can't.
+fn take_ids<A: Allocator + Copy, B: Allocator>(
+    writer: &mut Writer<A>,
+    source: &Source<'_, A, B>,
+    act: &Act,
+    place: u32,
+) {
+    let counts = source.study.counts(act);
+    if counts {
+        if let Some(Seen::Shrunk { comm, context }) = act.seen {
+            take_context(writer, act, place, comm, context);
+        }
+    }
+    if act.kind == Kind::Free && act.standing == Standing::Answered {
+        let old = bits_at(&writer.free, act.rank as usize);
+        let id = bit_of(at(&writer.contexts, act.comm as usize));
+        put_bits(&mut writer.free, act.rank as usize, old | id);
+    }
+    if counts && act.refused(Refusal::NoContext) && bits_at(&writer.mask, act.round as usize) != 0 {
+        writer.wrong = place;
+    }
+}
+
+/// Takes in that a rank was told of a new communicator: it holds its context id.
+fn take_context<A: Allocator + Copy>(
+    writer: &mut Writer<A>,
+    act: &Act,
+    place: u32,
+    comm: u16,
+    told: Option<u8>,
+) {
+    let id = at(&writer.contexts, comm as usize);
+    if let Some(context) = told {
+        if u32::from(context) != id && writer.wrong == NONE {
+            writer.wrong = place;
+        }
+    }
+    if id == NONE && writer.wrong == NONE {
+        writer.wrong = place;
+    }
+    let old = bits_at(&writer.free, act.rank as usize);
+    put_bits(&mut writer.free, act.rank as usize, old & !bit_of(id));
+}
+
+/// The reply as a trace tells it.
+fn reply_of<A: Allocator + Copy>(
+    writer: &Writer<A>,
+    act: &Act,
+    seen: Seen,
+    size: u16,
+) -> Reply<FlagAnd> {
+    match seen {
+        Seen::Whole(reply) => reply,
+        Seen::Agreed {
+            value,
+            failed,
+            raised,
+        } => Reply::Agreed {
+            value: match value {
+                Some(value) => value,
+                None => FlagAnd {
+                    bits: bits_at(&writer.value, act.round as usize),
+                },
+            },
+            failed: match failed {
+                Some(count) => count,
+                None => small(at(&writer.known, act.round as usize)),
+            },
+            raised,
+        },
+        Seen::Shrunk { comm, context } => Reply::Shrunk {
+            comm,
+            context: match context {
+                Some(id) => id,
+                None => byte(at(&writer.contexts, comm as usize)),
+            },
+            size,
+        },
+    }
+}
+
 /// A number as a byte; the greatest where it has more.
 fn byte(number: u32) -> u8 {
     if number < 255 { number as u8 } else { 255 }
+}
+
+/// The point of a reply.
+fn point_of<A: Allocator + Copy, B: Allocator>(
+    writer: &Writer<A>,
+    source: &Source<'_, A, B>,
+    act: &Act,
+    place: u32,
+) -> u32 {
+    if act.standing != Standing::Answered {
+        return writer.events;
+    }
+    if act.is(Kind::Get) || act.is(Kind::Ack) {
+        return at(&writer.pointed, place as usize);
+    }
+    if let Some(Seen::Whole(Reply::Standing { revoked: false })) = act.seen {
+        return at(&writer.begun, place as usize);
+    }
+    if !source.study.polls(act) {
+        return writer.events;
+    }
+    if source.study.asked_by(act) == Kind::Barrier {
+        if act.refused(Refusal::IsRevoked) {
+            return writer.events;
+        }
+        return at(&writer.pointed, place as usize);
+    }
+    if tells_end(source.study, act) {
+        return writer.events;
+    }
+    at(&writer.begun, place as usize)
 }

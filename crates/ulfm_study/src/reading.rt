@@ -28,14 +28,15 @@ fn take_line(text: &[u8], number: u32) -> Result<(&[u8], &[u8]), RunFault> {
         let kind = LineKind::Cut;
         return Err(RunFault::Line { number, kind });
     };
-    let kind = if line.len() > LONGEST {
-        LineKind::Long
-    } else if number > LAST_LINE {
-        LineKind::Lines
-    } else {
-        return Ok((line, rest));
-    };
-    Err(RunFault::Line { number, kind })
+    if line.len() > LONGEST {
+        let kind = LineKind::Long;
+        return Err(RunFault::Line { number, kind });
+    }
+    if number > LAST_LINE {
+        let kind = LineKind::Lines;
+        return Err(RunFault::Line { number, kind });
+    }
+    Ok((line, rest))
 }
 
 /// The log that a text is.
@@ -120,12 +121,8 @@ fn read_header_words(line: &[u8]) -> Result<(Limits, Order, Failures), LineKind>
     let ranks = read_number(ranks)?;
     let comms = read_number(comms)?;
     let rounds = read_number(rounds)?;
-    let order = read_either(order, (b"time", Order::Time), (b"ranks", Order::Ranks))?;
-    let failures = read_either(
-        failures,
-        (b"any", Failures::Any),
-        (b"logged", Failures::Logged),
-    )?;
+    let order = read_order(order)?;
+    let failures = read_failures(failures)?;
     Ok((
         Limits {
             ranks,
@@ -137,12 +134,23 @@ fn read_header_words(line: &[u8]) -> Result<(Limits, Order, Failures), LineKind>
     ))
 }
 
-/// What a word stands for that is one of two.
-fn read_either<T: Copy>(word: &[u8], one: (&[u8], T), other: (&[u8], T)) -> Result<T, LineKind> {
-    if word == one.0 {
-        Ok(one.1)
-    } else if word == other.0 {
-        Ok(other.1)
+/// `time` or `ranks`.
+fn read_order(word: &[u8]) -> Result<Order, LineKind> {
+    if word == b"time".as_slice() {
+        Ok(Order::Time)
+    } else if word == b"ranks".as_slice() {
+        Ok(Order::Ranks)
+    } else {
+        Err(LineKind::Header)
+    }
+}
+
+/// `any` or `logged`.
+fn read_failures(word: &[u8]) -> Result<Failures, LineKind> {
+    if word == b"any".as_slice() {
+        Ok(Failures::Any)
+    } else if word == b"logged".as_slice() {
+        Ok(Failures::Logged)
     } else {
         Err(LineKind::Header)
     }
