@@ -10,15 +10,25 @@ use ulfm_model::Call;
 /// A call but for its rank, which the replica knows. An agree isn't among them, since it has a flag of C's.
 #[derive(Clone, Copy)]
 pub enum Asked {
+    /// A shrink of the communicator of this number.
     Shrink { comm: u16 },
+    /// A barrier on it.
     Barrier { comm: u16 },
+    /// A poll of what is open on it.
     Poll { comm: u16 },
+    /// Its revocation.
     Revoke { comm: u16 },
+    /// Whether it is revoked.
     IsRevoked { comm: u16 },
+    /// Who of its members has failed.
     GetFailed { comm: u16 },
+    /// Its first so many failures are acknowledged.
     Ack { comm: u16, count: u16 },
+    /// All its failures are acknowledged.
     FailureAck { comm: u16 },
+    /// Who of its members is acknowledged.
     FailureGetAcked { comm: u16 },
+    /// It is given back.
     Free { comm: u16 },
 }
 
