@@ -88,20 +88,46 @@ fn go_on<R: Wait>(rt: &R, member: &mut Member, comm: u16) -> Reply {
     Ok(agreed)
 }
 
-/// Each member works, in a thread of its own: the members with what their work gave, in order.
-fn each<R: Threads + Wait + Sync, T: Send + Drop, F: Fn(&mut Member) -> T + Sync>(
+fn work_all<R: Threads + Wait + Sync>(
     rt: &R,
     all: Vec<Member>,
-    work: &F,
-) -> Result<Vec<(Member, T)>, AllocError>
-    requires { F.IsAlwaysCallable work.now }
-{
+) -> Result<Vec<(Member, Reply)>, AllocError> {
     thread::map_vec(
         rt,
         all,
         &|mut member| {
-            let given = work(&mut member);
-            (member, given)
+            let reply = agree(rt, &mut member, WORLD);
+            (member, reply)
+        },
+    )
+}
+
+fn recover_all<R: Threads + Wait + Sync>(
+    rt: &R,
+    alloc: Global,
+    all: Vec<Member>,
+) -> Result<Vec<(Member, Result<Recovery, Refusal>)>, AllocError> {
+    thread::map_vec(
+        rt,
+        all,
+        &|mut member| {
+            let recovery = recover(rt, alloc, &mut member);
+            (member, recovery)
+        },
+    )
+}
+
+fn go_on_all<R: Threads + Wait + Sync>(
+    rt: &R,
+    all: Vec<Member>,
+    comm: u16,
+) -> Result<Vec<(Member, Reply)>, AllocError> {
+    thread::map_vec(
+        rt,
+        all,
+        &|mut member| {
+            let reply = go_on(rt, &mut member, comm);
+            (member, reply)
         },
     )
 }
@@ -195,14 +221,14 @@ fn main(rt: HostRuntime) -> anyhow::Result<()> {
     let alloc = rt.alloc();
     let (mut outside, members) = vukrasp::open(alloc, LIMITS)?;
 
-    let worked = each(&rt, members, &|member| agree(&rt, member, WORLD))?;
+    let worked = work_all(&rt, members)?;
     print_work(&rt, &worked)?;
 
     // Rank 3 makes no call from here on: its member is dropped.
     let survivors = members_of(alloc, worked, Some(3))?;
     let (recovered, declared) = join(
         &rt,
-        || each(&rt, survivors, &|member| recover(&rt, alloc, member)),
+        || recover_all(&rt, alloc, survivors),
         move || outside.fail(3),
     );
     println!(rt; "rank 3 is declared failed: {declared:?}")?;
@@ -210,7 +236,7 @@ fn main(rt: HostRuntime) -> anyhow::Result<()> {
     print_recoveries(&rt, &recovered)?;
 
     let members = members_of(alloc, recovered, None)?;
-    let gone_on = each(&rt, members, &|member| go_on(&rt, member, MADE))?;
+    let gone_on = go_on_all(&rt, members, MADE)?;
     print_end(&rt, &gone_on)?;
     Ok(())
 }
