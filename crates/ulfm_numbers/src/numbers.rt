@@ -19,7 +19,7 @@ ghost use Rattle.ulfm_model.specs.History.{History, has, same_place, says};
 use crate::grids::{Grid, cell_at, new_grid, put_at};
 use crate::groups::{Group, declare_in_all, group_of, has_member, same_ranks};
 use crate::rounds::{Done, have_common, know_few};
-use crate::slots::{Slots, new_slots, number_at, put_number, put_told, told_at};
+use crate::slots::{Slots, is_told, new_slots, number_at, put_number, put_told, told_at};
 use std::alloc::{AllocError, Allocator};
 use std::collections::HashMap;
 use std::hash::{BuildHasherDefault, FoldHasher, Hash};
@@ -162,7 +162,7 @@ fn note_slot<P: Copy, A: Allocator + Copy>(
     let Some((place, slot)) = settled_by(entry) else {
         return Ok(());
     };
-    if told_at(slots, place).is_some() {
+    if is_told(slots, place) {
         return Ok(());
     }
     put_told(alloc, slots, place, number, &slot)?;
@@ -511,10 +511,9 @@ impl<P: Meld, A: Allocator + Copy + Drop> Numbers<P, A> {
         let group = group_at(&self.groups, comm);
         let begin = self.hint_of(comm, round).0;
         let open = match group.get(begin..) {
-            Some(rest) => rest.iter().position(|rank| told_at(
-                &self.slots,
-                (comm, round, *rank),
-            ).is_none()),
+            Some(rest) => rest
+                .iter()
+                .position(|rank| !is_told(&self.slots, (comm, round, *rank))),
             None => None,
         };
         match open {

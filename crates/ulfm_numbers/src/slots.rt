@@ -1,5 +1,5 @@
 //! What settles places, and when something happens at them, in cells of grids.
-ghost use Rattle.std.specs.Prelude.{◌≡◌, ◌<◌, None, OnOk, Some, if◌then◌else◌, ℕ};
+ghost use Rattle.std.specs.Prelude.{◌≡◌, ◌<◌, None, OnOk, Some, is_some, if◌then◌else◌, ℕ};
 ghost use Rattle.ulfm_model.specs.History.{same_place};
 ghost use Rattle.ulfm_numbers.specs.Cells.{counts_of, given_of, number_at, number_by, number_of, told_at, told_by};
 ghost use Rattle.ulfm_numbers.specs.Grids.{cell_at};
@@ -95,6 +95,19 @@ pub(crate) fn told_at<P: Copy, A: Allocator>(
             let given = given_of(counts, Offer::Ctx(mask));
             Some((number_of(upper, lower), Slot::Given(given)))
         }
+    }
+}
+
+/// Whether something settled a place: its cell says so, and what was offered isn't read.
+#[inline(always)]
+pub(crate) fn is_told<P: Copy, A: Allocator>(slots: &Slots<P, A>, place: RoundKey) -> bool
+    ensures { result ≡ is_some (told_at slots.now place) }
+{
+    match cell_at(&slots.cells, place, Cell::Empty) {
+        Cell::Empty => false,
+        Cell::Marked(..) => true,
+        Cell::Flag(..) => true,
+        Cell::Ctx(..) => true,
     }
 }
 
