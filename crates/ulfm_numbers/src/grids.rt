@@ -24,7 +24,7 @@ pub(crate) fn new_grid<C: Copy, A: Allocator>(alloc: A) -> Grid<C, A>
 }
 
 /// The cell at a rank of a round.
-fn in_round<C: Copy, A: Allocator>(ranks: &Vec<C, A>, rank: u16, empty: C) -> C
+pub(crate) fn in_round<C: Copy, A: Allocator>(ranks: &Vec<C, A>, rank: u16, empty: C) -> C
     ensures { result ≡ in_round empty ranks.now rank }
 {
     match ranks.get(usize::from(rank)) {
@@ -60,7 +60,7 @@ pub(crate) fn cell_at<C: Copy, A: Allocator>(grid: &Grid<C, A>, place: RoundKey,
 }
 
 /// Puts a cell at a rank of a round.
-fn put_in_round<C: Copy, A: Allocator>(
+pub(crate) fn put_in_round<C: Copy, A: Allocator>(
     ranks: &mut Vec<C, A>,
     rank: u16,
     empty: C,
