@@ -1,15 +1,16 @@
 -- What each step tells a pass.
-use Rattle.std.proofs.Common.{◌≡◌, ◌≢◌, ℕ, ◌+◌, ◌==◌, MatchBool, Bool, true, false, List, [], ◌∷◌, ◌++◌, length, Option, Some, Result, Ok, Err, refl, ap, ap₂, sym, ◌∙◌, subst, arith, length-append}
+use Rattle.std.proofs.Common.{◌≡◌, ◌≢◌, ℕ, ◌+◌, ◌<◌, ◌==◌, MatchBool, MatchResult, Bool, true, false, List, [], ◌∷◌, ◌++◌, length, Option, Some, Result, Ok, Err, refl, ap, ap₂, sym, ◌∙◌, subst, arith, length-append}
+use Rattle.std.specs.Prelude.{⊤}
 use Rattle.std.proofs.lemmas.Bool.{eq-eqb, ne_eqb}
 use mathlib.Core.List.{IsPrefix}
 use Rattle.logbook.specs.Pages.{Book}
-use Rattle.ulfm_model.specs.declared.{block.Block.{Block}, block.Wing.{Wing}, contribution.Slot.{Slot}, event.Entry.{Entry}, place.Place.{Place}}
-use Rattle.ulfm_model.specs.{Blocks.{IsBlockWithin, IsCached, IsWing}, History.{History, IsLegal}, Runs.{Did}, Words.{MayOpen, word_at}}
+use Rattle.ulfm_model.specs.declared.{block.Block.{Block}, block.Wing.{Wing}, contribution.Slot.{Slot}, event.Entry.{Entry}, limits.Limits.{Limits}, place.Place.{Place}}
+use Rattle.ulfm_model.specs.{Blocks.{IsBlockWithin, IsCached, IsWing, has_block, has_wing}, History.{History, IsLegal}, Runs.{Did}, Words.{MayOpen, word_at}}
 use Rattle.ulfm_model.proofs.{Blocks.{has_block_stays}, Histories.{slot_stays}}
 use Rattle.ulfm_words.specs.declared.{step.Last.{Last}, step.Site.{Site}, step.Step.{Step}}
-use Rattle.ulfm_words.specs.{Blocks.{Caches, IsSpread, LoadsBlock, LoadsWing, SetsWing}, Entries.{entry_of}, Pass.{caches_in, last_of}, Places.{IsWingWithin, IsWithin}, Steps.{Heard, IsView, Learns, Loads, Sets, Sight}}
+use Rattle.ulfm_words.specs.{Blocks.{Caches, IsSpread, LoadsBlock, LoadsWing, SetsWing, WasWing, standing}, Entries.{entry_of}, Pass.{caches_in, last_of}, Places.{IsWingWithin, IsWithin}, Steps.{Heard, IsView, Learns, Loads, Loses, Sets, Sight, Wins}}
 use Rattle.ulfm_words.proofs.{Standing.{caches_loaded, caches_place, caches_set, caches_wing_load, caches_wing_set}, Telling.{last_of-push}}
-use Rattle.ulfm_words.specs.Steps.{coding, view_of}
+use Rattle.ulfm_words.specs.Steps.{coding, found as found_by, view_of}
 use Rattle.ulfm_book.specs.declared.{line.Line.{Line}, line.Line.TheVariants.{Made}}
 use Rattle.ulfm_book.specs.{Logs.{IsLog, cached_in, history_in, limits_in}, Rules.{IsAddedBlock, IsAddedWing, IsBlockAdded, IsBlockFound, IsFound, IsLast, IsOfBlock, IsSpreadIn, IsWingAdded, IsWingFound, Extends, heard_of, name_of, sight_of}, Layout.{block_offset, place_offset, wing_offset}}
 use Rattle.ulfm_book.proofs.Growing.{cached_in-append, history_in-append, sees}
@@ -23,9 +24,14 @@ module _ {P : Type 0} (meld : P → P → P) (pack : P → ℕ) where
   abbrev made : Site → ℕ → Bool → Last × Bool
   made at found load = (record { at = at; word = found; load = load }, load)
 
+  -- what is so of all places, blocks or wings with this key is so of this one
+  of_one : {X : Type 0} (Within : Limits → X → Type 0) (offset : Limits → X → ℕ) (old new : List (Line P)) (x : X) (k : ℕ) (Saw : X → Type 0) → Extends meld old new → Within (limits_in old) x → k ≡ offset (limits_in old) x
+      → ((y : X) → Within (limits_in new) y → k ≡ offset (limits_in new) y → Saw y) → Saw x
+  of_one Within offset old new x k Saw s within key all = all x (subst (λ n. Within n x) (sym s.limits) within) (key ∙ ap (λ n. offset n x) (sym s.limits))
+
   -- what was found under a place's key is the place's word
   found_at : (old new : List (Line P)) (p : Place) (k found : ℕ) → Extends meld old new → IsWithin (limits_in old) p → k ≡ place_offset (limits_in old) p → IsFound pack k found new → word_at pack (history_in new) p ≡ found
-  found_at old new p k found s within key is = is p (subst (λ n. IsWithin n p) (sym s.limits) within) (key ∙ ap (λ n. place_offset n p) (sym s.limits))
+  found_at old new p k found = of_one IsWithin place_offset old new p k (λ q. word_at pack (history_in new) q ≡ found)
 
   module _ (b b' : Book) (old new : List (Line P)) (trail trail' : List (Last × Bool)) where
     -- the pass is still of these words
@@ -42,10 +48,14 @@ module _ {P : Type 0} (meld : P → P → P) (pack : P → ℕ) where
     last_is : (step : Last × Bool) → trail' ≡ trail ++ step ∷ [] → last_of trail' ≡ Some step.0
     last_is step is = ap last_of is ∙ last_of-push trail step
 
+    -- where a place, a block or a wing was looked at under this key, by this step
+    abbrev StepTells : {X : Type 0} → (Limits → X → Type 0) → (Limits → X → ℕ) → X → ℕ → Last × Bool → Type 0 → Sight P → Type 0 → Type 0
+    StepTells Within offset x k step Saw pass Told =
+        IsView meld (view_of pack pass.name pass) → Within pass.name.limits x → k ≡ offset pass.name.limits x → b' ≡ b → Saw → trail' ≡ trail ++ step ∷ [] → Told
+
     abbrev LoadTells : Place → ℕ → ℕ → Sight P → Type 0
     LoadTells p k found pass =
-        IsView meld (view_of pack pass.name pass) → IsWithin pass.name.limits p → k ≡ place_offset pass.name.limits p → b' ≡ b → Extends meld old new × IsFound pack k found new → trail' ≡ trail ++ made (Site.Place p) found true ∷ []
-        → Loads meld pack false p (view_of pack pass.name pass) (view_of pack pass.name (sight_of b' new trail'))
+        StepTells IsWithin place_offset p k (made (Site.Place p) found true) (Extends meld old new × IsFound pack k found new) pass (Loads meld pack false p (view_of pack pass.name pass) (view_of pack pass.name (sight_of b' new trail')))
 
     -- a load
     pub load_tells : (p : Place) (k found : ℕ) (pass : Sight P) → sight_of b old trail ≡ pass → LoadTells p k found pass
@@ -66,76 +76,62 @@ module _ {P : Type 0} (meld : P → P → P) (pack : P → ℕ) where
     abbrev Finds : Step → ℕ → ℕ → Line P → Type 0
     Finds s k found ask = Extends meld old new × MatchBool (found == 0) (IsLast meld ask old new × IsFound pack k s.word new) (IsFound pack k found new)
 
-    abbrev WonTells : (ℕ → Option P) → Step → ℕ → ℕ → Line P → Entry P → Sight P → Type 0
-    WonTells unpack s k found ask entry pass =
-        IsView meld (view_of pack pass.name pass) → IsWithin pass.name.limits s.place → k ≡ place_offset pass.name.limits s.place → b' ≡ b → Finds s k found ask → trail' ≡ trail ++ made (Site.Place s.place) found false ∷ []
-        → entry_of unpack s ≡ Some entry → ask ≡ Made entry → found ≡ 0 → Sets meld (coding pack unpack) false s (view_of pack pass.name pass) (Ok tt) (view_of pack pass.name (sight_of b' new trail'))
+    abbrev SetTells : (ℕ → Option P) → Step → ℕ → ℕ → Line P → Result (Unit {0}) ℕ → Sight P → Type 0
+    SetTells unpack s k found ask result pass =
+        StepTells IsWithin place_offset s.place k (made (Site.Place s.place) found false) (Finds s k found ask) pass (Sets meld (coding pack unpack) false s (view_of pack pass.name pass) result (view_of pack pass.name (sight_of b' new trail')))
 
-    -- an exchange that was won
-    pub won_tells : (unpack : ℕ → Option P) (s : Step) (k found : ℕ) (ask : Line P) (entry : Entry P) (pass : Sight P) → sight_of b old trail ≡ pass → WonTells unpack s k found ask entry pass
-    won_tells unpack s k found ask entry pass e =
-        subst (WonTells unpack s k found ask entry) e (λ of within key same finds is is_entry asks zero.
-        let won : IsLast meld ask old new × IsFound pack k s.word new = rw (eq-eqb found 0 zero) at finds.1 in
-        let stamped : trail' ≡ trail ++ made (Site.Place s.place) 0 false ∷ [] = is ∙ ap (λ n. trail ++ made (Site.Place s.place) n false ∷ []) zero in
+    -- what an exchange did to the history
+    abbrev Outcome : (ℕ → Option P) → Step → Result (Unit {0}) ℕ → Type 0
+    Outcome unpack s result = MatchResult result (λ _. Wins pack unpack false s (history_in old) (history_in new)) (λ w. Loses pack false s.place w (history_in old) (history_in new))
+
+    -- an exchange, by what it did
+    set_tells : (unpack : ℕ → Option P) (s : Step) (k found : ℕ) (ask : Line P) (result : Result (Unit {0}) ℕ) (pass : Sight P) → sight_of b old trail ≡ pass → found ≡ found_by result
+        → (IsWithin (limits_in old) s.place → k ≡ place_offset (limits_in old) s.place → Finds s k found ask → Outcome unpack s result) → SetTells unpack s k found ask result pass
+    set_tells unpack s k found ask result pass e told outcome =
+        subst (SetTells unpack s k found ask result) e (λ of within key same finds is.
         record {
           of = still same of.may_open finds.0;
-          outcome = record {
-            entry = entry;
-            is_entry = is_entry;
-            added = record {
-              before = history_in won.0.before;
-              did = others (history_in old) (history_in won.0.before) won.0.sees.history;
-              is = ap history_in won.0.is ∙ (ap (λ (line : Line P). history_in (won.0.before ++ line ∷ [])) asks ∙ history_in-append won.0.before (Made entry ∷ []));
-            };
-            stands = found_at old new s.place k s.word finds.0 within key won.1;
-          };
-          cached = finds.0.cached;
-          caches = ap caches_in stamped ∙ caches_place trail s.place 0 false;
-          steps = one_more (made (Site.Place s.place) 0 false) stamped;
-          last = last_is (made (Site.Place s.place) 0 false) stamped;
-        })
-
-    abbrev LostTells : (ℕ → Option P) → Step → ℕ → ℕ → Line P → Sight P → Type 0
-    LostTells unpack s k found ask pass =
-        IsView meld (view_of pack pass.name pass) → IsWithin pass.name.limits s.place → k ≡ place_offset pass.name.limits s.place → b' ≡ b → Finds s k found ask → trail' ≡ trail ++ made (Site.Place s.place) found false ∷ []
-        → found ≢ 0 → Sets meld (coding pack unpack) false s (view_of pack pass.name pass) (Err found) (view_of pack pass.name (sight_of b' new trail'))
-
-    -- an exchange that was lost
-    pub lost_tells : (unpack : ℕ → Option P) (s : Step) (k found : ℕ) (ask : Line P) (pass : Sight P) → sight_of b old trail ≡ pass → LostTells unpack s k found ask pass
-    lost_tells unpack s k found ask pass e =
-        subst (LostTells unpack s k found ask) e (λ of within key same finds is some.
-        let stands : IsFound pack k found new = rw (ne_eqb found 0 some) at finds.1 in
-        record {
-          of = still same of.may_open finds.0;
-          outcome = record {
-            some = omega (arith, some);
-            stands = found_at old new s.place k found finds.0 within key stands;
-            did = others (history_in old) (history_in new) finds.0.history;
-          };
+          outcome = outcome within key finds;
           cached = finds.0.cached;
           caches = ap caches_in is ∙ caches_place trail s.place found false;
           steps = one_more (made (Site.Place s.place) found false) is;
-          last = last_is (made (Site.Place s.place) found false) is;
+          last = last_is (made (Site.Place s.place) found false) is ∙ ap (λ n. Some (made (Site.Place s.place) n false).0) told;
         })
 
-    -- where a block was looked at under this key
-    abbrev BlockTells : Block → ℕ → ℕ → Bool → Type 0 → Sight P → Type 0 → Type 0
-    BlockTells block k found load Saw pass Told =
-        IsView meld (view_of pack pass.name pass) → IsBlockWithin pass.name.limits block → k ≡ block_offset pass.name.limits block → b' ≡ b → Extends meld old new × Saw → trail' ≡ trail ++ made (Site.Block block) found load ∷ [] → Told
+    -- one that was won
+    pub won_tells : (unpack : ℕ → Option P) (s : Step) (k found : ℕ) (ask : Line P) (entry : Entry P) (pass : Sight P) → sight_of b old trail ≡ pass → entry_of unpack s ≡ Some entry → ask ≡ Made entry → found ≡ 0
+        → SetTells unpack s k found ask (Ok tt) pass
+    won_tells unpack s k found ask entry pass e is_entry asks zero =
+        set_tells unpack s k found ask (Ok tt) pass e zero (λ within key finds.
+        let won : IsLast meld ask old new × IsFound pack k s.word new = rw (eq-eqb found 0 zero) at finds.1 in
+        record {
+          entry = entry;
+          is_entry = is_entry;
+          added = record {
+            before = history_in won.0.before;
+            did = others (history_in old) (history_in won.0.before) won.0.sees.history;
+            is = ap history_in won.0.is ∙ (ap (λ (line : Line P). history_in (won.0.before ++ line ∷ [])) asks ∙ history_in-append won.0.before (Made entry ∷ []));
+          };
+          stands = found_at old new s.place k s.word finds.0 within key won.1;
+        })
 
-    -- what was seen of all blocks with this key was seen of this one
-    of_block : (block : Block) (k : ℕ) (Saw : Block → Type 0) → Extends meld old new → IsBlockWithin (limits_in old) block → k ≡ block_offset (limits_in old) block → ((x : Block) → IsBlockWithin (limits_in new) x → k ≡ block_offset (limits_in new) x → Saw x) → Saw block
-    of_block block k Saw s within key all = all block (subst (λ n. IsBlockWithin n block) (sym s.limits) within) (key ∙ ap (λ n. block_offset n block) (sym s.limits))
+    -- .. and that was lost
+    pub lost_tells : (unpack : ℕ → Option P) (s : Step) (k found : ℕ) (ask : Line P) (pass : Sight P) → sight_of b old trail ≡ pass → found ≢ 0 → SetTells unpack s k found ask (Err found) pass
+    lost_tells unpack s k found ask pass e some =
+        set_tells unpack s k found ask (Err found) pass e refl (λ within key finds.
+        let stands : IsFound pack k found new = rw (ne_eqb found 0 some) at finds.1 in
+        record { some = omega (arith, some); stands = found_at old new s.place k found finds.0 within key stands; did = others (history_in old) (history_in new) finds.0.history })
 
     abbrev LoadBlockTells : Block → ℕ → ℕ → Sight P → Type 0
-    LoadBlockTells block k found pass = BlockTells block k found true (IsBlockFound meld pack k found new) pass (LoadsBlock meld pack false block found (view_of pack pass.name pass) (view_of pack pass.name (sight_of b' new trail')))
+    LoadBlockTells block k found pass =
+        StepTells IsBlockWithin block_offset block k (made (Site.Block block) found true) (Extends meld old new × IsBlockFound meld pack k found new) pass (LoadsBlock meld pack false block found (view_of pack pass.name pass) (view_of pack pass.name (sight_of b' new trail')))
 
     -- a load of a block's word
     pub load_block_tells : (block : Block) (k found : ℕ) (pass : Sight P) → sight_of b old trail ≡ pass → LoadBlockTells block k found pass
     load_block_tells block k found pass e =
         subst (LoadBlockTells block k found) e (λ of within key same looks is.
         let s = looks.0 in
-        let stands = of_block block k (λ x. IsOfBlock meld pack new x found) s within key looks.1 in
+        let stands = of_one IsBlockWithin block_offset old new block k (λ x. IsOfBlock meld pack new x found) s within key looks.1 in
         record {
           of = still same of.may_open s;
           did = others (history_in old) (history_in new) s.history;
@@ -149,50 +145,26 @@ module _ {P : Type 0} (meld : P → P → P) (pack : P → ℕ) where
         })
 
     abbrev CacheTells : Block → ℕ → ℕ → ℕ → Result (Unit {0}) ℕ → Sight P → Type 0
-    CacheTells block k word found result pass = BlockTells block k found false (IsBlockAdded k word found old new) pass (Caches meld false block word (view_of pack pass.name pass) result (view_of pack pass.name (sight_of b' new trail')))
+    CacheTells block k word found result pass =
+        StepTells IsBlockWithin block_offset block k (made (Site.Block block) found false) (Extends meld old new × IsBlockAdded k word found old new) pass (Caches meld false block word (view_of pack pass.name pass) result (view_of pack pass.name (sight_of b' new trail')))
 
-    -- an exchange of a block's word that was won
-    pub cache_won_tells : (block : Block) (k word found : ℕ) (pass : Sight P) → sight_of b old trail ≡ pass → found ≡ 0 → CacheTells block k word found (Ok tt) pass
-    cache_won_tells block k word found pass e zero =
-        subst (CacheTells block k word found (Ok tt)) e (λ of within key same looks is.
+    -- an exchange of a block's word
+    pub cache_tells : (block : Block) (k word found : ℕ) (result : Result (Unit {0}) ℕ) (pass : Sight P) → sight_of b old trail ≡ pass → found ≡ found_by result
+        → (IsAddedBlock word found block old new → MatchResult result (λ _. has_block (cached_in old) block ≡ false) (λ w. w ≡ word)) → CacheTells block k word found result pass
+    cache_tells block k word found result pass e told stood =
+        subst (CacheTells block k word found result) e (λ of within key same looks is.
         let s = looks.0 in
-        let added = of_block block k (λ x. IsAddedBlock word found x old new) s within key looks.1 in
+        let added = of_one IsBlockWithin block_offset old new block k (λ x. IsAddedBlock word found x old new) s within key looks.1 in
         record {
           of = still same of.may_open s;
           did = others (history_in old) (history_in new) s.history;
           cached = s.cached;
           caches = ap caches_in is ∙ caches_set trail block found;
           steps = one_more (made (Site.Block block) found false) is;
-          last = last_is (made (Site.Block block) found false) is ∙ ap (λ n. Some (made (Site.Block block) n false).0) zero;
+          last = last_is (made (Site.Block block) found false) is ∙ ap (λ n. Some (made (Site.Block block) n false).0) told;
           set = added.set;
-          stood = added.won zero;
+          stood = stood added;
         })
-
-    -- .. and that was lost
-    pub cache_lost_tells : (block : Block) (k word found : ℕ) (pass : Sight P) → sight_of b old trail ≡ pass → found ≢ 0 → CacheTells block k word found (Err found) pass
-    cache_lost_tells block k word found pass e some =
-        subst (CacheTells block k word found (Err found)) e (λ of within key same looks is.
-        let s = looks.0 in
-        let added = of_block block k (λ x. IsAddedBlock word found x old new) s within key looks.1 in
-        record {
-          of = still same of.may_open s;
-          did = others (history_in old) (history_in new) s.history;
-          cached = s.cached;
-          caches = ap caches_in is ∙ caches_set trail block found;
-          steps = one_more (made (Site.Block block) found false) is;
-          last = last_is (made (Site.Block block) found false) is;
-          set = added.set;
-          stood = added.lost some;
-        })
-
-    -- where a wing was looked at under this key
-    abbrev WingTells : Wing → ℕ → ℕ → Bool → Type 0 → Sight P → Type 0 → Type 0
-    WingTells x k word load Saw pass Told =
-        IsView meld (view_of pack pass.name pass) → IsWingWithin pass.name.limits x → k ≡ wing_offset pass.name.limits x → b' ≡ b → Extends meld old new × Saw → trail' ≡ trail ++ made (Site.Wing x) word load ∷ [] → Told
-
-    -- what was seen of all wings with this key was seen of this one
-    of_wing : (x : Wing) (k : ℕ) (Saw : Wing → Type 0) → Extends meld old new → IsWingWithin (limits_in old) x → k ≡ wing_offset (limits_in old) x → ((y : Wing) → IsWingWithin (limits_in new) y → k ≡ wing_offset (limits_in new) y → Saw y) → Saw x
-    of_wing x k Saw s within key all = all x (subst (λ n. IsWingWithin n x) (sym s.limits) within) (key ∙ ap (λ n. wing_offset n x) (sym s.limits))
 
     -- what it stands beside still stands
     still_spread : (x : Wing) → Extends meld old new → IsSpread (view_of pack (name_of b (limits_in old)) (sight_of b old trail)) x → IsSpreadIn new x
@@ -201,14 +173,14 @@ module _ {P : Type 0} (meld : P → P → P) (pack : P → ℕ) where
 
     abbrev LoadWingTells : Wing → ℕ → ℕ → Sight P → Type 0
     LoadWingTells x k found pass =
-        WingTells x k found true (IsWingFound meld pack k found new) pass (IsSpread (view_of pack pass.name pass) x → LoadsWing meld pack false x found (view_of pack pass.name pass) (view_of pack pass.name (sight_of b' new trail')))
+        StepTells IsWingWithin wing_offset x k (made (Site.Wing x) found true) (Extends meld old new × IsWingFound meld pack k found new) pass (IsSpread (view_of pack pass.name pass) x → LoadsWing meld pack false x found (view_of pack pass.name pass) (view_of pack pass.name (sight_of b' new trail')))
 
     -- a load of a wing
     pub load_wing_tells : (x : Wing) (k found : ℕ) (pass : Sight P) → sight_of b old trail ≡ pass → LoadWingTells x k found pass
     load_wing_tells x k found pass e =
         subst (LoadWingTells x k found) e (λ of within key same looks is spread.
         let s = looks.0 in
-        let stands = of_wing x k (λ y. IsSpreadIn new y → IsWing meld pack (limits_in new).ranks (history_in new) y found) s within key looks.1 in
+        let stands = of_one IsWingWithin wing_offset old new x k (λ y. IsSpreadIn new y → IsWing meld pack (limits_in new).ranks (history_in new) y found) s within key looks.1 in
         record {
           of = still same of.may_open s;
           did = others (history_in old) (history_in new) s.history;
@@ -219,45 +191,27 @@ module _ {P : Type 0} (meld : P → P → P) (pack : P → ℕ) where
           stands = subst (λ n. IsWing meld pack n.ranks (history_in new) x found) s.limits (stands (still_spread x s spread));
         })
 
-    abbrev SetWingTells : Wing → ℕ → ℕ → ℕ → ℕ → Result (Unit {0}) ℕ → Sight P → Type 0
-    SetWingTells x k word found stands result pass =
-        WingTells x k stands false (IsWingAdded k word found new) pass (SetsWing meld false x word (view_of pack pass.name pass) result (view_of pack pass.name (sight_of b' new trail')))
+    abbrev SetWingTells : Wing → ℕ → ℕ → ℕ → Result (Unit {0}) ℕ → Sight P → Type 0
+    SetWingTells x k word found result pass =
+        StepTells IsWingWithin wing_offset x k (made (Site.Wing x) (standing word result) false) (Extends meld old new × IsWingAdded k word found new) pass (SetsWing meld false x word (view_of pack pass.name pass) result (view_of pack pass.name (sight_of b' new trail')))
 
-    -- an exchange of a wing that was won
-    pub wing_won_tells : (x : Wing) (k word found : ℕ) (pass : Sight P) → sight_of b old trail ≡ pass → found ≡ 0 → SetWingTells x k word found word (Ok tt) pass
-    wing_won_tells x k word found pass e zero =
-        subst (SetWingTells x k word found word (Ok tt)) e (λ of within key same looks is.
+    -- an exchange of a wing, which has this word afterwards
+    pub set_wing_tells : (x : Wing) (k word found : ℕ) (result : Result (Unit {0}) ℕ) (pass : Sight P) → sight_of b old trail ≡ pass
+        → (IsAddedWing word found x new → (has_wing (cached_in new) x (standing word result) ≡ true) × (0 < standing word result) × MatchResult result (λ _. ⊤) (WasWing x word)) → SetWingTells x k word found result pass
+    set_wing_tells x k word found result pass e adds =
+        subst (SetWingTells x k word found result) e (λ of within key same looks is.
         let s = looks.0 in
-        let added = (of_wing x k (λ y. IsAddedWing word found y new) s within key looks.1).won zero in
+        let added = adds (of_one IsWingWithin wing_offset old new x k (λ y. IsAddedWing word found y new) s within key looks.1) in
         record {
           of = still same of.may_open s;
           did = others (history_in old) (history_in new) s.history;
           cached = s.cached;
-          caches = ap caches_in is ∙ caches_wing_set trail x word;
-          steps = one_more (made (Site.Wing x) word false) is;
-          last = last_is (made (Site.Wing x) word false) is;
+          caches = ap caches_in is ∙ caches_wing_set trail x (standing word result);
+          steps = one_more (made (Site.Wing x) (standing word result) false) is;
+          last = last_is (made (Site.Wing x) (standing word result) false) is;
           set = added.0;
           some = added.1;
-          was = tt;
-          before = λ here. tt;
-        })
-
-    -- .. and that was lost
-    pub wing_lost_tells : (x : Wing) (k word found : ℕ) (pass : Sight P) → sight_of b old trail ≡ pass → found ≢ 0 → SetWingTells x k word found found (Err found) pass
-    wing_lost_tells x k word found pass e some =
-        subst (SetWingTells x k word found found (Err found)) e (λ of within key same looks is.
-        let s = looks.0 in
-        let added = (of_wing x k (λ y. IsAddedWing word found y new) s within key looks.1).lost some in
-        record {
-          of = still same of.may_open s;
-          did = others (history_in old) (history_in new) s.history;
-          cached = s.cached;
-          caches = ap caches_in is ∙ caches_wing_set trail x found;
-          steps = one_more (made (Site.Wing x) found false) is;
-          last = last_is (made (Site.Wing x) found false) is;
-          set = added.0;
-          some = omega (arith, some);
-          was = added.1;
+          was = added.2;
           before = λ here. absurd (cc here);
         })
 

@@ -1,5 +1,5 @@
 //! What one caller has seen of shared words, the atomic steps that it makes from there, and what it tells another.
-ghost use Rattle.std.specs.Prelude.{◌≡◌, ◌%◌, ◌^◌, [], false};
+ghost use Rattle.std.specs.Prelude.{◌≡◌, ◌%◌, ◌^◌, ◌++◌, ◌∷◌, [], false};
 ghost use Rattle.ulfm_model.specs.Blocks.{IsBlock, IsBlockWithin};
 ghost use Rattle.ulfm_model.specs.History.{IsLegal};
 ghost use Rattle.ulfm_model.specs.Words.{word_at};
@@ -58,6 +58,15 @@ impl<P: Packed> Model for BookTold<P> {
     ghost invariant = { λ t. IsLog P.meld t.seen.log };
 }
 
+// The steps so far, and one more.
+#[inline(always)]
+fn stamped(trail: &Trail, at: Site, word: u64, load: bool) -> Trail
+    ensures { result.log.items ≡ trail.now.log.items ++ (record { at = at; word = word; load = load }, load) ∷ [] }
+{
+    let last = Last { at, word, load };
+    trail.and(&last, &load)
+}
+
 impl<P: Packed> BookPass<P> {
     // A pass that goes on from here.
     pub(crate) fn new(start: &Seen<Line<P>, u64, Law<P>>) -> BookPass<P>
@@ -88,13 +97,7 @@ impl<P: Packed> BookPass<P> {
             .seen
             .plain::<Nothing, Step, Add<P>>(&nothing);
         let found = word.load::<Look<P>, Nothing>(&mut self.seen, &mut offer);
-        let load = true;
-        let last = Last {
-            at: Site::Place(place),
-            word: found,
-            load,
-        };
-        self.trail = self.trail.and(&last, &load);
+        self.trail = stamped(&self.trail, Site::Place(place), found, true);
         found
     }
 
@@ -122,13 +125,7 @@ impl<P: Packed> BookPass<P> {
             &mut offer,
             &mut pen,
         );
-        let load = false;
-        let last = Last {
-            at: Site::Place(step.place),
-            word: found,
-            load,
-        };
-        self.trail = self.trail.and(&last, &load);
+        self.trail = stamped(&self.trail, Site::Place(step.place), found, false);
         if found == 0 { Ok(()) } else { Err(found) }
     }
 
@@ -143,13 +140,7 @@ impl<P: Packed> BookPass<P> {
             .seen
             .plain::<Nothing, Block, AddBlock<P>>(&block);
         let found = word.load::<LookBlock<P>, Nothing>(&mut self.seen, &mut offer);
-        let is_load = true;
-        let last = Last {
-            at: Site::Block(block),
-            word: found,
-            load: is_load,
-        };
-        self.trail = self.trail.and(&last, &is_load);
+        self.trail = stamped(&self.trail, Site::Block(block), found, true);
         found
     }
 
@@ -178,13 +169,7 @@ impl<P: Packed> BookPass<P> {
             &mut offer,
             &mut pen,
         );
-        let is_load = false;
-        let last = Last {
-            at: Site::Block(block),
-            word: stood,
-            load: is_load,
-        };
-        self.trail = self.trail.and(&last, &is_load);
+        self.trail = stamped(&self.trail, Site::Block(block), stood, false);
         if stood == 0 { Ok(()) } else { Err(stood) }
     }
 
@@ -200,13 +185,7 @@ impl<P: Packed> BookPass<P> {
             .seen
             .plain::<Nothing, Wing, LookWing<P>>(&wing);
         let found = word.load::<LookWing<P>, Nothing>(&mut self.seen, &mut offer);
-        let loads = true;
-        let last = Last {
-            at: Site::Wing(wing),
-            word: found,
-            load: loads,
-        };
-        self.trail = self.trail.and(&last, &loads);
+        self.trail = stamped(&self.trail, Site::Wing(wing), found, true);
         found
     }
 
@@ -236,13 +215,7 @@ impl<P: Packed> BookPass<P> {
             &mut pen,
         );
         let stands = if before == 0 { upper } else { before };
-        let loads = false;
-        let last = Last {
-            at: Site::Wing(wing),
-            word: stands,
-            load: loads,
-        };
-        self.trail = self.trail.and(&last, &loads);
+        self.trail = stamped(&self.trail, Site::Wing(wing), stands, false);
         if before == 0 { Ok(()) } else { Err(before) }
     }
 

@@ -56,64 +56,28 @@ impl<P: Packed> ReadRound<P> {
             (running self.new (view_of P.pack (W.name words.now) (W.sight pass.new))) }
         ensures further { MatchBool result (halves_read self.old < halves_read self.new) (self.new ≡ self.old) }
     {
-        match self.first {
-            None => self.load(words, pass, group),
-            Some(first) => self.load_rest(words, pass, group, first),
-        }
-    }
-
-    // One load, of the next member's place.
-    #[inline(always)]
-    fn load<A: Allocator, W: Words<P, A>>(
-        &mut self,
-        words: &W,
-        pass: &mut W::Pass,
-        group: &[u16],
-    ) -> bool
-        requires may { MayReadRound P.meld group.now (running self.old (view_of P.pack (W.name words.now) (W.sight pass.old))) }
-        requires more { self.old.read < length group.now }
-        requires none { self.old.first ≡ None }
-        ensures reads { ReadsRound P.meld W.alone false group.now (running self.old (view_of P.pack (W.name words.now) (W.sight pass.old))) result
-            (running self.new (view_of P.pack (W.name words.now) (W.sight pass.new))) }
-        ensures further { MatchBool result (halves_read self.old < halves_read self.new) (self.new ≡ self.old) }
-    {
         let rank = group[self.read];
-        match load_slot(words, pass, self.comm, self.round, rank) {
-            Found::Nothing => false,
-            Found::Marked(said) => {
+        match self.first {
+            None => match load_slot(words, pass, self.comm, self.round, rank) {
+                Found::Nothing => false,
+                Found::Marked(said) => {
+                    self.all = self.all.meld(&said);
+                    self.read += 1;
+                    true
+                }
+                Found::First(word) => {
+                    self.first = Some(word);
+                    true
+                }
+            },
+            Some(first) => {
+                let said = load_rest(words, pass, self.comm, self.round, rank, first);
                 self.all = self.all.meld(&said);
                 self.read += 1;
-                true
-            }
-            Found::First(word) => {
-                self.first = Some(word);
+                self.first = None;
                 true
             }
         }
-    }
-
-    // One load, of the wing of the next member's contribution.
-    #[inline(always)]
-    fn load_rest<A: Allocator, W: Words<P, A>>(
-        &mut self,
-        words: &W,
-        pass: &mut W::Pass,
-        group: &[u16],
-        first: u64,
-    ) -> bool
-        requires may { MayReadRound P.meld group.now (running self.old (view_of P.pack (W.name words.now) (W.sight pass.old))) }
-        requires more { self.old.read < length group.now }
-        requires some { self.old.first ≡ Some first }
-        ensures reads { ReadsRound P.meld W.alone false group.now (running self.old (view_of P.pack (W.name words.now) (W.sight pass.old))) result
-            (running self.new (view_of P.pack (W.name words.now) (W.sight pass.new))) }
-        ensures further { MatchBool result (halves_read self.old < halves_read self.new) (self.new ≡ self.old) }
-    {
-        let rank = group[self.read];
-        let said = load_rest(words, pass, self.comm, self.round, rank, first);
-        self.all = self.all.meld(&said);
-        self.read += 1;
-        self.first = None;
-        true
     }
 
     /// One load; or, where the whole reading is made at once, all that are left. Whether each member that was loaded is settled.

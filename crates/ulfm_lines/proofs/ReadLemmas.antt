@@ -3,10 +3,9 @@ use Rattle.std.proofs.Common.{◌≡◌, ℕ, ◌≤◌, List, [], ◌∷◌, �
 use Rattle.std.specs.{Prelude.{codes}, Fmt.{decimal}}
 use Rattle.ulfm_model.specs.declared.reply.Reply.TheVariants as reply
 use Rattle.ulfm_script.specs.declared.line_kind.LineKind.{LineKind}
-use Rattle.ulfm_script.specs.{Printed.{ranks_text, reply_text, shrunk_text}, Calls.{ScriptCall, call_of}, Spelling.{SpellsAs, is_padded, spelled_text}, Steps.{◌>>=◌}}
-use Rattle.ulfm_model.specs.declared.event.Caller.{Caller}
+use Rattle.ulfm_script.specs.{Printed.{ranks_text, reply_text, shrunk_text}, Spelling.{SpellsAs, spelled_text}, Steps.{◌>>=◌}}
 use Rattle.ulfm_script.proofs.Spelled.{spelled_as}
-use Rattle.ulfm_lines.specs.{Fields.{Field, is_word_text}, LineReading.{SomeReply, called_line, happened, happened_line, line_from, line_head, line_listing, looked, looked_line}, LineTexts.{TraceEvent, TraceLine, caller_text, event_text, line_text}, Telling.{LineFits, ListsRanks, TextTells, TellsLine, TellsReply}}
+use Rattle.ulfm_lines.specs.{Fields.{Field, is_word_text}, LineReading.{SomeReply, line_from, line_head, line_listing}, LineTexts.{TraceLine, caller_text, event_text, line_text}, Telling.{LineFits, ListsRanks, TextTells, TellsLine, TellsReply}}
 use Rattle.ulfm_model.specs.declared.line.Line.TheVariants.{Called, Looked, Happened, Replied}
 use Rattle.ulfm_lines.proofs.{Beginnings.{line_ahead}, FieldLemmas.{same_field}, LineLemmas.{line_again, line_found}, RankLemmas.{ranks_few, ranks_once}}
 
@@ -121,18 +120,6 @@ few_read text group head rest read is is_head lists short = few_ranks text group
 pub none_read : (text group : List ℕ) (head : TraceLine) (rest : Option (List ℕ)) (read : Bool) → read ≡ false → line_head text ≡ Ok (head, rest) → ListsRanks rest group read → (told : TraceLine) (ranks : List ℕ) → TextTells text ranks told → ⊥
 none_read text group head rest read is is_head lists told ranks tells = no_ranks text group head rest told ranks is_head (subst (ListsRanks rest group) is lists) tells
 
--- what stands behind the verb of a look, of a call's beginning and of an event
-pub looked_behind : (fields : List ℕ) (read : Result (ℕ × ℕ) LineKind) → read ≡ looked (Some fields)
-    → line_from (codes "look", Some fields) ≡ (read >>= λ x. Ok (Looked x.0 x.1, None))
-unfolding looked_line
-looked_behind fields read is = ap (λ (r : Result (ℕ × ℕ) LineKind). r >>= λ x. Ok (Looked x.0 x.1, None)) (sym is)
-
-pub called_behind : (text : List ℕ) (read : Result ScriptCall LineKind) → read ≡ call_of text
-    → line_from (codes "call", Some text) ≡ (read >>= λ asked. Ok (Called asked (is_padded text asked), None))
-unfolding called_line
-called_behind text read is = ap (λ (r : Result ScriptCall LineKind). r >>= λ asked. Ok (Called asked (is_padded text asked), None)) (sym is)
-
-pub happened_behind : (fields : List ℕ) (read : Result (Caller × Option TraceEvent) LineKind) → read ≡ happened (Some fields)
-    → line_from (codes "event", Some fields) ≡ (read >>= λ x. Ok (Happened x.0 x.1, None))
-unfolding happened_line
-happened_behind fields read is = ap (λ (r : Result (Caller × Option TraceEvent) LineKind). r >>= λ x. Ok (Happened x.0 x.1, None)) (sym is)
+-- a step goes on with what was read
+pub goes_on : {A B : Type 0} (read of_text : Result A LineKind) (next : A → Result B LineKind) → read ≡ of_text → (of_text >>= next) ≡ (read >>= next)
+goes_on read of_text next is = ap (λ r. r >>= next) (sym is)

@@ -10,11 +10,10 @@ use Rattle.ulfm_script.specs.declared.line_kind.LineKind.{LineKind}
 use Rattle.ulfm_script.specs.declared.line_kind.LineKind.TheVariants.{Words}
 use Rattle.ulfm_script.specs.{Calls.{call_of}, Printed.{reply_text}, Spelling.{is_padded}, Steps.{◌>>=◌}, Words.{by_verb, next_word, first_word}}
 use Rattle.ulfm_lines.specs.EventReading.{ReadEvent, event_of}
-use Rattle.ulfm_lines.specs.LineTexts.{TraceEvent}
 use Rattle.ulfm_model.specs.declared.event.Caller.{Caller}
 use Rattle.ulfm_lines.specs.Fields.{Field, both, caller_field, comm_field, error_field, flag_field, label_field, labelled, number_field, over}
 use Rattle.ulfm_lines.specs.Fields.{point_field, rank_field, whole}
-use Rattle.ulfm_lines.specs.LineTexts.{TraceLine}
+use Rattle.ulfm_lines.specs.LineTexts.{TraceEvent, TraceLine}
 use Rattle.ulfm_model.specs.declared.line.Line.TheVariants.{Called, Looked, Happened, Replied}
 
 -- a reply, or none where it tells a context id that no communicator has
