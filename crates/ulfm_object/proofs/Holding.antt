@@ -19,3 +19,8 @@ pub same_reply : {P : Type 0} (meld : P → P → P) (limits : Limits) (h : Hist
     → (reply : Reply P) → reply ≡ replied meld limits h (record { look = failures h; history = after; own = events; spread = false }) own x asked
     → reply ≡ replied meld limits h (record { look = failures h; history = h ++ entries_by (Rank own.number) events; own = events; spread = false }) own x asked
 same_reply meld limits h own x asked after events after_is reply reply_is = subst (λ w. reply ≡ replied meld limits h (record { look = failures h; history = w; own = events; spread = false }) own x asked) after_is reply_is
+
+-- what holds of a round holds of it by the names that it was made of
+pub same_round : {P : Type 0} (Q : Limits → History P → ℕ → ℕ → Type 0) {limits limits' : Limits} {h h' : History P} {c c' k k' : ℕ} → limits ≡ limits' → h ≡ h' → c ≡ c' → k ≡ k' → Q limits h c k → Q limits' h' c' k'
+same_round Q {limits} {limits'} {h} {h'} {c} {c'} {k} {k'} limits_is history_is comm_is number_is of =
+    subst (Q limits' h' c') number_is (subst (λ d. Q limits' h' d k) comm_is (subst (λ g. Q limits' g c k) history_is (subst (λ l. Q l h c k) limits_is of)))

@@ -6,19 +6,17 @@ ghost use Rattle.ulfm_model.specs.History.{entries_by};
 ghost use Rattle.ulfm_model.specs.Kept.{record_of};
 ghost use Rattle.ulfm_model.specs.declared.call.Request.TheVariants.{Shrink};
 
+use crate::asked::{Asked, Round};
 use std::alloc::{AllocError, Allocator};
 use ulfm_laws::meld::Meld;
 use ulfm_laws::summary::{Acked, Body, Known};
 use ulfm_model::call::{Call, Request};
 use ulfm_model::contribution::{Contribution, MarkCount, Offer};
-use ulfm_model::decide::{decision, is_decided};
 use ulfm_model::event::{Caller, Entry, Event};
 use ulfm_model::groups::{count_failed, failed};
 use ulfm_model::held::HeldComm;
 use ulfm_model::ids::free_ids;
-use ulfm_model::limits::Limits;
 use ulfm_model::reads::{count_made, has_arrived, has_rank, is_made, is_revoked, slot};
-use ulfm_model::record::RankRecord;
 
 /// A count of failures, at most 1024.
 fn known_at(count: usize) -> Known
@@ -81,21 +79,15 @@ fn settle_of<P: Copy, A: Allocator + Copy + Drop>(
 }
 
 /// The mark of a member that is declared as the n-th, where its place is empty.
-fn mark_of<P: Copy>(
-    history: &[Entry<P>],
-    comm: u16,
-    round: u16,
-    n: usize,
-    rank: u16,
-) -> Option<Event<P>>
-    ensures { result ≡ mark_of history.now comm round (n, rank) }
+fn mark_of<P: Copy, A: Allocator>(round: &Round<P, A>, n: usize, rank: u16) -> Option<Event<P>>
+    ensures { result ≡ mark_of round.now.history.now round.now.comm round.now.number (n, rank) }
 {
-    if slot(history, comm, round, rank).is_some() {
+    if slot(round.history, round.comm, round.number, rank).is_some() {
         return None;
     }
     Some(Event::Mark {
-        comm,
-        round,
+        comm: round.comm,
+        round: round.number,
         rank,
         known: mark_at(n),
     })
@@ -103,18 +95,14 @@ fn mark_of<P: Copy>(
 
 /// The marks of all unsettled declared members of a round, in the order of their failures.
 fn marks_of<P: Copy, A: Allocator + Copy + Drop>(
-    alloc: A,
-    ranks: u16,
-    history: &[Entry<P>],
-    comm: u16,
-    round: u16,
+    round: &Round<P, A>,
 ) -> Result<Vec<Event<P>, A>, AllocError>
-    ensures { IfOk result (λ events. events.items ≡ marks_of ranks history.now comm round) }
+    ensures { IfOk result (λ events. events.items ≡ marks_of round.now.limits.ranks round.now.history.now round.now.comm round.now.number) }
 {
-    let failed = failed(alloc, ranks, history, comm)?;
-    let mut marks = Vec::new(alloc);
+    let failed = failed(round.alloc, round.limits.ranks, round.history, round.comm)?;
+    let mut marks = Vec::new(round.alloc);
     for (i, rank) in failed.iter().enumerate() {
-        if let Some(mark) = mark_of(history, comm, round, i + 1, *rank) {
+        if let Some(mark) = mark_of(round, i + 1, *rank) {
             marks.push(mark)?;
         }
     }
@@ -133,35 +121,32 @@ fn is_free_mask<P: Copy>(body: Body<P>) -> bool
 
 /// The communicator that a rank makes of a round, if it makes one.
 fn spawn_of<P: Meld, A: Allocator + Copy + Drop>(
-    alloc: A,
-    limits: Limits,
-    history: &[Entry<P>],
+    round: &Round<P, A>,
     rank: u16,
-    comm: u16,
-    round: u16,
 ) -> Result<Option<Event<P>>, AllocError>
-    ensures { IfOk result (λ spawn. cons_option spawn [] ≡ spawn_of P.meld limits history.now rank comm round) }
+    ensures { IfOk result (λ spawn. cons_option spawn []
+        ≡ spawn_of P.meld round.now.limits round.now.history.now rank round.now.comm round.now.number) }
 {
-    let made = count_made(history);
-    if !is_decided(alloc, limits.ranks, history, comm, round)?
-        || is_made(history, comm, round)
-        || made >= usize::from(limits.comms).saturating_sub(1)
+    let made = count_made(round.history);
+    if !round.is_decided()?
+        || is_made(round.history, round.comm, round.number)
+        || made >= usize::from(round.limits.comms).saturating_sub(1)
     {
         return Ok(None);
     }
-    let decided = decision(alloc, limits.ranks, history, comm, round)?;
+    let decided = round.decision()?;
     if !is_free_mask(decided.body) || has_rank(&decided.failed, rank) {
         return Ok(None);
     }
     Ok(Some(Event::Spawn {
         comm: made as u16 + 1,
-        parent: comm,
-        round,
+        parent: round.comm,
+        round: round.number,
     }))
 }
 
 /// A history with some events in the name of one caller.
-pub fn extended<P: Copy, A: Allocator + Copy + Drop>(
+pub(crate) fn extended<P: Copy, A: Allocator + Copy + Drop>(
     alloc: A,
     history: &[Entry<P>],
     by: Caller,
@@ -178,40 +163,45 @@ pub fn extended<P: Copy, A: Allocator + Copy + Drop>(
 
 /// What the poll of a shrink adds: marks, and the communicator that is made then.
 fn added_by_shrink<P: Meld, A: Allocator + Copy + Drop>(
-    alloc: A,
-    limits: Limits,
-    history: &[Entry<P>],
+    round: &Round<P, A>,
     rank: u16,
-    comm: u16,
-    round: u16,
 ) -> Result<Vec<Event<P>, A>, AllocError>
-    ensures { IfOk result (λ events. events.items ≡ added_by_poll P.meld limits history.now rank comm (Some (Shrink round))) }
+    ensures { IfOk result (λ events. events.items
+        ≡ added_by_poll P.meld round.now.limits round.now.history.now rank round.now.comm (Some (Shrink round.now.number))) }
 {
-    let mut events = marks_of(alloc, limits.ranks, history, comm, round)?;
-    let marked = extended(alloc, history, Caller::Rank(rank), &events)?;
-    if let Some(spawn) = spawn_of(alloc, limits, &marked, rank, comm, round)? {
+    let mut events = marks_of(round)?;
+    let history = extended(round.alloc, round.history, Caller::Rank(rank), &events)?;
+    let marked = Round {
+        alloc: round.alloc,
+        limits: round.limits,
+        history: &history,
+        comm: round.comm,
+        number: round.number,
+    };
+    if let Some(spawn) = spawn_of(&marked, rank)? {
         events.push(spawn)?;
     }
     Ok(events)
 }
 
-/// What the poll of a request adds.
+/// What the poll of a communicator adds, on which this request is open.
 fn added_by_poll<P: Meld, A: Allocator + Copy + Drop>(
-    alloc: A,
-    limits: Limits,
-    history: &[Entry<P>],
-    rank: u16,
-    comm: u16,
+    asked: &Asked<P, A>,
+    x: &HeldComm<A>,
     request: Option<Request>,
 ) -> Result<Vec<Event<P>, A>, AllocError>
-    ensures { IfOk result (λ events. events.items ≡ added_by_poll P.meld limits history.now rank comm request) }
+    ensures { IfOk result (λ events. events.items
+        ≡ added_by_poll P.meld asked.now.limits asked.now.history.now asked.now.own.now.number x.now.comm request) }
 {
+    let Some(request) = request else {
+        return Ok(Vec::new(asked.alloc));
+    };
     match request {
-        Some(Request::Agree { round }) => marks_of(alloc, limits.ranks, history, comm, round),
-        Some(Request::Shrink { round }) => {
-            added_by_shrink(alloc, limits, history, rank, comm, round)
+        Request::Agree { round } => marks_of(&asked.round(asked.history, x, round)),
+        Request::Shrink { round } => {
+            added_by_shrink(&asked.round(asked.history, x, round), asked.own.number)
         }
-        _ => Ok(Vec::new(alloc)),
+        Request::Barrier { .. } => Ok(Vec::new(asked.alloc)),
     }
 }
 
@@ -231,21 +221,20 @@ fn unless<P: Copy, A: Allocator + Copy + Drop>(
 }
 
 /// What a call adds that the record doesn't refuse.
-pub fn added<P: Meld, A: Allocator + Copy + Drop>(
-    alloc: A,
-    limits: Limits,
-    history: &[Entry<P>],
-    own: &RankRecord<A>,
+pub(crate) fn added<P: Meld, A: Allocator + Copy + Drop>(
+    asked: &Asked<P, A>,
     x: &HeldComm<A>,
-    asked: &Call<P>,
 ) -> Result<Vec<Event<P>, A>, AllocError>
-    ensures { IfOk result (λ events. events.items ≡ added P.meld limits history.now (record_of limits own.now) x.now asked.now) }
+    ensures { let own = record_of asked.now.limits asked.now.own.now in
+        IfOk result (λ events. events.items ≡ added P.meld asked.now.limits asked.now.history.now own x.now asked.now.call.now) }
 {
-    let rank = own.number;
-    match *asked {
+    let alloc = asked.alloc;
+    let history = asked.history;
+    let rank = asked.own.number;
+    match *asked.call {
         Call::Agree { value, .. } => settle_of(alloc, history, rank, x, Offer::Flag(value)),
         Call::Shrink { .. } => {
-            let mask = free_ids(&own.held);
+            let mask = free_ids(&asked.own.held);
             settle_of(alloc, history, rank, x, Offer::Ctx(mask))
         }
         Call::Barrier { .. } => {
@@ -257,7 +246,7 @@ pub fn added<P: Meld, A: Allocator + Copy + Drop>(
             };
             unless(alloc, arrived, event)
         }
-        Call::Poll { .. } => added_by_poll(alloc, limits, history, rank, x.comm, x.request),
+        Call::Poll { .. } => added_by_poll(asked, x, x.request),
         Call::Revoke { comm, .. } => {
             let revoked = is_revoked(history, comm);
             unless(alloc, revoked, Event::Revoke { comm })

@@ -3,6 +3,7 @@
 #![tactic(auto)]
 
 mod adds;
+mod asked;
 mod leaves;
 pub mod object;
 pub mod object_machine;

@@ -14,6 +14,7 @@ ghost use Rattle.ulfm_model.specs.Kept.{record_of};
 ghost use Rattle.ulfm_model.specs.declared.event.Caller.TheVariants.{Rank};
 ghost use Rattle.ulfm_model.specs.declared.limits.OpenFault.TheVariants.{OutOfMemory};
 
+use crate::asked::Asked;
 use crate::leaves::leave;
 use crate::outcome::outcome_of;
 use std::alloc::{AllocError, Allocator};
@@ -94,7 +95,13 @@ fn answer_in_use<P: Meld, A: Allocator + Copy + Drop>(
     ensures err { OnErr result ((log.new.items ≡ log.old.items) × (record_of limits own.new ≡ record_of limits own.old)) }
 {
     let seen = failures(alloc, log)?;
-    let outcome = outcome_of(alloc, limits, log, own, asked)?;
+    let outcome = outcome_of(&Asked {
+        alloc,
+        limits,
+        history: log,
+        own,
+        call: asked,
+    })?;
     let reply = outcome.reply;
     leave(alloc, limits, &outcome.after, own, seen, asked, reply)?;
     *log = outcome.after;

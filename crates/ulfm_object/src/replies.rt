@@ -10,19 +10,18 @@ ghost use Rattle.ulfm_model.specs.Kept.{record_of};
 ghost use Rattle.ulfm_model.specs.declared.event.Event.{Event};
 ghost use Rattle.ulfm_model.specs.declared.reply.Reply.TheVariants.{Pending};
 
+use crate::asked::{Asked, Round};
 use std::alloc::{AllocError, Allocator};
 use ulfm_laws::meld::Meld;
 use ulfm_laws::summary::{Body, CtxMask};
 use ulfm_model::call::{Call, MOST_FAILURES, Request};
 use ulfm_model::contribution::Slot;
-use ulfm_model::decide::{Decided, decision, is_decided};
+use ulfm_model::decide::Decided;
 use ulfm_model::event::Entry;
 use ulfm_model::groups::{failed, failed_among, members};
 use ulfm_model::held::HeldComm;
 use ulfm_model::ids::lowest_id;
-use ulfm_model::limits::Limits;
 use ulfm_model::reads::{has_arrived, has_rank, is_revoked, place_made, slot};
-use ulfm_model::record::RankRecord;
 use ulfm_model::refusal::Refusal;
 use ulfm_model::reply::Reply;
 
@@ -54,23 +53,19 @@ fn agree_reply<P: Meld, A: Allocator>(made: &Decided<P, A>) -> Reply<P>
 
 /// The reply of a shrink's poll that found these ids free, and its rank not left out.
 fn shrunk_reply<P: Copy, A: Allocator + Copy + Drop>(
-    alloc: A,
-    ranks: u16,
-    history: &[Entry<P>],
-    comm: u16,
-    round: u16,
+    round: &Round<P, A>,
     mask: CtxMask,
 ) -> Result<Reply<P>, AllocError>
-    requires few { IsFew history.now }
+    requires few { IsFew round.now.history.now }
     requires ids { 0 < mask.bits }
-    ensures { let place = position_from (λ of. (of.0 == comm) && (of.1 == round)) 0 (spawns history.now) in
-        IfOk result (λ reply. reply ≡ shrunk_reply ranks history.now mask.bits place) }
+    ensures { let place = position_from (λ of. (of.0 == round.now.comm) && (of.1 == round.now.number)) 0 (spawns round.now.history.now) in
+        IfOk result (λ reply. reply ≡ shrunk_reply round.now.limits.ranks round.now.history.now mask.bits place) }
 {
-    let Some(place) = place_made(history, comm, round) else {
+    let Some(place) = place_made(round.history, round.comm, round.number) else {
         return Ok(Reply::Refused(Refusal::NoRoom));
     };
     let made = place as u16 + 1;
-    let group = members(alloc, ranks, history, made)?;
+    let group = members(round.alloc, round.limits.ranks, round.history, made)?;
     Ok(Reply::Shrunk {
         comm: made,
         context: lowest_id(mask),
@@ -80,21 +75,19 @@ fn shrunk_reply<P: Copy, A: Allocator + Copy + Drop>(
 
 /// The reply of a decided shrink.
 fn shrink_reply<P: Meld, A: Allocator + Copy + Drop>(
-    alloc: A,
-    ranks: u16,
-    history: &[Entry<P>],
+    round: &Round<P, A>,
     rank: u16,
-    comm: u16,
-    round: u16,
     made: &Decided<P, A>,
 ) -> Result<Reply<P>, AllocError>
-    requires { IsFew history.now }
-    ensures { IfOk result (λ reply. reply ≡ shrink_reply ranks history.now rank comm round (decision_of made.now) made.now.body) }
+    requires { IsFew round.now.history.now }
+    ensures { let decided = decision_of made.now in
+        IfOk result (λ reply. reply
+        ≡ shrink_reply round.now.limits.ranks round.now.history.now rank round.now.comm round.now.number decided made.now.body) }
 {
     match made.body {
         Body::Ctx(mask) if mask.bits == 0 => Ok(Reply::Refused(Refusal::NoContext)),
         Body::Ctx(_) if has_rank(&made.failed, rank) => Ok(Reply::Refused(Refusal::SelfFailed)),
-        Body::Ctx(mask) => shrunk_reply(alloc, ranks, history, comm, round, mask),
+        Body::Ctx(mask) => shrunk_reply(round, mask),
         _ => Ok(Reply::Refused(Refusal::Mismatch)),
     }
 }
@@ -109,23 +102,23 @@ fn have_arrived<P: Copy>(group: &[u16], history: &[Entry<P>], comm: u16, round: 
 }
 
 /// The reply of a barrier's poll; its look is at the history before.
-fn barrier_poll<P: Copy, A: Allocator + Copy + Drop>(
-    alloc: A,
-    before: &[Entry<P>],
-    after: &[Entry<P>],
+fn barrier_poll<P: Meld, A: Allocator + Copy + Drop>(
+    asked: &Asked<P, A>,
     x: &HeldComm<A>,
-    round: u16,
+    round: &Round<P, A>,
 ) -> Result<Reply<P>, AllocError>
-    ensures { (events : List (Event P)) → IfOk result (λ reply. reply ≡ barrier_reply (view_after before.now after.now events) x.now round) }
+    ensures { (events : List (Event P)) → let view = view_after asked.now.history.now round.now.history.now events in
+        IfOk result (λ reply. reply ≡ barrier_reply view x.now round.now.number) }
 {
+    let after = round.history;
     if is_revoked(after, x.comm) {
         return Ok(Reply::Refused(Refusal::IsRevoked));
     }
-    if have_arrived(&x.group, after, x.comm, round) {
+    if have_arrived(&x.group, after, x.comm, round.number) {
         return Ok(Reply::Done);
     }
-    let failed = failed_among(alloc, &x.group, before)?;
-    if !have_arrived(&failed, after, x.comm, round) {
+    let failed = failed_among(asked.alloc, &x.group, asked.history)?;
+    if !have_arrived(&failed, after, x.comm, round.number) {
         return Ok(Reply::Refused(Refusal::ProcFailed));
     }
     Ok(Reply::Pending)
@@ -133,82 +126,67 @@ fn barrier_poll<P: Copy, A: Allocator + Copy + Drop>(
 
 /// The reply of an agree's poll, by the history after its marks.
 fn agree_poll<P: Meld, A: Allocator + Copy + Drop>(
-    alloc: A,
-    ranks: u16,
-    history: &[Entry<P>],
-    comm: u16,
-    round: u16,
+    round: &Round<P, A>,
 ) -> Result<Reply<P>, AllocError>
-    requires { IsFew history.now }
-    ensures { let made = decision P.meld ranks history.now comm round in
-        IfOk result (λ reply. reply ≡ (if is_decided ranks history.now comm round then agree_reply made made.body else Pending)) }
+    requires { IsFew round.now.history.now }
+    ensures { let made = decision P.meld round.now.limits.ranks round.now.history.now round.now.comm round.now.number in
+        let decided = is_decided round.now.limits.ranks round.now.history.now round.now.comm round.now.number in
+        IfOk result (λ reply. reply ≡ (if decided then agree_reply made made.body else Pending)) }
 {
-    if !is_decided(alloc, ranks, history, comm, round)? {
+    if !round.is_decided()? {
         return Ok(Reply::Pending);
     }
-    let made = decision(alloc, ranks, history, comm, round)?;
-    Ok(agree_reply(&made))
+    Ok(agree_reply(&round.decision()?))
 }
 
 /// The reply of a shrink's poll, by the history after its marks and its spawn.
 fn shrink_poll<P: Meld, A: Allocator + Copy + Drop>(
-    alloc: A,
-    ranks: u16,
-    history: &[Entry<P>],
+    round: &Round<P, A>,
     rank: u16,
-    comm: u16,
-    round: u16,
 ) -> Result<Reply<P>, AllocError>
-    requires { IsFew history.now }
-    ensures { let made = decision P.meld ranks history.now comm round in
-        IfOk result (λ reply. reply ≡ (if is_decided ranks history.now comm round then shrink_reply ranks history.now rank comm round made made.body
-        else Pending)) }
+    requires { IsFew round.now.history.now }
+    ensures { let made = decision P.meld round.now.limits.ranks round.now.history.now round.now.comm round.now.number in
+        let decided = is_decided round.now.limits.ranks round.now.history.now round.now.comm round.now.number in
+        let reply_of = shrink_reply round.now.limits.ranks round.now.history.now rank round.now.comm round.now.number made in
+        IfOk result (λ reply. reply ≡ (if decided then reply_of made.body else Pending)) }
 {
-    if !is_decided(alloc, ranks, history, comm, round)? {
+    if !round.is_decided()? {
         return Ok(Reply::Pending);
     }
-    let made = decision(alloc, ranks, history, comm, round)?;
-    shrink_reply(alloc, ranks, history, rank, comm, round, &made)
+    shrink_reply(round, rank, &round.decision()?)
 }
 
 /// The reply of the poll of an open request.
 fn open_reply<P: Meld, A: Allocator + Copy + Drop>(
-    alloc: A,
-    limits: Limits,
-    before: &[Entry<P>],
+    asked: &Asked<P, A>,
     after: &[Entry<P>],
-    rank: u16,
     x: &HeldComm<A>,
     request: Request,
 ) -> Result<Reply<P>, AllocError>
     requires { IsFew after.now }
-    ensures { (events : List (Event P)) → let view = view_after before.now after.now events in
-        IfOk result (λ reply. reply ≡ poll_reply P.meld limits view rank x.now (Some request)) }
+    ensures { (events : List (Event P)) → let view = view_after asked.now.history.now after.now events in
+        IfOk result (λ reply. reply ≡ poll_reply P.meld asked.now.limits view asked.now.own.now.number x.now (Some request)) }
 {
-    let ranks = limits.ranks;
     match request {
-        Request::Agree { round } => agree_poll(alloc, ranks, after, x.comm, round),
-        Request::Shrink { round } => shrink_poll(alloc, ranks, after, rank, x.comm, round),
-        Request::Barrier { round } => barrier_poll(alloc, before, after, x, round),
+        Request::Agree { round } => agree_poll(&asked.round(after, x, round)),
+        Request::Shrink { round } => shrink_poll(&asked.round(after, x, round), asked.own.number),
+        Request::Barrier { round } => barrier_poll(asked, x, &asked.round(after, x, round)),
     }
 }
 
 /// The reply of a poll.
 fn poll_reply<P: Meld, A: Allocator + Copy + Drop>(
-    alloc: A,
-    limits: Limits,
-    before: &[Entry<P>],
+    asked: &Asked<P, A>,
     after: &[Entry<P>],
-    rank: u16,
     x: &HeldComm<A>,
 ) -> Result<Reply<P>, AllocError>
     requires { IsFew after.now }
-    ensures { (events : List (Event P)) → let view = view_after before.now after.now events in
-        IfOk result (λ reply. reply ≡ poll_reply P.meld limits view rank x.now x.now.request) }
+    ensures { (events : List (Event P)) → let view = view_after asked.now.history.now after.now events in
+        IfOk result (λ reply. reply ≡ poll_reply P.meld asked.now.limits view asked.now.own.now.number x.now x.now.request) }
 {
     match x.request {
         None => Ok(Reply::Pending),
-        Some(request) => open_reply(alloc, limits, before, after, rank, x, request),
+        Some(request) => open_reply(asked, after, x, request),
     }
 }
 
@@ -227,21 +205,21 @@ fn count_of<P: Copy, A: Allocator + Copy + Drop>(
 }
 
 /// The reply of a call that the record doesn't refuse, by the history before it and the history with what it added.
-pub fn replied<P: Meld, A: Allocator + Copy + Drop>(
-    alloc: A,
-    limits: Limits,
-    before: &[Entry<P>],
+pub(crate) fn replied<P: Meld, A: Allocator + Copy + Drop>(
+    asked: &Asked<P, A>,
     after: &[Entry<P>],
-    own: &RankRecord<A>,
     x: &HeldComm<A>,
-    asked: &Call<P>,
 ) -> Result<Reply<P>, AllocError>
     requires { IsFew after.now }
-    ensures { (events : List (Event P)) → let view = view_after before.now after.now events in
-        IfOk result (λ reply. reply ≡ replied P.meld limits before.now view (record_of limits own.now) x.now asked.now) }
+    ensures { (events : List (Event P)) → let view = view_after asked.now.history.now after.now events in
+        let own = record_of asked.now.limits asked.now.own.now in
+        IfOk result (λ reply. reply ≡ replied P.meld asked.now.limits asked.now.history.now view own x.now asked.now.call.now) }
 {
-    let ranks = limits.ranks;
-    match *asked {
+    let alloc = asked.alloc;
+    let ranks = asked.limits.ranks;
+    let before = asked.history;
+    let rank = asked.own.number;
+    match *asked.call {
         Call::Fail { .. } => Ok(Reply::Refused(Refusal::NoSuchRank)),
         Call::GetFailed { comm, .. } => Ok(Reply::FailedGroup {
             count: count_of(alloc, ranks, after, comm)?,
@@ -261,17 +239,14 @@ pub fn replied<P: Meld, A: Allocator + Copy + Drop>(
                 count: x.acked.max(MOST_FAILURES.min(known)),
             })
         }
-        Call::Agree { .. } | Call::Shrink { .. } => Ok(start_reply(slot(
-            before,
-            x.comm,
-            x.next_agreement,
-            own.number,
-        ))),
-        Call::Barrier { .. } if has_arrived(before, x.comm, x.next_barrier, own.number) => {
+        Call::Agree { .. } | Call::Shrink { .. } => {
+            Ok(start_reply(slot(before, x.comm, x.next_agreement, rank)))
+        }
+        Call::Barrier { .. } if has_arrived(before, x.comm, x.next_barrier, rank) => {
             Ok(Reply::Refused(Refusal::Twice))
         }
         Call::Barrier { .. } => Ok(Reply::Started),
-        Call::Poll { .. } => { poll_reply(alloc, limits, before, after, own.number, x) },
+        Call::Poll { .. } => poll_reply(asked, after, x),
         Call::Revoke { comm, .. } if is_revoked(before, comm) => Ok(Reply::AlreadyRevoked),
         Call::Revoke { .. } => Ok(Reply::Revoked),
         Call::IsRevoked { comm, .. } => Ok(Reply::Standing {

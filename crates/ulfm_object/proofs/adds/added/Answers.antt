@@ -9,5 +9,5 @@ use Rattle.ulfm_object.proofs.adds.added.Goals as goal
 pub returns-in-Shrink : goal.returns-in-Shrink
 returns-in-Shrink g c =
     rw c.in-Shrink.is
-    (subst (λ (ids : CtxMask). IfOk c.settle_of-in-Shrink.result (λ events. events.items ≡ settle_of c.args.history.now c.args.own.now.number c.args.x.now (Ctx ids)))
+    (subst (λ (ids : CtxMask). IfOk c.settle_of-in-Shrink.result (λ events. events.items ≡ settle_of c.args.asked.now.history.now c.args.asked.now.own.now.number c.args.x.now (Ctx ids)))
     (c.free_ids-mask.ensures ∙ ap (λ (held : List Held). free_ids held) c.deref.ensures.value) c.settle_of-in-Shrink.ensures)

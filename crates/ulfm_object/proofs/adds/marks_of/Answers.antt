@@ -9,7 +9,7 @@ use Rattle.ulfm_object.proofs.adds.marks_of.Goals.{in-Some+in_ok-push, in_defaul
 
 pub loop-i-preserved : goal.loop-i-preserved
 loop-i-preserved g c =
-    let f = mark_of c.args.history.now c.args.comm c.args.round in
+    let f = mark_of c.args.round.now.history.now c.args.round.now.comm c.args.round.now.number in
     let xs = c.deref-rank-items.result.now in
     let so_far = filter_map f (take c.loop-i.i (enumerate_from 1 xs)) in
     let more : filter_map f (take (c.loop-i.i + 1) (enumerate_from 1 xs)) ≡ so_far ++ cons_option c.mark_of.result [] =
@@ -22,7 +22,7 @@ loop-i-preserved g c =
 
 pub returns : goal.returns
 returns g c =
-    let f = mark_of c.args.history.now c.args.comm c.args.round in
+    let f = mark_of c.args.round.now.history.now c.args.round.now.comm c.args.round.now.number in
     let xs = c.deref-rank-items.result.now in
     c.loop-i.invariant
     ∙ (ap (filter_map f) (take_all c.loop-i.i (enumerate_from 1 xs) (omega (arith, length-enumerate_from 1 xs)))

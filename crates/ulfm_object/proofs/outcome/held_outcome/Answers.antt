@@ -7,19 +7,19 @@ use Rattle.ulfm_object.proofs.outcome.held_outcome.Goals as goal
 
 pub replied-requires : goal.replied-requires
 replied-requires g c =
-    let few = few_added g.P.Meld.meld c.args.limits (omega (arith, c.requires.may.in_range.comms)) c.args.history.now (record_of c.args.limits c.args.own.now) c.args.x.now c.args.asked.now c.requires.few in
-    few_of_all c.args.history.now c.args.own.now.number _ _ _ _ _ few c.deref-2.ensures.value c.in_ok-after.ensures c.deref.ensures.value c.in_ok-events.ensures
+    let few = few_added g.P.Meld.meld c.args.asked.now.limits (omega (arith, c.requires.may.in_range.comms)) c.args.asked.now.history.now (record_of c.args.asked.now.limits c.args.asked.now.own.now) c.args.x.now c.args.asked.now.call.now c.requires.few in
+    few_of_all c.args.asked.now.history.now c.args.asked.now.own.now.number _ _ _ _ _ few c.deref-2.ensures.value c.in_ok-after.ensures c.deref.ensures.value c.in_ok-events.ensures
 
 pub returns-clause-after : goal.returns-clause-after
-returns-clause-after g c = same_after c.args.history.now c.args.own.now.number _ _ _ _ c.in_ok-after.ensures c.deref.ensures.value c.in_ok-events.ensures
+returns-clause-after g c = same_after c.args.asked.now.history.now c.args.asked.now.own.now.number _ _ _ _ c.in_ok-after.ensures c.deref.ensures.value c.in_ok-events.ensures
 
 pub returns-clause-reply : goal.returns-clause-reply
 returns-clause-reply g c =
-    let h = c.args.history.now in
-    let own = record_of c.args.limits c.args.own.now in
+    let h = c.args.asked.now.history.now in
+    let own = record_of c.args.asked.now.limits c.args.asked.now.own.now in
     let x = c.args.x.now in
-    same_reply g.P.Meld.meld c.args.limits h own x c.args.asked.now c.deref-2.result.now (added g.P.Meld.meld c.args.limits h own x c.args.asked.now)
-    (c.deref-2.ensures.value ∙ same_after h c.args.own.now.number _ _ _ _ c.in_ok-after.ensures c.deref.ensures.value c.in_ok-events.ensures)
-    c.in_ok-reply.reply (c.in_ok-reply.ensures (added g.P.Meld.meld c.args.limits h own x c.args.asked.now))
+    same_reply g.P.Meld.meld c.args.asked.now.limits h own x c.args.asked.now.call.now c.deref-2.result.now (added g.P.Meld.meld c.args.asked.now.limits h own x c.args.asked.now.call.now)
+    (c.deref-2.ensures.value ∙ same_after h c.args.asked.now.own.now.number _ _ _ _ c.in_ok-after.ensures c.deref.ensures.value c.in_ok-events.ensures)
+    c.in_ok-reply.reply (c.in_ok-reply.ensures (added g.P.Meld.meld c.args.asked.now.limits h own x c.args.asked.now.call.now))
 
 -- x

@@ -7,13 +7,13 @@ use Rattle.ulfm_object.proofs.outcome.used_outcome.Goals as goal
 pub index-requires : goal.index-requires
 index-requires g c =
     let at = sym (rw (c.deref.ensures.value, c.comm_of.ensures) at c.place_of.ensures) ∙ c.in-Some-place_of.is in
-    omega (arith, position_below (is_of (comm_of c.args.asked.now)) c.args.own.now.held.items c.in-Some-place_of.i at, c.args.own.now.held.ok)
+    omega (arith, position_below (is_of (comm_of c.args.asked.now.call.now)) c.args.asked.now.own.now.held.items c.in-Some-place_of.i at, c.args.asked.now.own.now.held.ok)
 
 pub returns-in-Some-place_of : goal.returns-in-Some-place_of
 returns-in-Some-place_of g c =
     let none = sym c.refusal_of.ensures ∙ c.in_default.is in
     let at = sym (rw (c.deref.ensures.value, c.comm_of.ensures) at c.place_of.ensures) ∙ c.in-Some-place_of.is in
-    let held = find_is c.args.own.now.held.items (comm_of c.args.asked.now) c.in-Some-place_of.i c.index.result.now at
+    let held = find_is c.args.asked.now.own.now.held.items (comm_of c.args.asked.now.call.now) c.in-Some-place_of.i c.index.result.now at
     ∙ ap (λ (x : Held). Some x) (sym c.index.ensures) in
     record {
       after = rw (none, held) c.held_outcome.ensures.after;
@@ -24,7 +24,7 @@ pub returns-in-None : goal.returns-in-None
 returns-in-None g c =
     let none = sym c.refusal_of.ensures ∙ c.in_default.is in
     let at = sym (rw (c.deref.ensures.value, c.comm_of.ensures) at c.place_of.ensures) ∙ c.in-None.is in
-    let held = find_missing c.args.own.now.held.items (comm_of c.args.asked.now) at in
+    let held = find_missing c.args.asked.now.own.now.held.items (comm_of c.args.asked.now.call.now) at in
     record {
       after = rw (none, held) (rw append-nil c.refused-in-None.ensures.after);
       reply = rw (none, held) c.refused-in-None.ensures.reply;

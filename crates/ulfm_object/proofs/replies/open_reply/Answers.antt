@@ -1,19 +1,28 @@
-use Rattle.std.specs.Prelude.{◌≡◌, Some, IfOk}
-use Rattle.std.proofs.Common.{subst}
-use Rattle.ulfm_model.specs.declared.call.Request.TheVariants as request
-use Rattle.ulfm_model.specs.Computed.{poll_reply}
-use Rattle.ulfm_object.specs.Objects.{view_after}
+use Rattle.std.specs.Prelude.{◌≡◌, IfOk, if◌then◌else◌}
+use Rattle.ulfm_model.specs.Computed.{agree_reply, shrink_reply}
+use Rattle.ulfm_model.specs.History.{decision, is_decided}
+use Rattle.ulfm_model.specs.declared.reply.Reply.TheVariants.{Pending}
+use Rattle.ulfm_object.proofs.Holding.{same_round}
 use Rattle.ulfm_object.proofs.replies.open_reply.Goals as goal
 
 pub returns-in-Barrier : goal.returns-in-Barrier
-returns-in-Barrier g c = λ events. rw c.in-Barrier.is (c.barrier_poll.ensures events)
+returns-in-Barrier g c = λ events.
+    let round = c.round-in-Barrier.ensures in
+    rw c.in-Barrier.is (rw (round.history, round.number) at (c.barrier_poll.ensures events))
 
 pub returns-in-Agree : goal.returns-in-Agree
-returns-in-Agree g c = λ events. rw c.in-Agree.is
-    (subst (λ x. IfOk c.agree_poll.result (λ reply. reply ≡ poll_reply g.P.Meld.meld c.args.limits (view_after c.args.before.now c.args.after.now events)
-    c.args.rank x (Some (request.Agree c.in-Agree.round)))) c.x.view_is c.agree_poll.ensures)
+returns-in-Agree g c = λ events.
+    let meld = g.P.Meld.meld in
+    let round = c.round.ensures in
+    rw c.in-Agree.is
+    (same_round (λ limits h d k. IfOk c.agree_poll.result (λ reply. reply ≡ (if is_decided limits.ranks h d k then agree_reply (decision meld limits.ranks h d k) (decision meld limits.ranks h d k).body else Pending)))
+    round.limits round.history round.comm round.number c.agree_poll.ensures)
 
 pub returns-in-Shrink : goal.returns-in-Shrink
-returns-in-Shrink g c = λ events. rw c.in-Shrink.is
-    (subst (λ x. IfOk c.shrink_poll.result (λ reply. reply ≡ poll_reply g.P.Meld.meld c.args.limits (view_after c.args.before.now c.args.after.now events)
-    c.args.rank x (Some (request.Shrink c.in-Shrink.round)))) c.x.view_is c.shrink_poll.ensures)
+returns-in-Shrink g c = λ events.
+    let meld = g.P.Meld.meld in
+    let rank = c.args.asked.now.own.now.number in
+    let round = c.round-in-Shrink.ensures in
+    rw c.in-Shrink.is
+    (same_round (λ limits h d k. IfOk c.shrink_poll.result (λ reply. reply ≡ (if is_decided limits.ranks h d k then shrink_reply limits.ranks h rank d k (decision meld limits.ranks h d k) (decision meld limits.ranks h d k).body else Pending)))
+    round.limits round.history round.comm round.number c.shrink_poll.ensures)

@@ -9,26 +9,26 @@ use Rattle.ulfm_object.proofs.replies.shrunk_reply.Goals as goal
 
 pub overflow_cast-made : goal.overflow_cast-made
 overflow_cast-made g c =
-    let within = place_within (λ (of : ℕ × ℕ). (of.0 == c.args.comm) && (of.1 == c.args.round)) 0 (spawns c.args.history.now) c.in-Some.place (sym c.place_made.ensures ∙ c.in-Some.is) in
+    let within = place_within (λ (of : ℕ × ℕ). (of.0 == c.args.round.now.comm) && (of.1 == c.args.round.now.number)) 0 (spawns c.args.round.now.history.now) c.in-Some.place (sym c.place_made.ensures ∙ c.in-Some.is) in
     omega (arith, within, c.requires.few.spawns)
 
 pub overflow_add-made : goal.overflow_add-made
 overflow_add-made g c =
-    let within = place_within (λ (of : ℕ × ℕ). (of.0 == c.args.comm) && (of.1 == c.args.round)) 0 (spawns c.args.history.now) c.in-Some.place (sym c.place_made.ensures ∙ c.in-Some.is) in
+    let within = place_within (λ (of : ℕ × ℕ). (of.0 == c.args.round.now.comm) && (of.1 == c.args.round.now.number)) 0 (spawns c.args.round.now.history.now) c.in-Some.place (sym c.place_made.ensures ∙ c.in-Some.is) in
     omega (arith, within, c.requires.few.spawns)
 
 pub overflow_cast-result : goal.overflow_cast-result
 overflow_cast-result g c =
     let same = ap length c.in_ok-group.ensures in
-    omega (arith, c.len.ensures, c.in_ok-group.group.ok, same, members_few c.args.ranks c.args.history.now (c.in-Some.place + 1))
+    omega (arith, c.len.ensures, c.in_ok-group.group.ok, same, members_few c.args.round.now.limits.ranks c.args.round.now.history.now (c.in-Some.place + 1))
 
 pub returns : goal.returns
 returns g c =
-    let h = c.args.history.now in
+    let h = c.args.round.now.history.now in
     let made = c.in-Some.place + 1 in
     let same = ap length c.in_ok-group.ensures in
-    let size : c.len.result ≡ length (members c.args.ranks h made) = omega (arith, c.len.ensures, c.in_ok-group.group.ok, same) in
+    let size : c.len.result ≡ length (members c.args.round.now.limits.ranks h made) = omega (arith, c.len.ensures, c.in_ok-group.group.ok, same) in
     let shrunk : ℕ → ℕ → Reply g.row.P.Denot = λ context size. Shrunk made context size in
-    let by_place : Option ℕ → Reply g.row.P.Denot = λ place. shrunk_reply c.args.ranks h c.args.mask.bits place in
-    let at : position_from (λ (of : ℕ × ℕ). (of.0 == c.args.comm) && (of.1 == c.args.round)) 0 (spawns h) ≡ Some c.in-Some.place = sym c.place_made.ensures ∙ c.in-Some.is in
+    let by_place : Option ℕ → Reply g.row.P.Denot = λ place. shrunk_reply c.args.round.now.limits.ranks h c.args.mask.bits place in
+    let at : position_from (λ (of : ℕ × ℕ). (of.0 == c.args.round.now.comm) && (of.1 == c.args.round.now.number)) 0 (spawns h) ≡ Some c.in-Some.place = sym c.place_made.ensures ∙ c.in-Some.is in
     ap₂ shrunk (lowest_is c.args.mask.bits c.lowest_id.result c.args.mask.fits c.lowest_id.ensures) size ∙ sym (ap by_place at)
