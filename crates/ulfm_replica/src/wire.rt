@@ -15,8 +15,8 @@
 ghost use Rattle.std.specs.Prelude.{◌≡◌, ◌≢◌, ◌<◌, ◌^◌, MatchOption, Some};
 ghost use Rattle.std.specs.Bool.{Decides};
 ghost use Rattle.ulfm_laws.specs.Ranges.{payload_bits};
-ghost use Rattle.ulfm_model.specs.declared.{contribution.Contribution.{Contribution}, contribution.MarkCount.{MarkCount}, event.Caller.{Caller}, event.Entry.{Entry}, event.Event.{Event}};
-ghost use Rattle.ulfm_replica.specs.Wire.{IsReadAs, blank, bytes_from, entry_bytes, fields_by, fields_of, named_of, number_of};
+ghost use Rattle.ulfm_model.specs.declared.{contribution.Contribution.{Contribution}, contribution.MarkCount.{MarkCount}, contribution.Offer.{Offer}, event.Caller.{Caller}, event.Entry.{Entry}, event.Event.{Event}};
+ghost use Rattle.ulfm_replica.specs.Wire.{IsReadAs, blank, bytes_from, entry_bytes, fields_by, fields_of, kind_of, named_of, number_of, payload_of};
 ghost use Rattle.ulfm_replica.specs.declared.wire.Fields.{Fields};
 
 use ulfm_laws::meld::Packed;
@@ -58,9 +58,9 @@ fn mask_of(bits: u64) -> CtxMask
 }
 
 impl Fields {
-    // Those of a kind, in a caller's name, with no further numbers.
-    fn blank(kind: u8, by: Caller) -> Fields
-        ensures { result ≡ blank kind by }
+    // Those of a kind, in a caller's name, with these numbers and no further ones.
+    fn numbered(kind: u8, by: Caller, comm: u16, round: u16, rank: u16) -> Fields
+        ensures { result ≡ record (blank kind by) { comm = comm; round = round; rank = rank } }
     {
         let (named, by) = match by {
             Caller::Outside => (0, 0),
@@ -70,9 +70,9 @@ impl Fields {
             kind,
             named,
             by,
-            comm: 0,
-            round: 0,
-            rank: 0,
+            comm,
+            round,
+            rank,
             known: 0,
             acked: 0,
             payload: 0,
@@ -94,13 +94,10 @@ impl Fields {
             Offer::Ctx(mask) => (3, mask.bits),
         };
         Fields {
-            comm,
-            round,
-            rank,
             known: given.known.count,
             acked: given.acked.count,
             payload,
-            ..Fields::blank(kind, by)
+            ..Fields::numbered(kind, by, comm, round, rank)
         }
     }
 
@@ -110,10 +107,7 @@ impl Fields {
     {
         let by = entry.by;
         match entry.event {
-            Event::Fail { rank } => Fields {
-                rank,
-                ..Fields::blank(1, by)
-            },
+            Event::Fail { rank } => Fields::numbered(1, by, 0, 0, rank),
             Event::Settle {
                 comm,
                 round,
@@ -126,32 +120,16 @@ impl Fields {
                 rank,
                 known,
             } => Fields {
-                comm,
-                round,
-                rank,
                 known: known.known.count,
-                ..Fields::blank(4, by)
+                ..Fields::numbered(4, by, comm, round, rank)
             },
-            Event::Arrive { comm, round, rank } => Fields {
-                comm,
-                round,
-                rank,
-                ..Fields::blank(5, by)
-            },
-            Event::Revoke { comm } => Fields {
-                comm,
-                ..Fields::blank(6, by)
-            },
+            Event::Arrive { comm, round, rank } => Fields::numbered(5, by, comm, round, rank),
+            Event::Revoke { comm } => Fields::numbered(6, by, comm, 0, 0),
             Event::Spawn {
                 comm,
                 parent,
                 round,
-            } => Fields {
-                comm,
-                round,
-                rank: parent,
-                ..Fields::blank(7, by)
-            },
+            } => Fields::numbered(7, by, comm, round, parent),
         }
     }
 
@@ -203,6 +181,18 @@ impl Fields {
         }
     }
 
+    // What a contribution offers.
+    fn offer<P: Packed>(&self) -> Option<Offer<P>>
+        ensures { (offer : Offer P) → self.now.kind ≡ kind_of offer → self.now.payload ≡ payload_of P.pack offer → result ≡ Some offer }
+    {
+        if self.kind == 2 {
+            let flag = P::unpack(self.payload)?;
+            Some(Offer::Flag(flag))
+        } else {
+            Some(Offer::Ctx(mask_of(self.payload)))
+        }
+    }
+
     // The contribution of an offer.
     fn given<P: Copy>(&self, offer: Offer<P>) -> Option<Contribution<P>>
         ensures { (given : Contribution P) → offer ≡ given.offer → self.now.known ≡ given.known.count → self.now.acked ≡ given.acked.count
@@ -242,18 +232,8 @@ impl Fields {
         } = *self;
         match self.kind {
             1 => Some(Event::Fail { rank }),
-            2 => {
-                let offer = Offer::Flag(P::unpack(self.payload)?);
-                let given = self.given(offer)?;
-                Some(Event::Settle {
-                    comm,
-                    round,
-                    rank,
-                    given,
-                })
-            }
-            3 => {
-                let offer = Offer::Ctx(mask_of(self.payload));
+            2 | 3 => {
+                let offer = self.offer()?;
                 let given = self.given(offer)?;
                 Some(Event::Settle {
                     comm,
