@@ -142,120 +142,343 @@ pub fn study_log<A: Allocator + Copy, B: Allocator>(
     let mut study = Study::new(alloc, log.limits, log.lines.len())?;
     study.timed = log.order == Order::Time;
     study.logged = log.failures == Failures::Logged;
-    let mut records = Records::new(alloc, study.ranks, study.comms)?;
+    let records = Records::new(alloc, study.ranks, study.comms)?;
+    let mut reading = Reading { study, records };
     for (i, line) in log.lines.iter().enumerate() {
         let place = number(i);
         let banned = match line.item {
-            Item::Called { call, .. } => call_begins(&mut study, &mut records, &call, place)?,
-            Item::Replied { by, seen } => {
-                call_ends(&mut study, &mut records, by, seen, &line.group, place)?
-            }
+            Item::Called { call, .. } => reading.call_begins(&call, place)?,
+            Item::Replied { by, seen } => { reading.call_ends(by, seen, &line.group, place)? }
             Item::Lost { .. } => {
-                study.lost = true;
+                reading.study.lost = true;
                 None
             }
         };
         if let Some(ban) = banned {
-            return Ok((study, Some((place, ban))));
+            return Ok((reading.study, Some((place, ban))));
         }
     }
-    open_calls(&mut study, &mut records)?;
-    Ok((study, None))
+    reading.open_calls()?;
+    Ok((reading.study, None))
 }
 
-/// Takes in that a line is of a caller.
-fn link<A: Allocator>(study: &mut Study<A>, records: &mut Records<A>, seat: usize, line: u32) {
-    put(&mut study.before, line as usize, at(&records.last, seat));
-    put(&mut records.last, seat, line);
+/// What taking a line gives: why the records forbid it, if they do; or want of memory.
+type Banned = Result<Option<Ban>, AllocError>;
+
+/// What of a log was read so far, and what each rank holds then.
+#[derive(Drop)]
+struct Reading<A: Allocator> {
+    /// What the log says.
+    study: Study<A>,
+    /// What each rank holds.
+    records: Records<A>,
 }
 
-/// A call begins.
-fn call_begins<A: Allocator + Copy>(
-    study: &mut Study<A>,
-    records: &mut Records<A>,
-    asked: &Call<FlagAnd>,
-    line: u32,
-) -> Result<Option<Ban>, AllocError> {
-    let act = act_of(asked, line);
-    let by = if act.is_ranks() {
-        Caller::Rank(act.rank)
-    } else {
-        Caller::Outside
-    };
-    let seat = seat(by);
-    if at(&records.open, seat) != NONE {
-        return Ok(Some(Ban::Open));
+impl<A: Allocator + Copy> Reading<A> {
+    /// Takes in that a line is of a caller.
+    fn link(&mut self, seat: usize, line: u32) {
+        put(
+            &mut self.study.before,
+            line as usize,
+            at(&self.records.last, seat),
+        );
+        put(&mut self.records.last, seat, line);
     }
-    link(study, records, seat, line);
-    let place = number(study.acts.len());
-    put(&mut study.act_at, line as usize, place);
-    put(&mut records.open, seat, place);
-    study.acts.push(act)?;
-    Ok(None)
-}
 
-/// A call ends.
-fn call_ends<A: Allocator + Copy>(
-    study: &mut Study<A>,
-    records: &mut Records<A>,
-    by: Caller,
-    seen: Seen,
-    group: &[u16],
-    line: u32,
-) -> Result<Option<Ban>, AllocError> {
-    let seat = seat(by);
-    let place = at(&records.open, seat);
-    let Some(mut act) = study.act(place) else {
-        return Ok(Some(Ban::NoCall));
-    };
-    link(study, records, seat, line);
-    put(&mut study.act_at, line as usize, place);
-    put(&mut records.open, seat, NONE);
-    act.reply = line;
-    act.seen = Some(seen);
-    act.standing = Standing::Answered;
-    let banned = take_reply(study, records, &mut act, place, group)?;
-    if let Some(cell) = study.acts.get_mut(place as usize) {
-        *cell = act;
+    /// A call begins.
+    fn call_begins(&mut self, asked: &Call<FlagAnd>, line: u32) -> Banned {
+        let act = act_of(asked, line);
+        let by = if act.is_ranks() {
+            Caller::Rank(act.rank)
+        } else {
+            Caller::Outside
+        };
+        let seat = seat(by);
+        if at(&self.records.open, seat) != NONE {
+            return Ok(Some(Ban::Open));
+        }
+        self.link(seat, line);
+        let place = number(self.study.acts.len());
+        put(&mut self.study.act_at, line as usize, place);
+        put(&mut self.records.open, seat, place);
+        self.study.acts.push(act)?;
+        Ok(None)
     }
-    Ok(banned)
-}
 
-/// Takes a reply into the records.
-fn take_reply<A: Allocator + Copy>(
-    study: &mut Study<A>,
-    records: &mut Records<A>,
-    act: &mut Act,
-    place: u32,
-    group: &[u16],
-) -> Result<Option<Ban>, AllocError> {
-    if (act.rank as usize) >= study.ranks {
-        act.standing = Standing::Unseen;
-        return Ok(ban_unless(act.refused(Refusal::NoSuchRank), Ban::Gone));
+    /// A call ends.
+    fn call_ends(&mut self, by: Caller, seen: Seen, group: &[u16], line: u32) -> Banned {
+        let seat = seat(by);
+        let place = at(&self.records.open, seat);
+        let Some(mut act) = self.study.act(place) else {
+            return Ok(Some(Ban::NoCall));
+        };
+        self.link(seat, line);
+        put(&mut self.study.act_at, line as usize, place);
+        put(&mut self.records.open, seat, NONE);
+        act.reply = line;
+        act.seen = Some(seen);
+        act.standing = Standing::Answered;
+        let banned = self.take_reply(&mut act, place, group)?;
+        if let Some(cell) = self.study.acts.get_mut(place as usize) {
+            *cell = act;
+        }
+        Ok(banned)
     }
-    if !act.is_ranks() {
-        return Ok(take_declaration(study, act, place));
+
+    /// Takes a reply into the records.
+    fn take_reply(&mut self, act: &mut Act, place: u32, group: &[u16]) -> Banned {
+        if (act.rank as usize) >= self.study.ranks {
+            act.standing = Standing::Unseen;
+            return Ok(ban_unless(act.refused(Refusal::NoSuchRank), Ban::Gone));
+        }
+        if !act.is_ranks() {
+            return Ok(take_declaration(&mut self.study, act, place));
+        }
+        if at(&self.records.refused, act.rank as usize) == 1 {
+            act.standing = Standing::Unseen;
+            return Ok(ban_unless(act.refused(Refusal::SelfFailed), Ban::Gone));
+        }
+        if act.refused(Refusal::SelfFailed) {
+            put(&mut self.records.refused, act.rank as usize, 1);
+            name(&mut self.study, act.rank as usize, 0);
+            act.standing = Standing::Dead;
+            return Ok(None);
+        }
+        if let Some(refusal) = self.refusal_of(act) {
+            act.standing = Standing::Refused;
+            return Ok(ban_unless(act.refused(refusal), Ban::Record));
+        }
+        // the wing of its place may have been set at any time, so nothing but a look is needed
+        if act.refused(Refusal::Twice) && (act.is(Kind::Agree) || act.is(Kind::Shrink)) {
+            act.standing = Standing::Refused;
+            return Ok(None);
+        }
+        self.take_answer(act, place, group)
     }
-    if at(&records.refused, act.rank as usize) == 1 {
-        act.standing = Standing::Unseen;
-        return Ok(ban_unless(act.refused(Refusal::SelfFailed), Ban::Gone));
+
+    /// The refusal of a call by its rank's record, if it has one.
+    fn refusal_of(&self, act: &Act) -> Option<Refusal> {
+        if !self.records.holds(act.rank, act.comm) {
+            return Some(Refusal::NoSuchComm);
+        }
+        let cell = self.records.cell(act.rank, act.comm);
+        let busy = at(&self.records.request, cell) != NONE;
+        let rounds = u32::from(self.study.limits.rounds);
+        match act.kind {
+            Kind::Agree if busy => Some(Refusal::Busy),
+            Kind::Shrink if busy => Some(Refusal::Busy),
+            Kind::Barrier if busy => Some(Refusal::Busy),
+            Kind::Shrink if at(&self.records.shrink, act.rank as usize) != NONE => {
+                Some(Refusal::ShrinkOpen)
+            }
+            Kind::Agree if at(&self.records.agreement, cell).wrapping_add(1) >= rounds => {
+                Some(Refusal::RoundsUsedUp)
+            }
+            Kind::Shrink if at(&self.records.agreement, cell) >= rounds => Some(
+                Refusal::RoundsUsedUp,
+            ),
+            Kind::Barrier if at(&self.records.barrier, cell) >= rounds => Some(
+                Refusal::RoundsUsedUp,
+            ),
+            Kind::Poll if !busy => Some(Refusal::Idle),
+            Kind::Free if act.comm == 0 => Some(Refusal::WorldKept),
+            Kind::Free if busy => Some(Refusal::Busy),
+            _ => None,
+        }
     }
-    if act.refused(Refusal::SelfFailed) {
-        put(&mut records.refused, act.rank as usize, 1);
-        name(study, act.rank as usize, 0);
-        act.standing = Standing::Dead;
-        return Ok(None);
+
+    /// A reply that the record doesn't refuse.
+    fn take_answer(&mut self, act: &mut Act, place: u32, group: &[u16]) -> Banned {
+        let cell = self.records.cell(act.rank, act.comm);
+        act.acked = small(at(&self.records.acked, cell));
+        match (act.kind, act.seen) {
+            (Kind::Get, Some(Seen::Whole(Reply::FailedGroup { .. }))) => {
+                name_all(&mut self.study, act.comm, group);
+                Ok(ban_unless(are_members(&self.study, act.comm, group), Ban::Members))
+            }
+            (Kind::Ack, Some(Seen::Whole(Reply::Acked { count }))) => {
+                Ok(take_count(&mut self.records, act, cell, u32::from(count)))
+            }
+            (Kind::Revoke, Some(Seen::Whole(Reply::Revoked | Reply::AlreadyRevoked))) => Ok(None),
+            (Kind::IsRevoked, Some(Seen::Whole(Reply::Standing { .. }))) => Ok(None),
+            (Kind::Free, Some(Seen::Whole(Reply::Freed))) => {
+                put(&mut self.records.held, cell, 0);
+                Ok(None)
+            }
+            (Kind::Poll, Some(seen)) => self.take_poll(act, cell, seen, group),
+            (Kind::Agree | Kind::Shrink | Kind::Barrier, Some(seen)) => {
+                self.take_start(act, place, cell, seen, group)
+            }
+            _ => Ok(Some(Ban::Sort)),
+        }
     }
-    if let Some(refusal) = refusal_of(study, records, act) {
-        act.standing = Standing::Refused;
-        return Ok(ban_unless(act.refused(refusal), Ban::Record));
+
+    /// A poll was answered.
+    fn take_poll(&mut self, act: &mut Act, cell: usize, seen: Seen, group: &[u16]) -> Banned {
+        self.put_polled(act, cell);
+        if let Seen::Whole(Reply::Pending) = seen {
+            return Ok(None);
+        }
+        put(&mut self.records.request, cell, NONE);
+        self.take_end(act, seen, group)
     }
-    // the wing of its place may have been set at any time, so nothing but a look is needed
-    if act.refused(Refusal::Twice) && (act.is(Kind::Agree) || act.is(Kind::Shrink)) {
-        act.standing = Standing::Refused;
-        return Ok(None);
+
+    /// A start was answered, by itself or by its poll.
+    fn take_start(
+        &mut self,
+        act: &mut Act,
+        place: u32,
+        cell: usize,
+        seen: Seen,
+        group: &[u16],
+    ) -> Banned {
+        self.begin(act, place, cell)?;
+        if let Seen::Whole(Reply::Started) = seen {
+            return Ok(None);
+        }
+        act.blocking = true;
+        act.start = place;
+        put(&mut self.records.request, cell, NONE);
+        self.take_end(act, seen, group)
     }
-    take_answer(study, records, act, place, group)
+
+    /// Writes down what a poll asks for.
+    fn put_polled(&self, act: &mut Act, cell: usize) {
+        act.start = at(&self.records.request, cell);
+        if let Some(start) = self.study.act(act.start) {
+            act.round = start.round;
+        }
+    }
+
+    /// A start takes its rank's next round.
+    fn begin(&mut self, act: &mut Act, place: u32, cell: usize) -> Result<(), AllocError> {
+        put(&mut self.records.request, cell, place);
+        if act.is(Kind::Barrier) {
+            let round = at(&self.records.barrier, cell);
+            put(&mut self.records.barrier, cell, round.wrapping_add(1));
+            act.round = self.study.barriers.place(act.comm, small(round))?;
+            self.study.barriers.begin(act.round, act.rank, place);
+            return Ok(());
+        }
+        let round = at(&self.records.agreement, cell);
+        put(&mut self.records.agreement, cell, round.wrapping_add(1));
+        act.round = self.study.agreements.place(act.comm, small(round))?;
+        self.study.agreements.begin(act.round, act.rank, place);
+        if act.is(Kind::Shrink) {
+            put(
+                &mut self.records.shrink,
+                act.rank as usize,
+                u32::from(act.comm),
+            );
+        }
+        Ok(())
+    }
+
+    /// A request ends.
+    fn take_end(&mut self, act: &Act, seen: Seen, group: &[u16]) -> Banned {
+        let asked = if act.blocking {
+            act.kind
+        } else {
+            self.study.asked_by(act)
+        };
+        if asked == Kind::Shrink {
+            put(&mut self.records.shrink, act.rank as usize, NONE);
+        }
+        match (asked, seen) {
+            (Kind::Agree, Seen::Agreed { .. }) => Ok(None),
+            (Kind::Shrink, Seen::Shrunk { comm, .. }) => self.take_comm(act, comm, group),
+            (Kind::Barrier, Seen::Whole(Reply::Done)) => Ok(None),
+            (Kind::Agree | Kind::Shrink, Seen::Whole(Reply::Refused(Refusal::Mismatch))) => Ok(
+                None,
+            ),
+            (Kind::Shrink, Seen::Whole(Reply::Refused(Refusal::NoContext | Refusal::NoRoom))) => {
+                Ok(None)
+            }
+            (
+                Kind::Barrier,
+                Seen::Whole(Reply::Refused(Refusal::IsRevoked | Refusal::ProcFailed)),
+            ) => { Ok(None) }
+            _ => Ok(Some(Ban::Sort)),
+        }
+    }
+
+    /// A shrink made a communicator with these members.
+    fn take_comm(&mut self, act: &Act, comm: u16, group: &[u16]) -> Banned {
+        let made = comm as usize;
+        if made == 0 || made >= self.study.comms || !is_ascending(group) {
+            return Ok(Some(Ban::Members));
+        }
+        for _ in self.study.makes.len()..(act.round as usize).wrapping_add(1) {
+            self.study.makes.push(NONE)?;
+        }
+        let known = at(&self.study.made_by, made);
+        if known == NONE {
+            if at(&self.study.makes, act.round as usize) != NONE {
+                return Ok(Some(Ban::Members));
+            }
+            put(&mut self.study.made_by, made, act.round);
+            put(&mut self.study.makes, act.round as usize, u32::from(comm));
+            put(&mut self.study.told_at, made, act.reply);
+            if !put_members(&mut self.study, act.comm, comm, group) {
+                return Ok(Some(Ban::Members));
+            }
+            name_lacking(&mut self.study, act.comm, comm);
+        } else if known != act.round || !has_members(&self.study, comm, group) {
+            return Ok(Some(Ban::Members));
+        }
+        if !self.study.is_member(comm, act.rank as usize) {
+            return Ok(Some(Ban::Members));
+        }
+        let cell = self.records.cell(act.rank, comm);
+        put(&mut self.records.held, cell, 1);
+        put(&mut self.records.acked, cell, 0);
+        put(&mut self.records.agreement, cell, 0);
+        put(&mut self.records.barrier, cell, 0);
+        put(&mut self.records.request, cell, NONE);
+        Ok(None)
+    }
+
+    /// Calls that have no reply: a start has its round, if its record doesn't refuse it.
+    fn open_calls(&mut self) -> Result<(), AllocError> {
+        for seat in 0..1025 {
+            let place = at(&self.records.open, seat);
+            if let Some(mut act) = self.study.act(place) {
+                self.open_call(&mut act, place)?;
+                if let Some(cell) = self.study.acts.get_mut(place as usize) {
+                    *cell = act;
+                }
+            }
+        }
+        Ok(())
+    }
+
+    /// A call that has no reply.
+    fn open_call(&mut self, act: &mut Act, place: u32) -> Result<(), AllocError> {
+        if (act.rank as usize) >= self.study.ranks {
+            act.standing = Standing::Unseen;
+            return Ok(());
+        }
+        if !act.is_ranks() {
+            if at(&self.study.declared, act.rank as usize) == NONE {
+                put(&mut self.study.declared, act.rank as usize, place);
+            }
+            return Ok(());
+        }
+        if at(&self.records.refused, act.rank as usize) == 1 {
+            act.standing = Standing::Unseen;
+            return Ok(());
+        }
+        if self.refusal_of(act).is_some() {
+            act.standing = Standing::Refused;
+            return Ok(());
+        }
+        let cell = self.records.cell(act.rank, act.comm);
+        act.acked = small(at(&self.records.acked, cell));
+        if act.starts() {
+            self.begin(act, place, cell)?;
+        }
+        Ok(())
+    }
 }
 
 /// A ban, unless something holds.
@@ -281,106 +504,6 @@ fn take_declaration<A: Allocator + Copy>(
         Some(Seen::Whole(Reply::AlreadyFailed)) => None,
         _ => Some(Ban::Sort),
     }
-}
-
-/// The refusal of a call by its rank's record, if it has one.
-fn refusal_of<A: Allocator + Copy>(
-    study: &Study<A>,
-    records: &Records<A>,
-    act: &Act,
-) -> Option<Refusal> {
-    if !records.holds(act.rank, act.comm) {
-        return Some(Refusal::NoSuchComm);
-    }
-    let cell = records.cell(act.rank, act.comm);
-    let busy = at(&records.request, cell) != NONE;
-    let rounds = u32::from(study.limits.rounds);
-    match act.kind {
-        Kind::Agree if busy => Some(Refusal::Busy),
-        Kind::Shrink if busy => Some(Refusal::Busy),
-        Kind::Barrier if busy => Some(Refusal::Busy),
-        Kind::Shrink if at(&records.shrink, act.rank as usize) != NONE => {
-            Some(Refusal::ShrinkOpen)
-        }
-        Kind::Agree if at(&records.agreement, cell).wrapping_add(1) >= rounds => {
-            Some(Refusal::RoundsUsedUp)
-        }
-        Kind::Shrink if at(&records.agreement, cell) >= rounds => Some(Refusal::RoundsUsedUp),
-        Kind::Barrier if at(&records.barrier, cell) >= rounds => Some(Refusal::RoundsUsedUp),
-        Kind::Poll if !busy => Some(Refusal::Idle),
-        Kind::Free if act.comm == 0 => Some(Refusal::WorldKept),
-        Kind::Free if busy => Some(Refusal::Busy),
-        _ => None,
-    }
-}
-
-/// A reply that the record doesn't refuse.
-fn take_answer<A: Allocator + Copy>(
-    study: &mut Study<A>,
-    records: &mut Records<A>,
-    act: &mut Act,
-    place: u32,
-    group: &[u16],
-) -> Result<Option<Ban>, AllocError> {
-    let cell = records.cell(act.rank, act.comm);
-    act.acked = small(at(&records.acked, cell));
-    match (act.kind, act.seen) {
-        (Kind::Get, Some(Seen::Whole(Reply::FailedGroup { .. }))) => {
-            name_all(study, act.comm, group);
-            Ok(ban_unless(are_members(study, act.comm, group), Ban::Members))
-        }
-        (Kind::Ack, Some(Seen::Whole(Reply::Acked { count }))) => {
-            Ok(take_count(records, act, cell, u32::from(count)))
-        }
-        (Kind::Revoke, Some(Seen::Whole(Reply::Revoked | Reply::AlreadyRevoked))) => Ok(None),
-        (Kind::IsRevoked, Some(Seen::Whole(Reply::Standing { .. }))) => Ok(None),
-        (Kind::Free, Some(Seen::Whole(Reply::Freed))) => {
-            put(&mut records.held, cell, 0);
-            Ok(None)
-        }
-        (Kind::Poll, Some(seen)) => take_poll(study, records, act, cell, seen, group),
-        (Kind::Agree | Kind::Shrink | Kind::Barrier, Some(seen)) => {
-            take_start(study, records, act, place, cell, seen, group)
-        }
-        _ => Ok(Some(Ban::Sort)),
-    }
-}
-
-/// A poll was answered.
-fn take_poll<A: Allocator + Copy>(
-    study: &mut Study<A>,
-    records: &mut Records<A>,
-    act: &mut Act,
-    cell: usize,
-    seen: Seen,
-    group: &[u16],
-) -> Result<Option<Ban>, AllocError> {
-    put_polled(study, records, act, cell);
-    if let Seen::Whole(Reply::Pending) = seen {
-        return Ok(None);
-    }
-    put(&mut records.request, cell, NONE);
-    take_end(study, records, act, seen, group)
-}
-
-/// A start was answered, by itself or by its poll.
-fn take_start<A: Allocator + Copy>(
-    study: &mut Study<A>,
-    records: &mut Records<A>,
-    act: &mut Act,
-    place: u32,
-    cell: usize,
-    seen: Seen,
-    group: &[u16],
-) -> Result<Option<Ban>, AllocError> {
-    begin(study, records, act, place, cell)?;
-    if let Seen::Whole(Reply::Started) = seen {
-        return Ok(None);
-    }
-    act.blocking = true;
-    act.start = place;
-    put(&mut records.request, cell, NONE);
-    take_end(study, records, act, seen, group)
 }
 
 /// Writes down that a rank was named as failed, and its place in the line of failures, if that is told.
@@ -422,118 +545,6 @@ fn take_count<A: Allocator>(
         count == old || (count > old && u64::from(count) <= act.number),
         Ban::Count,
     )
-}
-
-/// Writes down what a poll asks for.
-fn put_polled<A: Allocator + Copy>(
-    study: &Study<A>,
-    records: &Records<A>,
-    act: &mut Act,
-    cell: usize,
-) {
-    act.start = at(&records.request, cell);
-    if let Some(start) = study.act(act.start) {
-        act.round = start.round;
-    }
-}
-
-/// A start takes its rank's next round.
-fn begin<A: Allocator + Copy>(
-    study: &mut Study<A>,
-    records: &mut Records<A>,
-    act: &mut Act,
-    place: u32,
-    cell: usize,
-) -> Result<(), AllocError> {
-    put(&mut records.request, cell, place);
-    if act.is(Kind::Barrier) {
-        let round = at(&records.barrier, cell);
-        put(&mut records.barrier, cell, round.wrapping_add(1));
-        act.round = study.barriers.place(act.comm, small(round))?;
-        study.barriers.begin(act.round, act.rank, place);
-        return Ok(());
-    }
-    let round = at(&records.agreement, cell);
-    put(&mut records.agreement, cell, round.wrapping_add(1));
-    act.round = study.agreements.place(act.comm, small(round))?;
-    study.agreements.begin(act.round, act.rank, place);
-    if act.is(Kind::Shrink) {
-        put(&mut records.shrink, act.rank as usize, u32::from(act.comm));
-    }
-    Ok(())
-}
-
-/// A request ends.
-fn take_end<A: Allocator + Copy>(
-    study: &mut Study<A>,
-    records: &mut Records<A>,
-    act: &Act,
-    seen: Seen,
-    group: &[u16],
-) -> Result<Option<Ban>, AllocError> {
-    let asked = if act.blocking {
-        act.kind
-    } else {
-        study.asked_by(act)
-    };
-    if asked == Kind::Shrink {
-        put(&mut records.shrink, act.rank as usize, NONE);
-    }
-    match (asked, seen) {
-        (Kind::Agree, Seen::Agreed { .. }) => Ok(None),
-        (Kind::Shrink, Seen::Shrunk { comm, .. }) => take_comm(study, records, act, comm, group),
-        (Kind::Barrier, Seen::Whole(Reply::Done)) => Ok(None),
-        (Kind::Agree | Kind::Shrink, Seen::Whole(Reply::Refused(Refusal::Mismatch))) => Ok(None),
-        (Kind::Shrink, Seen::Whole(Reply::Refused(Refusal::NoContext | Refusal::NoRoom))) => {
-            Ok(None)
-        }
-        (Kind::Barrier, Seen::Whole(Reply::Refused(Refusal::IsRevoked | Refusal::ProcFailed))) => {
-            Ok(None)
-        }
-        _ => Ok(Some(Ban::Sort)),
-    }
-}
-
-/// A shrink made a communicator with these members.
-fn take_comm<A: Allocator + Copy>(
-    study: &mut Study<A>,
-    records: &mut Records<A>,
-    act: &Act,
-    comm: u16,
-    group: &[u16],
-) -> Result<Option<Ban>, AllocError> {
-    let made = comm as usize;
-    if made == 0 || made >= study.comms || !is_ascending(group) {
-        return Ok(Some(Ban::Members));
-    }
-    for _ in study.makes.len()..(act.round as usize).wrapping_add(1) {
-        study.makes.push(NONE)?;
-    }
-    let known = at(&study.made_by, made);
-    if known == NONE {
-        if at(&study.makes, act.round as usize) != NONE {
-            return Ok(Some(Ban::Members));
-        }
-        put(&mut study.made_by, made, act.round);
-        put(&mut study.makes, act.round as usize, u32::from(comm));
-        put(&mut study.told_at, made, act.reply);
-        if !put_members(study, act.comm, comm, group) {
-            return Ok(Some(Ban::Members));
-        }
-        name_lacking(study, act.comm, comm);
-    } else if known != act.round || !has_members(study, comm, group) {
-        return Ok(Some(Ban::Members));
-    }
-    if !study.is_member(comm, act.rank as usize) {
-        return Ok(Some(Ban::Members));
-    }
-    let cell = records.cell(act.rank, comm);
-    put(&mut records.held, cell, 1);
-    put(&mut records.acked, cell, 0);
-    put(&mut records.agreement, cell, 0);
-    put(&mut records.barrier, cell, 0);
-    put(&mut records.request, cell, NONE);
-    Ok(None)
 }
 
 /// Whether ranks stand in their order, each once.
@@ -583,54 +594,4 @@ fn are_members<A: Allocator + Copy>(study: &Study<A>, comm: u16, group: &[u16]) 
 fn has_members<A: Allocator + Copy>(study: &Study<A>, comm: u16, group: &[u16]) -> bool {
     are_members(study, comm, group)
         && study.ranks.saturating_sub(group.len()) == study.lacking(comm) as usize
-}
-
-/// Calls that have no reply: a start has its round, if its record doesn't refuse it.
-fn open_calls<A: Allocator + Copy>(
-    study: &mut Study<A>,
-    records: &mut Records<A>,
-) -> Result<(), AllocError> {
-    for seat in 0..1025 {
-        let place = at(&records.open, seat);
-        if let Some(mut act) = study.act(place) {
-            open_call(study, records, &mut act, place)?;
-            if let Some(cell) = study.acts.get_mut(place as usize) {
-                *cell = act;
-            }
-        }
-    }
-    Ok(())
-}
-
-/// A call that has no reply.
-fn open_call<A: Allocator + Copy>(
-    study: &mut Study<A>,
-    records: &mut Records<A>,
-    act: &mut Act,
-    place: u32,
-) -> Result<(), AllocError> {
-    if (act.rank as usize) >= study.ranks {
-        act.standing = Standing::Unseen;
-        return Ok(());
-    }
-    if !act.is_ranks() {
-        if at(&study.declared, act.rank as usize) == NONE {
-            put(&mut study.declared, act.rank as usize, place);
-        }
-        return Ok(());
-    }
-    if at(&records.refused, act.rank as usize) == 1 {
-        act.standing = Standing::Unseen;
-        return Ok(());
-    }
-    if refusal_of(study, records, act).is_some() {
-        act.standing = Standing::Refused;
-        return Ok(());
-    }
-    let cell = records.cell(act.rank, act.comm);
-    act.acked = small(at(&records.acked, cell));
-    if act.starts() {
-        begin(study, records, act, place, cell)?;
-    }
-    Ok(())
 }

@@ -47,50 +47,25 @@ pub fn calls<A: Allocator + Copy, B: Allocator>(
     deals: &Deals<A>,
     lines: &[LogLine<B>],
 ) -> Result<(), AllocError> {
-    for (i, act) in study.acts.iter().enumerate() {
-        let group: &[u16] = match lines.get(act.reply as usize) {
-            Some(line) => &line.group,
-            None => &[],
-        };
-        call(plan, study, deals, act, number(i), group)?;
-    }
-    Ok(())
+    Rules { study, deals }.calls(plan, lines)
 }
 
-/// What a call asks.
-fn call<A: Allocator + Copy>(
+/// Puts in what each decided round asks.
+pub fn rounds<A: Allocator + Copy>(
     plan: &mut Plan<A>,
     study: &Study<A>,
     deals: &Deals<A>,
-    act: &Act,
-    place: u32,
-    group: &[u16],
 ) -> Result<(), AllocError> {
-    match act.standing {
-        Standing::Unseen => Ok(()),
-        Standing::Refused => {
-            if !study.counts(act) {
-                return Ok(());
-            }
-            plan.alive(act.rank, act.call)
-        }
-        Standing::Dead => {
-            if study.counts(act) {
-                return plan.shows(act.rank, act.reply);
-            }
-            Ok(())
-        }
-        Standing::Open => open(plan, deals, act, place),
-        Standing::Answered if !study.counts(act) => muted(plan, act, place),
-        Standing::Answered => match act.kind {
-            Kind::Fail => declaration(plan, act),
-            Kind::Get => get(plan, study, act, place, group),
-            Kind::Ack => ack(plan, study, act, place),
-            Kind::Agree | Kind::Shrink | Kind::Barrier => start(plan, study, act, place),
-            Kind::Poll => poll(plan, study, act, place),
-            _ => plan.alive(act.rank, act.call),
-        },
-    }
+    Rules { study, deals }.rounds(plan)
+}
+
+/// Puts in that who was told that there is no room isn't in the group that its round decided.
+pub fn roomless<A: Allocator + Copy>(
+    plan: &mut Plan<A>,
+    study: &Study<A>,
+    deals: &Deals<A>,
+) -> Result<(), AllocError> {
+    Rules { study, deals }.roomless(plan)
 }
 
 /// A call whose reply counts for nothing: a start took effect all the same.
@@ -106,29 +81,6 @@ fn muted<A: Allocator + Copy>(plan: &mut Plan<A>, act: &Act, place: u32) -> Resu
     plan.edge(settle, act.reply)
 }
 
-/// A call that has no reply: a start that took effect looked, and then contributed or arrived.
-fn open<A: Allocator + Copy>(
-    plan: &mut Plan<A>,
-    deals: &Deals<A>,
-    act: &Act,
-    place: u32,
-) -> Result<(), AllocError> {
-    if act.is(Kind::Fail) {
-        return Ok(());
-    }
-    let counted = at(&deals.counted, place as usize) == 1;
-    let arrived = act.is(Kind::Barrier) && at(&deals.done, act.round as usize) == 1;
-    if act.starts() && (counted || arrived) {
-        let look = plan.look(place);
-        let settle = plan.settle(place);
-        plan.graph.late(settle);
-        plan.edge(act.call, look)?;
-        plan.edge(look, settle)?;
-        return plan.alive(act.rank, look);
-    }
-    Ok(())
-}
-
 /// A rank was declared within a call, or before it.
 fn declaration<A: Allocator + Copy>(plan: &mut Plan<A>, act: &Act) -> Result<(), AllocError> {
     if let Some(Seen::Whole(Reply::Declared)) = act.seen {
@@ -138,158 +90,285 @@ fn declaration<A: Allocator + Copy>(plan: &mut Plan<A>, act: &Act) -> Result<(),
     plan.shows(act.rank, act.call)
 }
 
-/// A call that looks somewhere between its lines.
-fn looks<A: Allocator + Copy>(plan: &mut Plan<A>, act: &Act, place: u32) -> Result<(), AllocError> {
+/// A call that looks somewhere between its lines: the node of its look.
+fn looks<A: Allocator + Copy>(
+    plan: &mut Plan<A>,
+    act: &Act,
+    place: u32,
+) -> Result<u32, AllocError> {
     let look = plan.look(place);
     plan.edge(act.call, look)?;
     plan.edge(look, act.reply)?;
-    plan.alive(act.rank, look)
+    plan.alive(act.rank, look)?;
+    Ok(look)
 }
 
-/// A failed group was told.
-fn get<A: Allocator + Copy>(
-    plan: &mut Plan<A>,
-    study: &Study<A>,
-    act: &Act,
-    place: u32,
-    group: &[u16],
-) -> Result<(), AllocError> {
-    looks(plan, act, place)?;
-    let mut count = study.lacking(act.comm);
-    for rank in group {
-        count = count.wrapping_add(1);
-        plan.not_before(*rank, count, act.reply);
-        plan.not_behind(*rank, count, act.reply);
-    }
-    let look = plan.look(place);
-    plan.after_failures(count, look)?;
-    plan.before_failure(count, look)
+/// What calls and rounds are asked by.
+#[derive(Drop)]
+struct Rules<'a, A: Allocator> {
+    /// What is known of the log.
+    study: &'a Study<A>,
+    /// What is known of each round.
+    deals: &'a Deals<A>,
 }
 
-/// A count of acknowledged failures was told.
-fn ack<A: Allocator + Copy>(
-    plan: &mut Plan<A>,
-    study: &Study<A>,
-    act: &Act,
-    place: u32,
-) -> Result<(), AllocError> {
-    looks(plan, act, place)?;
-    let Some(Seen::Whole(Reply::Acked { count })) = act.seen else {
-        return Ok(());
-    };
-    let look = plan.look(place);
-    let count = u32::from(count);
-    let all = study.lacking(act.comm).wrapping_add(count);
-    if count > u32::from(act.acked) {
-        plan.after_failures(all, look)?;
+impl<A: Allocator + Copy> Rules<'_, A> {
+    /// Puts in what each call asks.
+    fn calls<B: Allocator>(
+        &self,
+        plan: &mut Plan<A>,
+        lines: &[LogLine<B>],
+    ) -> Result<(), AllocError> {
+        for (i, act) in self.study.acts.iter().enumerate() {
+            let group: &[u16] = match lines.get(act.reply as usize) {
+                Some(line) => &line.group,
+                None => &[],
+            };
+            self.call(plan, act, number(i), group)?;
+        }
+        Ok(())
     }
-    if act.number > u64::from(count) {
-        plan.before_failure(all, look)?;
-    }
-    Ok(())
-}
 
-/// A start was answered, by itself or by its poll.
-fn start<A: Allocator + Copy>(
-    plan: &mut Plan<A>,
-    study: &Study<A>,
-    act: &Act,
-    place: u32,
-) -> Result<(), AllocError> {
-    looks(plan, act, place)?;
-    let look = plan.look(place);
-    let settle = plan.settle(place);
-    plan.graph.late(settle);
-    plan.edge(look, settle)?;
-    plan.edge(settle, act.reply)?;
-    if !act.blocking {
-        return Ok(());
-    }
-    polled(plan, study, act, place, settle)
-}
-
-/// A poll was answered.
-fn poll<A: Allocator + Copy>(
-    plan: &mut Plan<A>,
-    study: &Study<A>,
-    act: &Act,
-    place: u32,
-) -> Result<(), AllocError> {
-    polled(plan, study, act, place, act.call)
-}
-
-/// A poll that begins at a node was answered.
-fn polled<A: Allocator + Copy>(
-    plan: &mut Plan<A>,
-    study: &Study<A>,
-    act: &Act,
-    place: u32,
-    begun: u32,
-) -> Result<(), AllocError> {
-    if study.asked_by(act) == Kind::Barrier {
-        return polled_barrier(plan, study, act, place, begun);
-    }
-    plan.alive(act.rank, begun)?;
-    let decision = plan.decision(act.round);
-    if !tells_end(study, act) {
-        plan.graph.early(begun);
-        return plan.edge(begun, decision);
-    }
-    plan.edge(decision, act.reply)?;
-    if let Some(Seen::Shrunk { comm, .. }) = act.seen {
-        let spawn = plan.spawn(comm);
-        plan.edge(decision, spawn)?;
-        plan.edge(spawn, act.reply)?;
-    }
-    if act.refused(Refusal::NoRoom) && study.comms > 1 {
-        let last = plan.spawn(small(number(study.comms.wrapping_sub(1))));
-        plan.edge(last, act.reply)?;
-    }
-    Ok(())
-}
-
-/// A barrier's poll that begins at a node was answered: its point lies between.
-fn polled_barrier<A: Allocator + Copy>(
-    plan: &mut Plan<A>,
-    study: &Study<A>,
-    act: &Act,
-    place: u32,
-    begun: u32,
-) -> Result<(), AllocError> {
-    let point = plan.point(place);
-    plan.edge(begun, point)?;
-    plan.edge(point, act.reply)?;
-    if !tells_end(study, act) || act.refused(Refusal::ProcFailed) {
-        plan.graph.early(point);
-    }
-    if act.refused(Refusal::ProcFailed) {
-        plan.alive(act.rank, point)?;
-    } else {
-        plan.alive(act.rank, begun)?;
-    }
-    if !act.refused(Refusal::IsRevoked) {
-        plan.edge(point, plan.revocation(act.comm))?;
-    }
-    if let Some(Seen::Whole(Reply::Done)) = act.seen {
-        return all_arrived(plan, study, act, point);
-    }
-    Ok(())
-}
-
-/// All members arrived before a point.
-fn all_arrived<A: Allocator + Copy>(
-    plan: &mut Plan<A>,
-    study: &Study<A>,
-    act: &Act,
-    point: u32,
-) -> Result<(), AllocError> {
-    for rank in 0..study.ranks {
-        let start = study.barriers.start(act.round, rank);
-        if start != NONE && study.is_member(act.comm, rank) {
-            plan.edge(plan.settle(start), point)?;
+    /// What a call asks.
+    fn call(
+        &self,
+        plan: &mut Plan<A>,
+        act: &Act,
+        place: u32,
+        group: &[u16],
+    ) -> Result<(), AllocError> {
+        match act.standing {
+            Standing::Unseen => Ok(()),
+            Standing::Refused => {
+                if !self.study.counts(act) {
+                    return Ok(());
+                }
+                plan.alive(act.rank, act.call)
+            }
+            Standing::Dead => {
+                if self.study.counts(act) {
+                    return plan.shows(act.rank, act.reply);
+                }
+                Ok(())
+            }
+            Standing::Open => self.open(plan, act, place),
+            Standing::Answered if !self.study.counts(act) => muted(plan, act, place),
+            Standing::Answered => match act.kind {
+                Kind::Fail => declaration(plan, act),
+                Kind::Get => {
+                    let look = looks(plan, act, place)?;
+                    let count = self.named(plan, act, group);
+                    plan.after_failures(count, look)?;
+                    plan.before_failure(count, look)
+                }
+                Kind::Ack => self.ack(plan, act, place),
+                Kind::Agree | Kind::Shrink | Kind::Barrier => self.start(plan, act, place),
+                Kind::Poll => self.polled(plan, act, place, act.call),
+                _ => plan.alive(act.rank, act.call),
+            },
         }
     }
-    Ok(())
+
+    /// A call that has no reply: a start that took effect looked, and then contributed or arrived.
+    fn open(&self, plan: &mut Plan<A>, act: &Act, place: u32) -> Result<(), AllocError> {
+        if act.is(Kind::Fail) {
+            return Ok(());
+        }
+        let counted = at(&self.deals.counted, place as usize) == 1;
+        let arrived = act.is(Kind::Barrier) && at(&self.deals.done, act.round as usize) == 1;
+        if act.starts() && (counted || arrived) {
+            let look = plan.look(place);
+            let settle = plan.settle(place);
+            plan.graph.late(settle);
+            plan.edge(act.call, look)?;
+            plan.edge(look, settle)?;
+            return plan.alive(act.rank, look);
+        }
+        Ok(())
+    }
+
+    /// The ranks of a failed group that was told stand first: how many failures they are, with those that the communicator lacks.
+    fn named(&self, plan: &mut Plan<A>, act: &Act, group: &[u16]) -> u32 {
+        let mut count = self.study.lacking(act.comm);
+        for rank in group {
+            count = count.wrapping_add(1);
+            plan.not_before(*rank, count, act.reply);
+            plan.not_behind(*rank, count, act.reply);
+        }
+        count
+    }
+
+    /// A count of acknowledged failures was told.
+    fn ack(&self, plan: &mut Plan<A>, act: &Act, place: u32) -> Result<(), AllocError> {
+        let look = looks(plan, act, place)?;
+        let Some(Seen::Whole(Reply::Acked { count })) = act.seen else {
+            return Ok(());
+        };
+        let count = u32::from(count);
+        let all = self.study.lacking(act.comm).wrapping_add(count);
+        if count > u32::from(act.acked) {
+            plan.after_failures(all, look)?;
+        }
+        if act.number > u64::from(count) {
+            plan.before_failure(all, look)?;
+        }
+        Ok(())
+    }
+
+    /// A start was answered, by itself or by its poll.
+    fn start(&self, plan: &mut Plan<A>, act: &Act, place: u32) -> Result<(), AllocError> {
+        let look = looks(plan, act, place)?;
+        let settle = plan.settle(place);
+        plan.graph.late(settle);
+        plan.edge(look, settle)?;
+        plan.edge(settle, act.reply)?;
+        if !act.blocking {
+            return Ok(());
+        }
+        self.polled(plan, act, place, settle)
+    }
+
+    /// A poll that begins at a node was answered.
+    fn polled(
+        &self,
+        plan: &mut Plan<A>,
+        act: &Act,
+        place: u32,
+        begun: u32,
+    ) -> Result<(), AllocError> {
+        if self.study.asked_by(act) == Kind::Barrier {
+            let point = plan.point(place);
+            plan.edge(begun, point)?;
+            let alive_at = if act.refused(Refusal::ProcFailed) {
+                point
+            } else {
+                begun
+            };
+            plan.alive(act.rank, alive_at)?;
+            return self.polled_barrier(plan, act, point);
+        }
+        plan.alive(act.rank, begun)?;
+        let decision = plan.decision(act.round);
+        if !tells_end(self.study, act) {
+            plan.graph.early(begun);
+            return plan.edge(begun, decision);
+        }
+        plan.edge(decision, act.reply)?;
+        if let Some(Seen::Shrunk { comm, .. }) = act.seen {
+            let spawn = plan.spawn(comm);
+            plan.edge(decision, spawn)?;
+            plan.edge(spawn, act.reply)?;
+        }
+        if act.refused(Refusal::NoRoom) && self.study.comms > 1 {
+            let last = plan.spawn(small(number(self.study.comms.wrapping_sub(1))));
+            plan.edge(last, act.reply)?;
+        }
+        Ok(())
+    }
+
+    /// A barrier's poll was answered whose point is a node.
+    fn polled_barrier(&self, plan: &mut Plan<A>, act: &Act, point: u32) -> Result<(), AllocError> {
+        plan.edge(point, act.reply)?;
+        if !tells_end(self.study, act) || act.refused(Refusal::ProcFailed) {
+            plan.graph.early(point);
+        }
+        if !act.refused(Refusal::IsRevoked) {
+            plan.edge(point, plan.revocation(act.comm))?;
+        }
+        if let Some(Seen::Whole(Reply::Done)) = act.seen {
+            return self.all_arrived(plan, act, point);
+        }
+        Ok(())
+    }
+
+    /// All members arrived before a point.
+    fn all_arrived(&self, plan: &mut Plan<A>, act: &Act, point: u32) -> Result<(), AllocError> {
+        for rank in 0..self.study.ranks {
+            let start = self.study.barriers.start(act.round, rank);
+            if start != NONE && self.study.is_member(act.comm, rank) {
+                plan.edge(plan.settle(start), point)?;
+            }
+        }
+        Ok(())
+    }
+
+    /// Puts in what each decided round asks.
+    fn rounds(&self, plan: &mut Plan<A>) -> Result<(), AllocError> {
+        for round in 0..self.study.agreements.list.len() {
+            let round = number(round);
+            if self.deals.is_decided(round) {
+                self.decided(plan, round)?;
+            }
+        }
+        Ok(())
+    }
+
+    /// What a decided round asks: of its members, and of the failures in its group.
+    fn decided(&self, plan: &mut Plan<A>, round: u32) -> Result<(), AllocError> {
+        let deal = self.deals.deal(round);
+        let comm = self.study.agreements.round(round as usize).comm;
+        let decision = plan.decision(round);
+        let known = deal.count != NONE;
+        let all = self
+            .study
+            .lacking(comm)
+            .wrapping_add(if known { deal.count } else { 0 });
+        let line = match self.study.act(deal.counted_by) {
+            Some(act) => act.reply,
+            None => NONE,
+        };
+        if known {
+            plan.after_failures(all, decision)?;
+        }
+        for rank in 0..self.study.ranks {
+            if !self.study.is_member(comm, rank) {
+                continue;
+            }
+            let start = self.deals.contribution(self.study, round, rank);
+            if start != NONE {
+                plan.edge(plan.settle(start), decision)?;
+                if known {
+                    let look = plan.look(start);
+                    plan.before_failure(all, look)?;
+                }
+            } else {
+                plan.shows(small(number(rank)), decision)?;
+                if known {
+                    plan.not_behind(small(number(rank)), all, line);
+                }
+            }
+        }
+        Ok(())
+    }
+
+    /// Puts in that who was told that there is no room isn't in the group that its round decided.
+    fn roomless(&self, plan: &mut Plan<A>) -> Result<(), AllocError> {
+        for act in &self.study.acts {
+            if act.refused(Refusal::NoRoom)
+                && self.study.counts(act)
+                && tells_end(self.study, act)
+            {
+                self.outside_group(plan, act)?;
+            }
+        }
+        Ok(())
+    }
+
+    /// A rank isn't in the group that its round decided: no contributor had seen it failed, and those who are left out failed before it.
+    fn outside_group(&self, plan: &mut Plan<A>, act: &Act) -> Result<(), AllocError> {
+        for rank in 0..self.study.ranks {
+            if self.study.is_member(act.comm, rank) {
+                let start = self.deals.contribution(self.study, act.round, rank);
+                if start == NONE {
+                    plan.ahead(small(number(rank)), act.rank)?;
+                } else {
+                    let look = plan.look(start);
+                    plan.alive(act.rank, look)?;
+                }
+            }
+        }
+        Ok(())
+    }
 }
 
 /// The first barrier's poll that was done though a member never began it.
@@ -314,98 +393,6 @@ fn lacks_arrival<A: Allocator + Copy>(study: &Study<A>, act: &Act) -> bool {
         }
     }
     false
-}
-
-/// Puts in what each decided round asks.
-pub fn rounds<A: Allocator + Copy>(
-    plan: &mut Plan<A>,
-    study: &Study<A>,
-    deals: &Deals<A>,
-) -> Result<(), AllocError> {
-    for round in 0..study.agreements.list.len() {
-        let round = number(round);
-        if deals.is_decided(round) {
-            decided(plan, study, deals, round)?;
-        }
-    }
-    Ok(())
-}
-
-/// What a decided round asks: of its members, and of the failures in its group.
-fn decided<A: Allocator + Copy>(
-    plan: &mut Plan<A>,
-    study: &Study<A>,
-    deals: &Deals<A>,
-    round: u32,
-) -> Result<(), AllocError> {
-    let deal = deals.deal(round);
-    let comm = study.agreements.round(round as usize).comm;
-    let decision = plan.decision(round);
-    let known = deal.count != NONE;
-    let all = study
-        .lacking(comm)
-        .wrapping_add(if known { deal.count } else { 0 });
-    let line = match study.act(deal.counted_by) {
-        Some(act) => act.reply,
-        None => NONE,
-    };
-    if known {
-        plan.after_failures(all, decision)?;
-    }
-    for rank in 0..study.ranks {
-        if !study.is_member(comm, rank) {
-            continue;
-        }
-        let start = deals.contribution(study, round, rank);
-        if start != NONE {
-            plan.edge(plan.settle(start), decision)?;
-            if known {
-                let look = plan.look(start);
-                plan.before_failure(all, look)?;
-            }
-        } else {
-            plan.shows(small(number(rank)), decision)?;
-            if known {
-                plan.not_behind(small(number(rank)), all, line);
-            }
-        }
-    }
-    Ok(())
-}
-
-/// Puts in that who was told that there is no room isn't in the group that its round decided.
-pub fn roomless<A: Allocator + Copy>(
-    plan: &mut Plan<A>,
-    study: &Study<A>,
-    deals: &Deals<A>,
-) -> Result<(), AllocError> {
-    for act in &study.acts {
-        if act.refused(Refusal::NoRoom) && study.counts(act) && tells_end(study, act) {
-            outside_group(plan, study, deals, act)?;
-        }
-    }
-    Ok(())
-}
-
-/// A rank isn't in the group that its round decided: no contributor had seen it failed, and those who are left out failed before it.
-fn outside_group<A: Allocator + Copy>(
-    plan: &mut Plan<A>,
-    study: &Study<A>,
-    deals: &Deals<A>,
-    act: &Act,
-) -> Result<(), AllocError> {
-    for rank in 0..study.ranks {
-        if study.is_member(act.comm, rank) {
-            let start = deals.contribution(study, act.round, rank);
-            if start == NONE {
-                plan.ahead(small(number(rank)), act.rank)?;
-            } else {
-                let look = plan.look(start);
-                plan.alive(act.rank, look)?;
-            }
-        }
-    }
-    Ok(())
 }
 
 /// Puts in what communicators' members say of the failures, and that communicators are made one after another.
