@@ -9,8 +9,9 @@ use Rattle.ulfm_model.proofs.{Histories.{failures_begin, members_stay}, LeftFits
 use Rattle.ulfm_comm.specs.Counts.{Ranked, new_rank, records_of}
 use Rattle.ulfm_comm.proofs.Opening.{records_are}
 use Rattle.ulfm_model.proofs.Staying.{replies_last}
-use Rattle.ulfm_race.specs.Races.{AreAnswered, EndsFor, IsAnswered, IsDeclared, IsEnded, IsGathered, IsGroup, IsHeard, IsNewRank, Numbered, StartIs, StopsFor, WasAnswered, WasTold, flag_of, is_refused, is_shrunk, limits_of}
-use Rattle.ulfm_race.specs.declared.{gather.Heard.{Heard}, plan.Plan.{Plan}, plan.RaceFault.{RaceFault}, plan.RaceFault.TheVariants.{Held as HeldBack, Memory}, plan.Turn.{Turn}}
+use Rattle.ulfm_race.specs.Races.{AreAnswered, EndsFor, IsAnswered, IsDeclared, IsEnded, IsGathered, IsGroup, IsHeard, IsNewRank, IsReported, Numbered, StartIs, StopsFor, WasAnswered, WasTold, flag_of, is_refused, is_shrunk, limits_of}
+use Rattle.ulfm_race.specs.declared.{gather.Heard.{Heard}, plan.Plan.{Plan}, plan.RaceFault.{RaceFault}, plan.RaceFault.TheVariants.{Held as HeldBack, Memory}, plan.Turn.{Turn}, worker.Report.{Report}}
+use Rattle.ulfm_words.specs.Steps.{Name}
 use Rattle.ulfm_race.proofs.Turns.{any_push, at_push}
 
 -- one element more, with the number that comes next
@@ -94,7 +95,7 @@ module _ (plan : Plan) (h longer : History FlagAnd) (begins : IsPrefix h longer)
   ended_stays r (inr found) = inr (declared_stays r found)
 
   -- how the rank of a worker ended, by its report
-  pub ended_by : (r : ℕ) (own : Record) (said : List (Reply FlagAnd)) (fault : Option RaceFault) → (fault ≡ None → IsAnswered plan h r own said) → (list_any is_refused said ≡ true → IsDeclared h r) → ((f : RaceFault) → fault ≡ Some f → IsDeclared h r) → IsEnded plan longer r
+  ended_by : (r : ℕ) (own : Record) (said : List (Reply FlagAnd)) (fault : Option RaceFault) → (fault ≡ None → IsAnswered plan h r own said) → (list_any is_refused said ≡ true → IsDeclared h r) → ((f : RaceFault) → fault ≡ Some f → IsDeclared h r) → IsEnded plan longer r
   ended_by r own said None answered refused declared = ended_stays r (inl (said, record { answered = (answered refl).answered; stopped = refused }))
   ended_by r own said (Some f) answered refused declared = inr (declared_stays r (declared f refl))
 
@@ -129,6 +130,12 @@ module _ (plan : Plan) (h longer : History FlagAnd) (begins : IsPrefix h longer)
         each = λ r said at. told_stays r said (was.each r said at);
         group_is = group_stays (list_any (list_any is_shrunk) replies) group was.group_is;
       }
+
+-- how the rank of a worker ended, by its report, in a legal history that goes on from what was reported
+pub report_ended : {name : Name} {may_say : ℕ → Turn → Bool → Type 0} {plan : Plan} {r : ℕ} {report : Report} {seen : History FlagAnd} → IsReported name may_say plan r report
+    → name.limits ≡ limits_of plan → IsLegal flag_meld name.limits seen → IsPrefix report.told.seen seen → IsEnded plan seen r
+report_ended {plan = plan} {r = r} {report = report} {seen = seen} kept same legal begins =
+    ended_by plan report.told.seen seen begins (subst (λ l. IsLegal flag_meld l seen) same legal) r report.rank.own (map (λ t. t.value) report.tokens.items) report.fault kept.answered kept.refused kept.declared
 
 -- nothing is gathered at first
 pub gathered_none : {V : Type 0} (items : V → List (Reply FlagAnd)) (plan : Plan) (h : History FlagAnd) (old : List V) (group : List ℕ) (fault : Option RaceFault) → old ≡ [] → group ≡ [] → IsGathered plan h 0 (map items old) group fault

@@ -12,7 +12,7 @@ use Rattle.ulfm_comm.specs.{Calls.{Calls, EndsBy, is_out_of_memory}, Polls.{poll
 use Rattle.ulfm_comm.specs.declared.calls.polled.Polled.{Polled}
 use Rattle.ulfm_comm.proofs.CallRuns.{called_run}
 use Rattle.ulfm_comm.specs.Local.{local}
-use Rattle.ulfm_model.specs.{Rounds.{AreAgreed, Gave, IsDecision, IsMadeOf, IsReason}, Told.{spread_in}}
+use Rattle.ulfm_model.specs.{Rounds.{AreAgreed, Gave, IsDecision, IsMadeOf, IsReason, IsRefusal}, Told.{spread_in}}
 use Rattle.ulfm_model.proofs.{Refusing.{polls_refused, starts_refused}, Staying.{agreed_last, gave_lasts, replies_last}, Telling.{agree_opens, agree_tells, shrink_opens, shrink_tells}}
 use Rattle.ulfm_wait.specs.Waits.{IsPolledOn}
 use Rattle.ulfm_wait.proofs.Waiting.{IsLast, answer_ends, goes_on, last_poll}
@@ -106,23 +106,23 @@ module _ (plan : Plan) (name : Over FlagAnd) (same : name.limits ≡ limits_of p
   before_last : (after : Sight FlagAnd) → IsView flag_meld (view_at name after) → IsPrefix at.seen after.seen → AreAgreed flag_meld (limits_of plan) after.seen 0 (flag_of r) r said
   before_last after new_of begins = agreed_last flag_meld (limits_of plan) at.seen after.seen begins (subst (λ l. IsLegal flag_meld l after.seen) same new_of.legal) 0 (flag_of r) r said (omega arith) ready.agreed
 
+  -- what the rank was answered ends with a refusal, or with what its shrink made
+  ends_so : (last : Reply FlagAnd) (new : Record) (h : History FlagAnd) → AreAgreed flag_meld (limits_of plan) h 0 (flag_of r) r said
+      → IsRefusal flag_meld (limits_of plan) h 0 (length said) r last ⊎ ((length said ≡ plan.rounds) × IsMadeOf flag_meld (limits_of plan) h 0 plan.rounds r last)
+      → (list_any is_shrunk (said ++ last ∷ []) ≡ true → (z : Held) × (held_at new 1 ≡ Some z)) → IsAnswered plan h r new (said ++ last ∷ [])
+  ends_so last new h agreed ends holds =
+      let count = ready.count in
+      record { answered = record { agreed = said; last = last; all = refl; few = omega (arith, count, in_time); each = agreed; ends = ends }; holds = holds }
+
   -- a refusal with its reason ends what the rank was answered
   ended : (spread : Bool) (refusal : Refusal) (new : Record) (after : Sight FlagAnd) → IsView flag_meld (view_at name after) → IsPrefix at.seen after.seen → IsReason flag_meld (limits_of plan) after.seen (0, k) r spread refusal → IsAnswered plan after.seen r new (said ++ Refused refusal ∷ [])
   ended spread refusal new after new_of begins reason =
       let count = ready.count in
       let agreed = before_last after new_of begins in
       let none : list_any is_shrunk (said ++ Refused refusal ∷ []) ≡ false = any_push is_shrunk said (Refused refusal) ∙ ap (λ b. b || false) (agreed_plain plan after.seen r said agreed) in
-      record {
-        answered = record {
-          agreed = said;
-          last = Refused refusal;
-          all = refl;
-          few = omega (arith, count, in_time);
-          each = agreed;
-          ends = inl (record { refusal = refusal; reply_is = refl; spread = spread; reason = subst (λ n. IsReason flag_meld (limits_of plan) after.seen (0, n) r spread refusal) (sym count) reason });
-        };
-        holds = λ some. absurd (cc (none, some));
-      }
+      ends_so (Refused refusal) new after.seen agreed
+      (inl (record { refusal = refusal; reply_is = refl; spread = spread; reason = subst (λ n. IsReason flag_meld (limits_of plan) after.seen (0, n) r spread refusal) (sym count) reason }))
+      (λ some. absurd (cc (none, some)))
 
   -- a start that is refused has its reason
   start_refused : (asked : Call FlagAnd) → ((value : FlagAnd) × (asked ≡ Agree own.number 0 value)) ⊎ (asked ≡ Shrink own.number 0) → refusal_of own asked ≡ None
@@ -246,17 +246,10 @@ module _ (plan : Plan) (name : Over FlagAnd) (same : name.limits ≡ limits_of p
         let z = told.1.0 in
         let number : z.comm ≡ 1 = told.1.1 ∙ first_made told.0.comm told.0.above told.0.made legal in
         let held : new.held ≡ record y { request = None } ∷ z ∷ [] = told.1.2 ∙ ap (λ h. h ++ z ∷ []) (last_closed asked y ready.comm mid then starts shrink_is_open new after (Ok reply) last) in
-        record {
-          answered = record {
-            agreed = said;
-            last = polled reply;
-            all = refl;
-            few = omega (arith, count, in_time);
-            each = before_last after last.poll.linearizes.of (all_from asked y ready.comm mid then starts shrink_is_open new after (Ok reply) last (polled reply) last.poll);
-            ends = inr (count ∙ all, subst (λ n. IsMadeOf flag_meld (limits_of plan) after.seen 0 n r (polled reply)) all made);
-          };
-          holds = λ some. (z, ap (λ h. find (λ w. w.comm == 1) h) held ∙ (ap (λ n. cond (n == 1) (Some (record y { request = None })) (cond (z.comm == 1) (Some z) None)) ready.comm ∙ ap (λ n. cond (n == 1) (Some z) None) number));
-        }
+        ends_so (polled reply) new after.seen
+        (before_last after last.poll.linearizes.of (all_from asked y ready.comm mid then starts shrink_is_open new after (Ok reply) last (polled reply) last.poll))
+        (inr (count ∙ all, subst (λ n. IsMadeOf flag_meld (limits_of plan) after.seen 0 n r (polled reply)) all made))
+        (λ some. (z, ap (λ h. find (λ w. w.comm == 1) h) held ∙ (ap (λ n. cond (n == 1) (Some (record y { request = None })) (cond (z.comm == 1) (Some z) None)) ready.comm ∙ ap (λ n. cond (n == 1) (Some z) None) number)))
 
     pub shrink_answered : (answer : Result (Polled FlagAnd) Refusal) (reply : Reply FlagAnd) → IsPolledOn flag_meld false 0 (local mid (view_at name then)) answer (local new (view_at name after)) → IsKeptReply answer reply → IsAnswered plan after.seen r new (said ++ reply ∷ [])
     shrink_answered (Ok answer) reply polls kept =
@@ -281,6 +274,10 @@ says_true plan r k said new h reply is (inr goes) = absurd (cc (is, goes.0))
 pub says_false : (plan : Plan) (r k : ℕ) (said : List (Reply FlagAnd)) (new : Record) (h : History FlagAnd) (reply : Reply FlagAnd) → is_refused reply ≡ false → SaysAgree plan r k said new h reply → IsReady plan r (k + 1) new h (said ++ reply ∷ [])
 says_false plan r k said new h reply is (inl refused) = absurd (cc (is, refused.0))
 says_false plan r k said new h reply is (inr goes) = goes.1
+
+-- a rank is ready by its own number
+pub ready_own : {plan : Plan} {r k : ℕ} {own : Record} {h : History FlagAnd} {said : List (Reply FlagAnd)} → IsReady plan r k own h said → IsReady plan own.number k own h said
+ready_own {plan} {r} {k} {own} {h} {said} ready = subst (λ n. IsReady plan n k own h said) (sym ready.number) ready
 
 -- a new rank is ready for the first round
 pub ready_first : (plan : Plan) (own : Record) (h : History FlagAnd) (said : List (Reply FlagAnd)) → own ≡ new_record (limits_of plan) own.number → said ≡ [] → IsReady plan own.number 0 own h said

@@ -5,9 +5,11 @@ use Rattle.ulfm_laws.specs.{declared.flag_and.FlagAnd.{FlagAnd}, Flags.{flag_mel
 use Rattle.ulfm_model.specs.declared.{call.Call.{Call}, call.Call.TheVariants.{Agree, Shrink}, refusal.Refusal.{Refusal}, refusal.Refusal.TheVariants.{OutOfMemory}, reply.Reply.{Reply}, reply.Reply.TheVariants.{Started}}
 use Rattle.ulfm_words.specs.Steps.{Name, Sight}
 use Rattle.ulfm_comm.specs.declared.calls.polled.{Polled.{Polled}, Polled.TheVariants.{Pending as StillPending}}
-use Rattle.ulfm_wait.specs.Members.{MemberCalls, MemberPolls, Membership, setting_of}
+use Rattle.ulfm_comm.specs.{Calls.{Calls}, Counts.{TakesSteps}}
+use Rattle.ulfm_model.specs.{History.{History}, Records.{Record}}
+use Rattle.ulfm_wait.specs.Members.{MemberCalls, MemberPolls, Membership, after_call, local_of, setting_of}
 use Rattle.ulfm_wait.specs.{Turns.{MemberPends}, Waits.{MemberAwaits, MemberPollsOn}}
-use Rattle.ulfm_race.specs.Races.{IsKeptReply, flag_of, flag_pack, is_stopped}
+use Rattle.ulfm_race.specs.Races.{IsKeptReply, IsReady, flag_of, flag_pack, is_stopped}
 use Rattle.ulfm_race.specs.Worked.{BreaksIn, TurnsBreakOff, Declares, HasPended, HasTurned, HasTurnedBy, TakesPart, TakesTurns, TurnIs, steps_of, turn_of}
 use Rattle.ulfm_race.specs.declared.{plan.Plan.{Plan}, plan.RaceFault.{RaceFault}, plan.RaceFault.TheVariants.{Held as HeldBack, Memory}}
 
@@ -42,17 +44,28 @@ turn_answered asked old mid new answer (Err fault) starts polls kept stops =
 pub turn_held : (asked : Call FlagAnd) (old mid new : Membership FlagAnd) (fault : RaceFault) → MemberCalls (setting_of flag_meld flag_pack false) asked old Started mid → HasPended mid new → fault ≡ HeldBack → BreaksIn asked old fault new
 turn_held asked old mid new fault starts pended held = subst (λ f. BreaksIn asked old f new) (sym held) (inr (mid, starts, pended))
 
+-- a member's call of a rank, by what its rank's call promises
+pub made_so : {asked made : Call FlagAnd} {reply : Reply FlagAnd} → made ≡ asked → (old mid : Membership FlagAnd) → mid.view.words ≡ old.view.words
+    → Calls flag_meld false made (local_of flag_pack old) reply (after_call flag_pack old mid) → TakesSteps made (local_of flag_pack old) mid.last (after_call flag_pack old mid)
+    → MemberCalls (setting_of flag_meld flag_pack false) asked old reply mid
+made_so {reply = reply} same old mid words calls steps =
+    subst (λ a. MemberCalls (setting_of flag_meld flag_pack false) a old reply mid) same (record { words = words; calls = calls; steps = steps })
+
+-- the agree of a round, by the number and the flag that it was given
+pub agree_given : {n r : ℕ} (k : ℕ) {flag : FlagAnd} → flag ≡ flag_of n k → n ≡ r → Agree r 0 flag ≡ Agree r 0 (flag_of r k)
+agree_given {r = r} k flag_is same = ap (λ v. Agree r 0 v) (flag_is ∙ ap (λ m. flag_of m k) same)
+
 -- the turn of a round is its agree
-pub agree_asked : (plan : Plan) (r n k : ℕ) → n ≡ r → k < plan.rounds → Agree n 0 (flag_of n k) ≡ turn_of plan r k
-agree_asked plan r n k same early =
-    ap (λ m. Agree m 0 (flag_of m k)) same
+pub agree_asked : {plan : Plan} {r k : ℕ} {own : Record} {h : History FlagAnd} {said : List (Reply FlagAnd)} → IsReady plan r k own h said → k < plan.rounds → Agree own.number 0 (flag_of own.number k) ≡ turn_of plan r k
+agree_asked {plan} {r} {k} ready early =
+    ap (λ m. Agree m 0 (flag_of m k)) ready.number
     ∙ sym (ap (λ (b : Bool). if b then Shrink r 0 else Agree r 0 (flag_of r k)) (ne_eqb k plan.rounds (λ e. omega (arith, e, early))))
 
 -- and the one behind all rounds is the shrink
-pub shrink_asked : (plan : Plan) (r n k : ℕ) → n ≡ r → k ≡ plan.rounds → Shrink n 0 ≡ turn_of plan r k
-shrink_asked plan r n k same last =
-    subst (λ m. Shrink m 0 ≡ turn_of plan r k) (sym same)
-    (sym (ap (λ (b : Bool). if b then Shrink r 0 else Agree r 0 (flag_of r k)) (eq-eqb k plan.rounds last)))
+pub shrink_asked : {plan : Plan} {r : ℕ} {own : Record} {h : History FlagAnd} {said : List (Reply FlagAnd)} → IsReady plan r plan.rounds own h said → Shrink own.number 0 ≡ turn_of plan r plan.rounds
+shrink_asked {plan} {r} ready =
+    ap (λ m. Shrink m 0) ready.number
+    ∙ sym (ap (λ (b : Bool). if b then Shrink r 0 else Agree r 0 (flag_of r plan.rounds)) (eq-eqb plan.rounds plan.rounds refl))
 
 -- no turn yet
 pub turns_none : (plan : Plan) (r : ℕ) (said : List (Reply FlagAnd)) (m : Membership FlagAnd) → length said ≡ 0 → TakesTurns plan r 0 said m m
@@ -67,19 +80,25 @@ turns_push plan r k [] reply old mid new m is same last =
 turns_push plan r k (first ∷ said) reply old mid new m is (next, part, rest) last = (next, part, turns_push plan r (k + 1) said reply next mid new m (omega (arith, is)) rest last)
 
 -- the next turn, answered, or broken off
-pub next_turn : (plan : Plan) (r k : ℕ) (said : List (Reply FlagAnd)) (start mid new : Membership FlagAnd) (asked : Call FlagAnd) (result : Result (Reply FlagAnd) RaceFault) → asked ≡ turn_of plan r k → length said ≡ k
-    → TakesTurns plan r 0 said start mid → TurnIs asked mid result new → MatchResult result (λ reply. TakesTurns plan r 0 (said ++ reply ∷ []) start new) (λ fault. TurnsBreakOff plan r fault said start new)
-next_turn plan r k said start mid new asked (Ok reply) is count turns turn =
+pub next_turn : {plan : Plan} {r k : ℕ} {own : Record} {h : History FlagAnd} {said : List (Reply FlagAnd)} → IsReady plan r k own h said → {asked : Call FlagAnd} → asked ≡ turn_of plan r k → (start mid new : Membership FlagAnd)
+    (result : Result (Reply FlagAnd) RaceFault) → TakesTurns plan r 0 said start mid → TurnIs asked mid result new → MatchResult result (λ reply. TakesTurns plan r 0 (said ++ reply ∷ []) start new) (λ fault. TurnsBreakOff plan r fault said start new)
+next_turn {plan} {r} {k} {said = said} ready is start mid new (Ok reply) turns turn =
+    let count = ready.count in
     turns_push plan r 0 said reply start mid new k (omega (arith, count)) turns (subst (λ a. TakesPart a mid reply new) is turn)
-next_turn plan r k said start mid new asked (Err fault) is count turns turn =
-    (mid, turns, inl (subst (λ n. BreaksIn (turn_of plan r n) mid fault new) (sym count) (subst (λ a. BreaksIn a mid fault new) is turn)))
+next_turn {plan} {r} ready is start mid new (Err fault) turns turn =
+    (mid, turns, inl (subst (λ n. BreaksIn (turn_of plan r n) mid fault new) (sym ready.count) (subst (λ a. BreaksIn a mid fault new) is turn)))
+
+-- the same where its reply was kept behind those before
+pub kept_turn : {plan : Plan} {r k : ℕ} {own : Record} {h : History FlagAnd} {said : List (Reply FlagAnd)} → IsReady plan r k own h said → {asked : Call FlagAnd} → asked ≡ turn_of plan r k → (start mid new : Membership FlagAnd)
+    (reply : Reply FlagAnd) (kept : List (Reply FlagAnd)) → kept ≡ said ++ reply ∷ [] → TakesTurns plan r 0 said start mid → TakesPart asked mid reply new → TakesTurns plan r 0 kept start new
+kept_turn {plan} {r} ready is start mid new reply kept same turns turn = subst (λ w. TakesTurns plan r 0 w start new) (sym same) (next_turn ready is start mid new (Ok reply) turns turn)
 
 -- one that was answered, which couldn't be kept
-pub lost_turn : (plan : Plan) (r k : ℕ) (said kept : List (Reply FlagAnd)) (start mid new : Membership FlagAnd) (asked : Call FlagAnd) (reply : Reply FlagAnd) (fault : RaceFault) → asked ≡ turn_of plan r k → length said ≡ k
-    → TakesTurns plan r 0 said start mid → TakesPart asked mid reply new → fault ≡ Memory → kept ≡ said → TurnsBreakOff plan r fault kept start new
-lost_turn plan r k said kept start mid new asked reply fault is count turns turn refused same =
+pub lost_turn : {plan : Plan} {r k : ℕ} {own : Record} {h : History FlagAnd} {said : List (Reply FlagAnd)} → IsReady plan r k own h said → {asked : Call FlagAnd} → asked ≡ turn_of plan r k → (start mid new : Membership FlagAnd)
+    (reply : Reply FlagAnd) (fault : RaceFault) (kept : List (Reply FlagAnd)) → kept ≡ said → fault ≡ Memory → TakesTurns plan r 0 said start mid → TakesPart asked mid reply new → TurnsBreakOff plan r fault kept start new
+lost_turn {plan} {r} ready is start mid new reply fault kept same refused turns turn =
     subst (λ xs. TurnsBreakOff plan r fault xs start new) (sym same)
-    (mid, turns, inr (refused, reply, subst (λ n. TakesPart (turn_of plan r n) mid reply new) (sym count) (subst (λ a. TakesPart a mid reply new) is turn)))
+    (mid, turns, inr (refused, reply, subst (λ n. TakesPart (turn_of plan r n) mid reply new) (sym ready.count) (subst (λ a. TakesPart a mid reply new) is turn)))
 
 -- the turns by the fault that was met, if one was
 pub turned_by : (plan : Plan) (r : ℕ) (ended : Result Bool RaceFault) (fault : Option RaceFault) (said : List (Reply FlagAnd)) (old new : Membership FlagAnd) → (fault ≡ None → (whole : Bool) × (ended ≡ Ok whole))

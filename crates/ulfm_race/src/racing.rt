@@ -36,6 +36,23 @@ impl<'a, G: Gate> Promise<Report> for Promised<'a, G> {
     ghost kept_by = { λ p r. IsReported p.world.now (G.may_say p.gate.now) p.plan p.number r };
 }
 
+/// What all threads of a race have before them.
+#[derive(Drop)]
+struct RaceSetting<'a, R, G: Gate> {
+    /// What threads are made by, and wait by.
+    rt: &'a R,
+    /// The scheduler of the race.
+    gate: &'a G,
+    /// Where memory is taken from.
+    alloc: Global,
+    /// The world of all ranks that race.
+    world: &'a Shared,
+    /// Whether each worker has its thread.
+    began: &'a AtomicBool,
+    /// How many ranks race, and for how many rounds.
+    plan: Plan,
+}
+
 /// A worker's thread.
 pub(crate) type Handle<'a, G> = PromisedHandle<Report, Promised<'a, G>>;
 
@@ -146,18 +163,15 @@ fn race_in<'s, E, R: Threads + Wait + Sync, G: Gate + Sync>(
     let gathered = Gathered::new(alloc, plan)?;
     let mut started = Vec::with_capacity(alloc, ranks.len())?;
     let mut outside = world.pass(alloc)?;
-    start_all(
-        scope,
+    let race = RaceSetting {
         rt,
         gate,
         alloc,
         world,
         began,
         plan,
-        ranks,
-        &mut outside,
-        &mut started,
-    );
+    };
+    start_all(scope, &race, ranks, &mut outside, &mut started);
     began.store(true, Ordering::SeqCst);
     declare(world, plan, &mut outside);
     hear_all(rt, alloc, world, gate, started, &mut outside, gathered)
@@ -182,30 +196,25 @@ fn declare(world: &Shared, plan: Plan, outside: &mut BookPass<FlagAnd>)
 // A worker is started for each rank, in order; where one can't be, its rank is declared, and the others are started still.
 fn start_all<'s, E, G: Gate + Sync, R: Wait + Sync>(
     scope: &Scope<'s, E>,
-    rt: &'s R,
-    gate: &'s G,
-    alloc: Global,
-    world: &'s Shared,
-    began: &'s AtomicBool,
-    plan: Plan,
+    race: &RaceSetting<'s, R, G>,
     ranks: Vec<Own>,
     outside: &mut BookPass<FlagAnd>,
     started: &mut Vec<Started<'s, G>>,
 )
-    requires plan { IsPlan plan }
-    requires limits { world.now.limits ≡ limits_of plan }
-    requires of { IsView flag_meld (view_of flag_pack world.now outside.old) }
-    requires ranks { Numbered (IsNewRank plan) 0 (records_of ranks.items) }
+    requires plan { IsPlan race.now.plan }
+    requires limits { race.now.world.now.limits ≡ limits_of race.now.plan }
+    requires of { IsView flag_meld (view_of flag_pack race.now.world.now outside.old) }
+    requires ranks { Numbered (IsNewRank race.now.plan) 0 (records_of ranks.items) }
     requires nobody { started.old.items ≡ [] }
     requires room { length ranks.items ≤ vec_capacity started.old }
-    ensures of { IsView flag_meld (view_of flag_pack world.now outside.new) }
-    ensures started { Numbered (λ r one. StartIs (λ h. IsStarted world.now gate.now plan r h.promise) outside.new.seen r one)
+    ensures of { IsView flag_meld (view_of flag_pack race.now.world.now outside.new) }
+    ensures started { Numbered (λ r one. StartIs (λ h. IsStarted race.now.world.now race.now.gate.now race.now.plan r h.promise) outside.new.seen r one)
         0 started.new.items }
     ensures all { length started.new.items ≡ length ranks.items }
-    ensures few { outside.new.steps ≤ outside.old.steps + steps_of (2 * world.now.limits.ranks) started.new.items }
+    ensures few { outside.new.steps ≤ outside.old.steps + steps_of (2 * race.now.world.now.limits.ranks) started.new.items }
 {
     for rank in ranks {
-        let one = start(scope, rt, gate, alloc, world, began, plan, rank, outside);
+        let one = start(scope, race, rank, outside);
         started.push_reserved(one);
     }
 }
@@ -213,38 +222,36 @@ fn start_all<'s, E, G: Gate + Sync, R: Wait + Sync>(
 // One worker is started, on a thread of its own. Where none can be made, its rank is declared.
 fn start<'s, E, G: Gate + Sync, R: Wait + Sync>(
     scope: &Scope<'s, E>,
-    rt: &'s R,
-    gate: &'s G,
-    alloc: Global,
-    world: &'s Shared,
-    began: &'s AtomicBool,
-    plan: Plan,
+    race: &RaceSetting<'s, R, G>,
     rank: Own,
     outside: &mut BookPass<FlagAnd>,
 ) -> Started<'s, G>
-    requires plan { IsPlan plan }
-    requires limits { world.now.limits ≡ limits_of plan }
-    requires new { IsNewRank plan rank.own.number rank.own }
-    requires of { IsView flag_meld (view_of flag_pack world.now outside.old) }
-    ensures of { IsView flag_meld (view_of flag_pack world.now outside.new) }
+    requires plan { IsPlan race.now.plan }
+    requires limits { race.now.world.now.limits ≡ limits_of race.now.plan }
+    requires new { IsNewRank race.now.plan rank.own.number rank.own }
+    requires of { IsView flag_meld (view_of flag_pack race.now.world.now outside.old) }
+    ensures of { IsView flag_meld (view_of flag_pack race.now.world.now outside.new) }
     ensures seen { IsPrefix outside.old.seen outside.new.seen }
-    ensures started { StartIs (λ h. IsStarted world.now gate.now plan rank.own.number h.promise) outside.new.seen rank.own.number result }
-    ensures once { MatchResult result (λ _. outside.new ≡ outside.old) (λ _. Declares world.now rank.own.number outside.old outside.new) }
+    ensures started { StartIs (λ h. IsStarted race.now.world.now race.now.gate.now race.now.plan rank.own.number h.promise) outside.new.seen
+        rank.own.number result }
+    ensures once { MatchResult result (λ _. outside.new ≡ outside.old) (λ _. Declares race.now.world.now rank.own.number outside.old outside.new) }
 {
     let number = rank.number();
     let promised = Promised {
-        gate,
-        world,
-        plan,
+        gate: race.gate,
+        world: race.world,
+        plan: race.plan,
         number,
     };
-    let (pass, said) = match pass_and_room(alloc, world) {
+    let (pass, said) = match pass_and_room(race.alloc, race.world) {
         Ok(both) => both,
         Err(_) => {
-            let _ = world.fail(outside, number);
+            let _ = race.world.fail(outside, number);
             return Err(RaceFault::Memory);
         }
     };
+    let (rt, gate, alloc) = (race.rt, race.gate, race.alloc);
+    let (world, began, plan) = (race.world, race.began, race.plan);
     let started = scope.spawn_with(
         promised,
         move || work(rt, gate, alloc, world, began, plan, rank, pass, said),
@@ -252,7 +259,7 @@ fn start<'s, E, G: Gate + Sync, R: Wait + Sync>(
     match started {
         Ok(handle) => Ok(handle),
         Err(_) => {
-            let _ = world.fail(outside, number);
+            let _ = race.world.fail(outside, number);
             Err(RaceFault::Memory)
         }
     }

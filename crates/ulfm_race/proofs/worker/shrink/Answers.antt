@@ -4,7 +4,7 @@ use Rattle.ulfm_model.specs.declared.{call.Call.TheVariants.{Shrink}, reply.Repl
 use Rattle.ulfm_wait.specs.Members.{MemberCalls, setting_of}
 use Rattle.ulfm_wait.specs.Turns.{member_of}
 use Rattle.ulfm_race.specs.Races.{IsKeptReply, flag_pack, flag_words}
-use Rattle.ulfm_race.proofs.{Turns.{if_ok, shrink_answered, shrink_refused}, Working.{turn_answered, turn_held}}
+use Rattle.ulfm_race.proofs.{Turns.{if_ok, shrink_answered, shrink_refused}, Working.{made_so, turn_answered, turn_held}}
 use Rattle.ulfm_race.proofs.worker.shrink.Goals as goal
 
 pub returns-in-Ok-polled-clause-says : goal.returns-in-Ok-polled-clause-says
@@ -19,28 +19,19 @@ returns-in-Err-clause-says g c plan said same ready =
 
 pub returns-in-Ok-polled-clause-turn : goal.returns-in-Ok-polled-clause-turn
 returns-in-Ok-polled-clause-turn g c =
-    let name = c.args.world.now in
-    let r = c.args.rank.now.own.number in
-    let old = member_of name c.args.rank.now c.args.pass.now in
-    let mid = member_of name c.ishrink-started.new.self c.ishrink-started.new.pass in
-    let starts : MemberCalls (setting_of flag_meld flag_pack false) (Shrink r 0) old Started mid = record { words = refl; calls = c.in-Ok.ensures.calls; steps = c.in-Ok.ensures.steps } in
-    turn_answered (Shrink r 0) old mid (member_of name c.polled.new.rank c.polled.new.pass) c.in-Ok-polled.answer c.reply_from.result starts c.in-Ok-polled.ensures.counted
-    c.reply_from.ensures.kept c.reply_from.ensures.stops
+    let old = member_of c.args.world.now c.args.rank.now c.args.pass.now in
+    let mid = member_of c.args.world.now c.ishrink-started.new.self c.ishrink-started.new.pass in
+    turn_answered _ old mid (member_of c.args.world.now c.polled.new.rank c.polled.new.pass) c.in-Ok-polled.answer c.reply_from.result
+    (made_so refl old mid refl c.in-Ok.ensures.calls c.in-Ok.ensures.steps) c.in-Ok-polled.ensures.counted c.reply_from.ensures.kept c.reply_from.ensures.stops
 
 pub returns-in-Err-polled-clause-turn : goal.returns-in-Err-polled-clause-turn
 returns-in-Err-polled-clause-turn g c =
-    let name = c.args.world.now in
-    let r = c.args.rank.now.own.number in
-    let old = member_of name c.args.rank.now c.args.pass.now in
-    let mid = member_of name c.ishrink-started.new.self c.ishrink-started.new.pass in
-    let starts : MemberCalls (setting_of flag_meld flag_pack false) (Shrink r 0) old Started mid = record { words = refl; calls = c.in-Ok.ensures.calls; steps = c.in-Ok.ensures.steps } in
-    turn_held (Shrink r 0) old mid (member_of name c.polled.new.rank c.polled.new.pass) c.in-Err-polled.fault starts c.in-Err-polled.ensures.pends c.in-Err-polled.ensures.stops.0
+    let old = member_of c.args.world.now c.args.rank.now c.args.pass.now in
+    let mid = member_of c.args.world.now c.ishrink-started.new.self c.ishrink-started.new.pass in
+    turn_held _ old mid (member_of c.args.world.now c.polled.new.rank c.polled.new.pass) c.in-Err-polled.fault
+    (made_so refl old mid refl c.in-Ok.ensures.calls c.in-Ok.ensures.steps) c.in-Err-polled.ensures.pends c.in-Err-polled.ensures.stops.0
 
 pub returns-in-Err-clause-turn : goal.returns-in-Err-clause-turn
 returns-in-Err-clause-turn g c =
-    let name = c.args.world.now in
-    let r = c.args.rank.now.own.number in
-    let old = member_of name c.args.rank.now c.args.pass.now in
-    let mid = member_of name c.ishrink-started.new.self c.ishrink-started.new.pass in
-    let refused : MemberCalls (setting_of flag_meld flag_pack false) (Shrink r 0) old (Refused c.in-Err.refusal) mid = record { words = refl; calls = c.in-Err.ensures.calls; steps = c.in-Err.ensures.steps } in
-    inl (c.in-Err.refusal, refl, refused)
+    let old = member_of c.args.world.now c.args.rank.now c.args.pass.now in
+    inl (c.in-Err.refusal, refl, made_so refl old (member_of c.args.world.now c.ishrink-started.new.self c.ishrink-started.new.pass) refl c.in-Err.ensures.calls c.in-Err.ensures.steps)
