@@ -12,7 +12,7 @@ use Rattle.ulfm_model.specs.{History.{Decision, body_of, contribution_of, decide
 use Rattle.ulfm_model.proofs.Lists.{all_some, any_none, any_same, each_always, each_from, filter_map_each, filter_map_same, filter_none, not_in_take}
 use Rattle.ulfm_laws.specs.{Bodies.{body_meld, body_unit}, Combined.{combined}}
 use Rattle.ulfm_model.specs.{declared.decide.Decided.{Decided}, Walked.{decision_of}}
-use Rattle.ulfm_numbers.specs.{declared.rounds.Done.{Done}, declared.slots.Slots.{Slots}}
+use Rattle.ulfm_numbers.specs.{declared.cells.Cell.{Cell}, declared.grids.Grid.{Grid}, declared.rounds.Done.{Done}}
 use Rattle.ulfm_numbers.specs.{Cells.{told_at}, Groups.{group_at}, Numbers.{by_then, count_by, numbers_from}, Failed.{in_group}, Rounds.{AreDone, IsByRound, IsDone, KeepsSlots, failed_of, settled_then}}
 use Rattle.ulfm_numbers.proofs.{Counting.{failed_first}, Tabling.{place_is}}
 
@@ -110,7 +110,7 @@ module _ {P : Type 0} (meld : P → P → P) where
       acked_fits (Slot.Mark mark) g f e = absurd (cc e)
       acked_fits (Slot.Given given) g f e = let same : given ≡ g = cc e in subst (λ w. w.acked.count ≤ length F) same (omega (arith, f, given.within))
 
-module _ {P A B : Type 0} (meld : P → P → P) (slots : Slots P B) where
+module _ {P A B : Type 0} (meld : P → P → P) (slots : Grid (Cell P) B) where
   -- what a round decides now is what is kept of it
   pub is_done : (failures : List ℕ) (groups : List (List ℕ)) (c k since count : ℕ) (made : Decided P A) (members failed : List ℕ) (settled : List (Slot P)) → members ≡ group_at groups c
       → failed ≡ failed_of groups failures c → settled ≡ filter_map (settled_then slots c k since) members → c < length groups
@@ -128,7 +128,7 @@ module _ {P A B : Type 0} (meld : P → P → P) (slots : Slots P B) where
       )
 
   -- it stays so
-  pub done_stays : (later : Slots P B) (failures more : List ℕ) (groups extra : List (List ℕ)) (c k : ℕ) (done : Done P A) → KeepsSlots slots later
+  pub done_stays : (later : Grid (Cell P) B) (failures more : List ℕ) (groups extra : List (List ℕ)) (c k : ℕ) (done : Done P A) → KeepsSlots slots later
       → IsDone meld slots failures groups c k done → IsDone meld later (failures ++ more) (groups ++ extra) c k done
   done_stays later failures more groups extra c k done keeps is =
       let ms = group_at groups c in
@@ -187,7 +187,7 @@ module _ {P A B : Type 0} (meld : P → P → P) (slots : Slots P B) where
       )
 
 -- one more round is kept
-pub done_kept : {P A B T : Type 0} (meld : P → P → P) (rounds more : HashMap (ℕ × ℕ × ℕ) (Done P A) T) (slots : Slots P B) (failures : List ℕ) (groups : List (List ℕ)) (c k : ℕ) (done : Done P A)
+pub done_kept : {P A B T : Type 0} (meld : P → P → P) (rounds more : HashMap (ℕ × ℕ × ℕ) (Done P A) T) (slots : Grid (Cell P) B) (failures : List ℕ) (groups : List (List ℕ)) (c k : ℕ) (done : Done P A)
     → AreDone meld rounds slots failures groups → IsDone meld slots failures groups c k done
     → ((q : ℕ × ℕ × ℕ) → get same_place more q ≡ (if same_place (c, k, 0) q then Some done else get same_place rounds q)) → AreDone meld more slots failures groups
 done_kept {P} {A} meld rounds more slots failures groups c k done are is puts d l other at = go (same_place (c, k, 0) (d, l, 0)) refl
@@ -201,7 +201,7 @@ done_kept {P} {A} meld rounds more slots failures groups c k done are is puts d 
     go false apart = are d l other (sym (ap (λ (b : Bool). if b then Some done else get same_place rounds (d, l, 0)) apart) ∙ (sym (puts (d, l, 0)) ∙ at))
 
 -- and so it is after it was put there, or memory was refused
-pub done_put : {P A B T X E : Type 0} (meld : P → P → P) (rounds more : HashMap (ℕ × ℕ × ℕ) (Done P A) T) (slots : Slots P B) (failures : List ℕ) (groups : List (List ℕ)) (c k : ℕ) (done : Done P A) (result : Result X E)
+pub done_put : {P A B T X E : Type 0} (meld : P → P → P) (rounds more : HashMap (ℕ × ℕ × ℕ) (Done P A) T) (slots : Grid (Cell P) B) (failures : List ℕ) (groups : List (List ℕ)) (c k : ℕ) (done : Done P A) (result : Result X E)
     → AreDone meld rounds slots failures groups → IsDone meld slots failures groups c k done → OnOk result (Updates same_place rounds more (c, k, 0) (Some done)) → OnErr result (IsUnchanged rounds more) → AreDone meld more slots failures groups
 done_put meld rounds more slots failures groups c k done (Ok x) are is ok err = done_kept meld rounds more slots failures groups c k done are is ok.0
 done_put meld rounds more slots failures groups c k done (Err e) are is ok err = λ d l other at. are d l other (ap (lookup (same_place (d, l, 0))) (sym err) ∙ at)
@@ -217,7 +217,7 @@ by_round_put {V} old new c k v (Ok x) are ok err = λ place w at. go place w at 
 by_round_put old new c k v (Err e) are ok err = λ place w at. are place w (ap (lookup (same_place place)) (sym err) ∙ at)
 
 -- and so it is of what is left where some are taken out
-pub done_fewer : {P A B T : Type 0} (meld : P → P → P) (rounds fewer : HashMap (ℕ × ℕ × ℕ) (Done P A) T) (slots : Slots P B) (failures : List ℕ) (groups : List (List ℕ)) (test : ℕ × ℕ × ℕ → Bool)
+pub done_fewer : {P A B T : Type 0} (meld : P → P → P) (rounds fewer : HashMap (ℕ × ℕ × ℕ) (Done P A) T) (slots : Grid (Cell P) B) (failures : List ℕ) (groups : List (List ℕ)) (test : ℕ × ℕ × ℕ → Bool)
     → AreDone meld rounds slots failures groups → ((q : ℕ × ℕ × ℕ) → get same_place fewer q ≡ (if test q then None else get same_place rounds q)) → AreDone meld fewer slots failures groups
 done_fewer {P} {A} meld rounds fewer slots failures groups test are takes c k done at = go (test (c, k, 0)) refl
   where
@@ -234,7 +234,7 @@ by_round_fewer {V} old new test are takes place w at = go (test place) refl
     go false there = are place w (sym (ap (λ (b : Bool). if b then None else get same_place old place) there) ∙ (sym (takes place) ∙ at))
 
 -- what was put at a place that nothing stood at leaves the others
-pub put_keeps : {P A : Type 0} (old new : Slots P A) (place : ℕ × ℕ × ℕ) (x : ℕ × Slot P) → told_at old place ≡ None
+pub put_keeps : {P A : Type 0} (old new : Grid (Cell P) A) (place : ℕ × ℕ × ℕ) (x : ℕ × Slot P) → told_at old place ≡ None
     → ((q : ℕ × ℕ × ℕ) → told_at new q ≡ (if same_place place q then Some x else told_at old q)) → KeepsSlots old new
 put_keeps {P} old new place x absent puts q at there = go (same_place place q) refl
   where
@@ -243,7 +243,7 @@ put_keeps {P} old new place x absent puts q at there = go (same_place place q) r
     go false apart = puts q ∙ (ap (λ (b : Bool). if b then Some x else told_at old q) apart ∙ there)
 
 -- each round that is kept is still decided after one more event
-pub are_done_later : {P A B T : Type 0} (meld : P → P → P) (rounds : HashMap (ℕ × ℕ × ℕ) (Done P A) T) (slots later : Slots P B) (failures more longer : List ℕ) (groups extra all : List (List ℕ)) → KeepsSlots slots later
+pub are_done_later : {P A B T : Type 0} (meld : P → P → P) (rounds : HashMap (ℕ × ℕ × ℕ) (Done P A) T) (slots later : Grid (Cell P) B) (failures more longer : List ℕ) (groups extra all : List (List ℕ)) → KeepsSlots slots later
     → longer ≡ failures ++ more → all ≡ groups ++ extra → AreDone meld rounds slots failures groups → AreDone meld rounds later longer all
 are_done_later {P} {A} meld rounds slots later failures more longer groups extra all keeps longer_is all_is are c k done at =
     subst (λ (fs : List ℕ). IsDone {A = A} meld later fs all c k done) (sym longer_is)

@@ -3,8 +3,6 @@ use Rattle.std.proofs.Common.{◌≡◌, ◌≢◌, ◌<◌, ◌==◌, ◌&&◌,
 use Rattle.std.specs.Option.{option_map_or}
 use Rattle.std.specs.Prelude.{Err, Ok, OnOk, Result}
 use Rattle.std.proofs.lemmas.Bool.{eqb-true, eq-eqb}
-use Rattle.ulfm_laws.specs.declared.summary.CtxMask.{CtxMask}
-use Rattle.ulfm_numbers.specs.{declared.cells.Cell.{Cell}, Cells.{told_by}}
 
 -- what stands elsewhere stays, and what is written stands
 pub get_other : {X : Type 0} (xs : List X) (i j : ℕ) (y : X) → j ≢ i → slice_get (set xs i y) j ≡ slice_get xs j
@@ -73,14 +71,3 @@ put_below {X} {V} f none xs old i n x new puts at within is tells put j q =
         let here : f x q ≡ old i q = ap (λ y. f y q) is ∙ (read_there (λ y. f y q) none xs i x within ∙ tells i q) in
         put q ∙ ap (puts q) (here ∙ ap (λ k. old k q) (eqb-true i j same))
     go false apart = tells j q
-
--- what one of two cells tells, each with its own flag, or its own context ids
-pub told_with_flag : {P : Type 0} (b : Bool) (x y : Cell) (f g : P) (m : CtxMask)
-    → told_by (if b then x else y) (if b then f else g) m ≡ (if b then told_by x f m else told_by y g m)
-told_with_flag true x y f g m = refl
-told_with_flag false x y f g m = refl
-
-pub told_with_mask : {P : Type 0} (b : Bool) (x y : Cell) (f : P) (m n : CtxMask)
-    → told_by (if b then x else y) f (if b then m else n) ≡ (if b then told_by x f m else told_by y f n)
-told_with_mask true x y f m n = refl
-told_with_mask false x y f m n = refl

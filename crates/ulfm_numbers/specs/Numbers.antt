@@ -3,7 +3,7 @@ use Rattle.std.specs.Prelude.{◌≡◌, ℕ, ◌+◌, ◌==◌, nat_lt, nat_eq,
 use Rattle.std.specs.Prelude.{List, [], ◌∷◌, ◌++◌, length, filter, Option, Some, None, is_some, OnOk, Result}
 use Rattle.std.specs.{HashMap.{HashMap, get}, List.{cons_option}, Option.{option_and_then, option_map}}
 use Rattle.ulfm_model.specs.declared.{event.Entry.{Entry}}
-use Rattle.ulfm_numbers.specs.{declared.grids.Grid.{Grid}, declared.slots.Slots.{Slots}, Cells.{number_at, told_at}}
+use Rattle.ulfm_numbers.specs.{declared.cells.Cell.{Cell}, declared.grids.Grid.{Grid}, Cells.{number_at, told_at}}
 use Rattle.ulfm_model.specs.{History.{History, failures, same_place, says, spawns}, Terms.{put_at}}
 
 -- an event's number and what it gives, or what later events give
@@ -58,7 +58,7 @@ abbrev pub Notes : {P T X E : Type 0} → (T → History P → Type 0) → T →
 Notes {P} TellsIt old new n entry result = (h : History P) → TellsIt old h → n ≡ length h → OnOk result (TellsIt new (h ++ entry ∷ []))
 
 -- the grid has, for each place, when it was settled first, and what settled it
-abbrev pub TellsSlots : {P A : Type 0} → Slots P A → History P → Type 0
+abbrev pub TellsSlots : {P A : Type 0} → Grid (Cell P) A → History P → Type 0
 TellsSlots slots h = (place : ℕ × ℕ × ℕ) → told_at slots place ≡ first_from (λ e. put_at place (says e.event).settles) 0 h
 
 -- the grid has, for each place, when its rank arrived

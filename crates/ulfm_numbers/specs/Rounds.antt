@@ -4,15 +4,15 @@ use Rattle.std.specs.{HashMap.{HashMap, get}, List.{list_all}}
 use Rattle.ulfm_model.specs.declared.contribution.Slot.{Slot}
 use Rattle.ulfm_model.specs.History.{decided_by, has, known_of, same_place}
 use Rattle.ulfm_model.specs.Walked.{decision_of}
-use Rattle.ulfm_numbers.specs.{declared.rounds.Done.{Done}, declared.slots.Slots.{Slots}}
+use Rattle.ulfm_numbers.specs.{declared.cells.Cell.{Cell}, declared.grids.Grid.{Grid}, declared.rounds.Done.{Done}}
 use Rattle.ulfm_numbers.specs.{Cells.{told_at}, Groups.{group_at}, Numbers.{by_then}}
 
 -- what settles these members of a round at a point
-abbrev pub settled_then : {P A : Type 0} → Slots P A → ℕ → ℕ → ℕ → ℕ → Option (Slot P)
+abbrev pub settled_then : {P A : Type 0} → Grid (Cell P) A → ℕ → ℕ → ℕ → ℕ → Option (Slot P)
 settled_then slots c k point r = by_then point (told_at slots (c, k, r))
 
 -- what settles a place stays
-abbrev pub KeepsSlots : {P A : Type 0} → Slots P A → Slots P A → Type 0
+abbrev pub KeepsSlots : {P A : Type 0} → Grid (Cell P) A → Grid (Cell P) A → Type 0
 KeepsSlots {P} old new = (place : ℕ × ℕ × ℕ) (at : ℕ × Slot P) → told_at old place ≡ Some at → told_at new place ≡ Some at
 
 -- who of a communicator is among these failures
@@ -21,7 +21,7 @@ failed_of groups failures c = filter (has (group_at groups c)) failures
 
 -- A round has decided since a point: each member was settled then; what settles them knows no more failures of the communicator than there were then, so
 -- many; and they decide what is kept.
-abbrev pub IsDone : {P A B : Type 0} → (P → P → P) → Slots P B → List ℕ → List (List ℕ) → ℕ → ℕ → Done P A → Type 0
+abbrev pub IsDone : {P A B : Type 0} → (P → P → P) → Grid (Cell P) B → List ℕ → List (List ℕ) → ℕ → ℕ → Done P A → Type 0
 IsDone meld slots failures groups c k done =
     let settled = filter_map (settled_then slots c k done.since) (group_at groups c) in
     (nat_lt c (length groups) ≡ true)
@@ -31,7 +31,7 @@ IsDone meld slots failures groups c k done =
     × (decision_of done.made ≡ decided_by meld (take done.failed (failed_of groups failures c)) settled)
 
 -- and so has each round that is kept
-abbrev pub AreDone : {P A B T : Type 0} → (P → P → P) → HashMap (ℕ × ℕ × ℕ) (Done P A) T → Slots P B → List ℕ → List (List ℕ) → Type 0
+abbrev pub AreDone : {P A B T : Type 0} → (P → P → P) → HashMap (ℕ × ℕ × ℕ) (Done P A) T → Grid (Cell P) B → List ℕ → List (List ℕ) → Type 0
 AreDone {P} {A} meld rounds slots failures groups =
     (c k : ℕ) (done : Done P A) → get same_place rounds (c, k, 0) ≡ Some done → IsDone meld slots failures groups c k done
 

@@ -1,7 +1,8 @@
-//! What settles a place: how and when, in one small value. What is offered lies beside it, since a flag of 64 bits would widen each.
+//! What settles a place, with the number of its event, in one value of few bytes: the small parts stand beside the tag.
 ghost use Rattle.std.specs.Prelude.{◌≤◌};
 
-use ulfm_laws::summary::{Acked, Known};
+use ulfm_laws::flag_and::FlagAnd;
+use ulfm_laws::summary::{Acked, CtxMask, Known};
 use ulfm_model::contribution::MarkCount;
 
 /// The counts of a contribution.
@@ -14,17 +15,17 @@ pub struct Counts {
     ghost within: { acked.count ≤ known.count },
 }
 
-/// How and when a place was settled, if it was. Fields lie in the order of the source behind the tag, so that all takes 12 bytes.
+/// What settles a place, if anything does. Fields lie in the order of the source behind the tag, so that 64 bits of a flag take 24 bytes in all.
 #[derive(Clone, Copy)]
-pub enum Cell {
-    /// Nothing settled it.
+pub enum Cell<P> {
+    /// Nothing does.
     Empty,
     /// A mark, and the number of its event.
-    Marked(MarkCount, u32),
-    /// A contribution to an agree: its counts, and the number of its event.
-    Flag(Counts, u32),
-    /// A contribution to a shrink: its counts, and the number of its event.
-    Ctx(Counts, u32),
+    Marked(MarkCount, u64),
+    /// A contribution to an agree: its counts, the number of its event, and its flag.
+    Flag(Counts, u64, P),
+    /// A contribution to a shrink: its counts, the number of its event, and its context ids.
+    Ctx(Counts, u64, CtxMask),
 }
 
-const _: () = prove!(size_of::<Cell>() == 12);
+const _: () = prove!(size_of::<Cell<FlagAnd>>() == 24);

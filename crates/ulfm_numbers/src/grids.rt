@@ -59,8 +59,19 @@ pub(crate) fn cell_at<C: Copy, A: Allocator>(grid: &Grid<C, A>, place: RoundKey,
     }
 }
 
+/// The cells of a communicator's round, where there is room for it.
+#[inline(always)]
+pub(crate) fn row_at<C: Copy, A: Allocator>(
+    grid: &Grid<C, A>,
+    comm: u16,
+    round: u16,
+) -> Option<&Vec<C, A>> {
+    let rounds = grid.comms.get(usize::from(comm))?;
+    rounds.get(usize::from(round))
+}
+
 /// Puts a cell at a rank of a round.
-pub(crate) fn put_in_round<C: Copy, A: Allocator>(
+fn put_in_round<C: Copy, A: Allocator>(
     ranks: &mut Vec<C, A>,
     rank: u16,
     empty: C,

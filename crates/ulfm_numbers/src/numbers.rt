@@ -16,12 +16,11 @@ ghost use Rattle.ulfm_numbers.specs.Groups.{group_at, items_of};
 ghost use Rattle.ulfm_numbers.specs.Rounds.{AreDone, IsByRound, IsDone, KeepsSlots};
 ghost use Rattle.ulfm_model.specs.History.{History, has, same_place, says};
 
-use crate::grids::{Grid, cell_at, new_grid, put_at};
+use crate::cells::Cell;
+use crate::grids::{Grid, cell_at, new_grid, put_at, row_at};
 use crate::groups::{Group, declare_in_all, group_of, has_member, same_ranks};
 use crate::rounds::{Done, have_common, know_few};
-use crate::slots::{
-    Slots, is_told_in, new_slots, number_at, put_number, put_told, row_at, told_at,
-};
+use crate::slots::{is_told_in, number_at, put_number, put_told, told_at};
 use std::alloc::{AllocError, Allocator};
 use std::collections::HashMap;
 use std::hash::{BuildHasherDefault, FoldHasher, Hash};
@@ -38,9 +37,6 @@ pub type RoundKey = (u16, u16, u16);
 /// A hash table over an allocator.
 pub type Table<K, V, A> = HashMap<K, V, BuildHasherDefault<FoldHasher>, A>;
 
-/// How many events are noted at the most, so that numbers take 32 bits. No legal history has so many: each place is settled once.
-const EVENTS_MAX: u64 = 4294967296;
-
 /// Of how many rounds of a communicator it is kept what they decided, the last ones.
 const KEPT_ROUNDS: u16 = 4;
 
@@ -48,7 +44,7 @@ const KEPT_ROUNDS: u16 = 4;
 #[derive(Drop)]
 pub struct Numbers<P: Meld, A: Allocator> {
     /// By place, what it is settled by, with the number of the event that settled it.
-    pub slots: Slots<P, A>,
+    pub slots: Grid<Cell<P>, A>,
     /// By place, the arrival of its rank: 1 more than the number of its event, or 0 where there is none.
     pub arrivals: Grid<u64, A>,
     /// By communicator, its revocation.
@@ -153,11 +149,10 @@ fn declared_by<P: Copy>(entry: &Entry<P>) -> Option<u16>
 /// Notes what one more event settles, with its number.
 fn note_slot<P: Copy, A: Allocator + Copy>(
     alloc: A,
-    slots: &mut Slots<P, A>,
+    slots: &mut Grid<Cell<P>, A>,
     number: u64,
     entry: &Entry<P>,
 ) -> Result<(), AllocError>
-    requires { number < 4294967296 }
     ensures told { Notes TellsSlots slots.old slots.new number entry.now result }
     ensures kept { OnOk result (KeepsSlots slots.old slots.new) }
 {
@@ -292,7 +287,7 @@ fn note_group<A: Allocator + Copy + Drop>(
 /// Notes one more event in each table, and the members of the communicator that it makes.
 fn note_all<P: Copy, A: Allocator + Copy + Drop>(
     alloc: A,
-    slots: &mut Slots<P, A>,
+    slots: &mut Grid<Cell<P>, A>,
     arrivals: &mut Grid<u64, A>,
     revocations: &mut Table<u16, u64, A>,
     declared: &mut Table<u16, u64, A>,
@@ -305,7 +300,7 @@ fn note_all<P: Copy, A: Allocator + Copy + Drop>(
     entry: &Entry<P>,
     made: Option<Vec<u16, A>>,
 ) -> Result<(), AllocError>
-    requires { number < 4294967296 }
+    requires { number < 18446744073709551615 }
     ensures slots { Notes TellsSlots slots.old slots.new number entry.now result }
     ensures arrivals { Notes TellsArrivals arrivals.old arrivals.new number entry.now result }
     ensures revocations { Notes TellsRevocations revocations.old revocations.new number entry.now result }
@@ -437,7 +432,7 @@ impl<P: Meld, A: Allocator + Copy + Drop> Numbers<P, A> {
         let mut groups = Vec::new(alloc);
         groups.push(group_of(alloc, world, &[])?)?;
         Ok(Numbers {
-            slots: new_slots(alloc, P::unit()),
+            slots: new_grid(alloc),
             arrivals: new_grid(alloc),
             revocations: HashMap::new(alloc),
             declared: HashMap::new(alloc),
@@ -453,12 +448,12 @@ impl<P: Meld, A: Allocator + Copy + Drop> Numbers<P, A> {
     }
 
     /// Notes one more event, whether or not it may follow: [`may_follow`](crate::allowed::may_follow) is the test. Memory may be refused; so it
-    /// is behind 2^32 events, and no legal history has so many, since each place is settled once. After a refusal the tables tell nothing of use. It
-    /// takes time by the event and the members of its communicator, and none by the length of the history.
+    /// is behind 2^64 - 1 events, for which there would be no room anyway. After a refusal the tables tell nothing of use. It takes time by the
+    /// event and the members of its communicator, and none by the length of the history.
     pub fn note(&mut self, alloc: A, entry: &Entry<P>) -> Result<(), AllocError>
         ensures { (ranks : ℕ) (h : History P) → TablesTell ranks self.old h → OnOk result (TablesTell ranks self.new (h ++ entry.now ∷ [])) }
     {
-        if self.count >= EVENTS_MAX {
+        if self.count == u64::MAX {
             return Err(AllocError);
         }
         let made = self.group_made(alloc, entry)?;
@@ -512,11 +507,11 @@ impl<P: Meld, A: Allocator + Copy + Drop> Numbers<P, A> {
     fn first_open(&self, comm: u16, round: u16) -> usize {
         let group = group_at(&self.groups, comm);
         let begin = self.hint_of(comm, round).0;
-        let Some(row) = row_at(&self.slots, comm, round) else {
+        let Some(cells) = row_at(&self.slots, comm, round) else {
             return begin;
         };
         let open = match group.get(begin..) {
-            Some(rest) => rest.iter().position(|rank| !is_told_in(row, *rank)),
+            Some(rest) => rest.iter().position(|rank| !is_told_in(cells, *rank)),
             None => None,
         };
         match open {

@@ -1,14 +1,14 @@
 use Rattle.std.proofs.Common.{List, ◌∷◌, ◌++◌, [], nat_eq, refl, ap, ◌∙◌}
 use Rattle.std.specs.Map.{lookup}
 use Rattle.std.specs.Prelude.{map}
-use Rattle.ulfm_numbers.specs.{declared.groups.Group.{Group}, Cells.{number_by}, Failed.{members_of}}
+use Rattle.ulfm_numbers.specs.{declared.cells.Cell.TheVariants.{Empty}, declared.groups.Group.{Group}, Cells.{number_by, told_by}, Failed.{members_of}}
 use Rattle.ulfm_numbers.proofs.Seeing.{groups_first}
 use Rattle.ulfm_numbers.proofs.numbers.Numbers.new.Goals as goal
 
 pub returns : goal.returns
 returns g c = record {
-  slots = c.new_slots.ensures;
-  arrivals = λ q. ap number_by (c.new_grid.ensures 0 q);
+  slots = λ q. ap told_by (c.new_grid.ensures Empty q);
+  arrivals = λ q. ap number_by (c.new_grid-2.ensures 0 q);
   revocations = λ q. ap (lookup (nat_eq q)) c.new.ensures.empty;
   declared = λ q. ap (lookup (nat_eq q)) c.new-2.ensures.empty;
   failures = (c.new-3.ensures.items, c.new-4.ensures.items);
