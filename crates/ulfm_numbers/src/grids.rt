@@ -24,7 +24,7 @@ pub(crate) fn new_grid<C: Copy, A: Allocator>(alloc: A) -> Grid<C, A>
 }
 
 /// The cell at a rank of a round.
-pub(crate) fn in_round<C: Copy, A: Allocator>(ranks: &Vec<C, A>, rank: u16, empty: C) -> C
+fn in_round<C: Copy, A: Allocator>(ranks: &Vec<C, A>, rank: u16, empty: C) -> C
     ensures { result ≡ in_round empty ranks.now rank }
 {
     match ranks.get(usize::from(rank)) {
@@ -57,17 +57,6 @@ pub(crate) fn cell_at<C: Copy, A: Allocator>(grid: &Grid<C, A>, place: RoundKey,
         Some(rounds) => in_rounds(rounds, round, rank, empty),
         None => empty,
     }
-}
-
-/// The cells of a communicator's round, where there is room for it.
-#[inline(always)]
-pub(crate) fn row_at<C: Copy, A: Allocator>(
-    grid: &Grid<C, A>,
-    comm: u16,
-    round: u16,
-) -> Option<&Vec<C, A>> {
-    let rounds = grid.comms.get(usize::from(comm))?;
-    rounds.get(usize::from(round))
 }
 
 /// Puts a cell at a rank of a round.

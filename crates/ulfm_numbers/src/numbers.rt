@@ -17,10 +17,10 @@ ghost use Rattle.ulfm_numbers.specs.Rounds.{AreDone, IsByRound, IsDone, KeepsSlo
 ghost use Rattle.ulfm_model.specs.History.{History, has, same_place, says};
 
 use crate::cells::Cell;
-use crate::grids::{Grid, cell_at, new_grid, put_at, row_at};
+use crate::grids::{Grid, cell_at, new_grid, put_at};
 use crate::groups::{Group, declare_in_all, group_of, has_member, same_ranks};
 use crate::rounds::{Done, have_common, know_few};
-use crate::slots::{is_told_in, number_at, put_number, put_told, told_at};
+use crate::slots::{number_at, put_number, put_told, told_at};
 use std::alloc::{AllocError, Allocator};
 use std::collections::HashMap;
 use std::hash::{BuildHasherDefault, FoldHasher, Hash};
@@ -507,11 +507,11 @@ impl<P: Meld, A: Allocator + Copy + Drop> Numbers<P, A> {
     fn first_open(&self, comm: u16, round: u16) -> usize {
         let group = group_at(&self.groups, comm);
         let begin = self.hint_of(comm, round).0;
-        let Some(cells) = row_at(&self.slots, comm, round) else {
-            return begin;
-        };
         let open = match group.get(begin..) {
-            Some(rest) => rest.iter().position(|rank| !is_told_in(cells, *rank)),
+            Some(rest) => rest.iter().position(|rank| told_at(
+                &self.slots,
+                (comm, round, *rank),
+            ).is_none()),
             None => None,
         };
         match open {

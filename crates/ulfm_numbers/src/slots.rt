@@ -1,13 +1,11 @@
 //! What settles places, and when something happens at them, in cells of a grid.
-ghost use Rattle.std.specs.Prelude.{◌≡◌, ◌<◌, OnOk, Some, if◌then◌else◌, is_some, ℕ};
+ghost use Rattle.std.specs.Prelude.{◌≡◌, ◌<◌, OnOk, Some, if◌then◌else◌, ℕ};
 ghost use Rattle.ulfm_model.specs.History.{same_place};
 ghost use Rattle.ulfm_model.specs.declared.contribution.Slot.TheVariants.{Given};
-ghost use Rattle.ulfm_numbers.specs.Grids.{in_round};
-ghost use Rattle.ulfm_numbers.specs.declared.cells.Cell.TheVariants.{Empty};
 ghost use Rattle.ulfm_numbers.specs.Cells.{counts_of, given_of, number_at, number_by, told_at, told_by};
 
 use crate::cells::{Cell, Counts};
-use crate::grids::{Grid, cell_at, in_round, put_at};
+use crate::grids::{Grid, cell_at, put_at};
 use crate::numbers::RoundKey;
 use std::alloc::{AllocError, Allocator};
 use ulfm_model::contribution::{Contribution, Offer, Slot};
@@ -77,17 +75,6 @@ pub(crate) fn told_at<P: Copy, A: Allocator>(
     ensures { result ≡ told_at slots.now place }
 {
     told_by(&cell_at(slots, place, Cell::Empty))
-}
-
-/// Whether the cells of a round say that a rank is settled.
-#[inline(always)]
-pub(crate) fn is_told_in<P: Copy, A: Allocator>(cells: &Vec<Cell<P>, A>, rank: u16) -> bool
-    ensures { result ≡ is_some (told_by (in_round Empty cells.now rank)) }
-{
-    match in_round(cells, rank, Cell::Empty) {
-        Cell::Empty => false,
-        _ => true,
-    }
 }
 
 /// Puts at a place what settles it, with the number of its event.
