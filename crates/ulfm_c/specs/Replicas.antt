@@ -84,7 +84,7 @@ one_if b = if b then 1 else 0
 -- a reply in C's words: a poll's as a poll's; of all others the number that they tell, in place of the size of a failed group
 abbrev pub Tells : Reply FlagAnd → ℤ → PolledReply → Type 0
 Tells (reply.Refused refusal) code out = (code ≡ pos ((printed refusal).0)) × IsPlain 0 out
-Tells (reply.Agreed flag failed raised) code out =
+Tells (reply.Agreed raised failed flag) code out =
     (code ≡ pos 0) × (out.kind ≡ 1) × ((out.flag ≡ flag.bits) × (out.failed ≡ failed) × (out.raised ≡ raised)) × HasNoComm out
 Tells (reply.Shrunk comm context size) code out =
     (code ≡ pos 0) × (out.kind ≡ 2) × HasNoFlag out × ((out.comm ≡ comm) × (out.context ≡ context) × (out.size ≡ size))

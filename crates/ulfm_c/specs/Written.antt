@@ -28,6 +28,6 @@ HasNoComm out = (out.comm ≡ 0) × (out.context ≡ 0) × (out.size ≡ 0)
 -- what C is told of a poll's answer
 abbrev pub WritesPolled : Polled FlagAnd → PolledReply → Type 0
 WritesPolled Pending out = (out.kind ≡ 0) × HasNoFlag out × HasNoComm out
-WritesPolled (Agreed flag failed raised) out = (out.kind ≡ 1) × ((out.flag ≡ flag.bits) × (out.failed ≡ failed) × (out.raised ≡ raised)) × HasNoComm out
+WritesPolled (Agreed raised failed flag) out = (out.kind ≡ 1) × ((out.flag ≡ flag.bits) × (out.failed ≡ failed) × (out.raised ≡ raised)) × HasNoComm out
 WritesPolled (Shrunk comm context size) out = (out.kind ≡ 2) × HasNoFlag out × ((out.comm ≡ comm) × (out.context ≡ context) × (out.size ≡ size))
 WritesPolled Done out = (out.kind ≡ 3) × HasNoFlag out × HasNoComm out

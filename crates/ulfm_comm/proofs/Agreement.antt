@@ -319,7 +319,7 @@ module _ {P : Type 0} (meld : P → P → P) (alone : Bool) (name : Over P) (c k
           let count = all.known.count in
           let raised = nat_lt all.acked.count count in
           record {
-            ends = inr (calls_is meld alone name before after onward polling old (Agreed value count raised) new of fits (λ is no. absurd (cc (is, no)))
+            ends = inr (calls_is meld alone name before after onward polling old (Agreed raised count value) new of fits (λ is no. absurd (cc (is, no)))
                 (poll_agreed meld name.limits alone before.seen old mid c k x after.seen m all new read value is left));
             pending = λ same agrees. absurd (cc same);
           }

@@ -291,12 +291,12 @@ module _ {P : Type 0} (meld : P → P → P) (limits : Limits) (alone : Bool) (b
       left
 
   -- the round is decided on a flag
-  pub poll_agreed : (value : P) → all.body ≡ OfFlags value → new ≡ closed mid c → IsEndRun meld limits alone (moment old before) (call.Poll old.number c) (Agreed value all.known.count (nat_lt all.acked.count all.known.count)) (moment new after)
+  pub poll_agreed : (value : P) → all.body ≡ OfFlags value → new ≡ closed mid c → IsEndRun meld limits alone (moment old before) (call.Poll old.number c) (Agreed (nat_lt all.acked.count all.known.count) all.known.count value) (moment new after)
   poll_agreed value body is =
       let count = count_read meld limits after mid c k x p.legal still p.since.held all read in
       let raised = raised_read meld limits after mid c k x p.legal still p.since.held all read in
-      decides (Agreed value all.known.count (nat_lt all.acked.count all.known.count))
-      (inl (value, body_read meld limits after mid c k x p.legal still p.since.held all read ∙ body, ap₂ (Agreed value) count raised)) is
+      decides (Agreed (nat_lt all.acked.count all.known.count) all.known.count value)
+      (inl (value, body_read meld limits after mid c k x p.legal still p.since.held all read ∙ body, ap₂ (λ n e. Agreed e n value) count raised)) is
 
   -- it is decided, and some shrank
   pub poll_mismatch : ((flag : P) → all.body ≡ OfFlags flag → ⊥) → new ≡ closed mid c

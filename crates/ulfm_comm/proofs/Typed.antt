@@ -175,7 +175,7 @@ module _ {P : Type 0} {meld : P → P → P} {alone : Bool} {asked : Call P} {ol
 
   by_answer : (answer : Polled P) → EndsReply meld alone asked old (polled answer) new → Polls meld alone asked old (Ok answer) new
   by_answer Pending ends = polls_on Pending ends
-  by_answer (Agreed value failed raised) ends = polls_on (Agreed value failed raised) ends
+  by_answer (Agreed raised failed value) ends = polls_on (Agreed raised failed value) ends
   by_answer (Shrunk j context size) ends = polls_on (Shrunk j context size) ends
   by_answer Done ends = polls_on Done ends
 

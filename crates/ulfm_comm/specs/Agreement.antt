@@ -69,6 +69,6 @@ pub record HasReadAll {P : Type 0} (meld : P → P → P) (alone : Bool) (asked 
 -- what an agree's round says, as a reply
 abbrev pub agreed_reply : {P : Type 0} → Summary P → Body P → Reply P
 agreed_reply all Nothing = Refused Mismatch
-agreed_reply all (OfFlag value) = Agreed value all.known.count (nat_lt all.acked.count all.known.count)
+agreed_reply all (OfFlag value) = Agreed (nat_lt all.acked.count all.known.count) all.known.count value
 agreed_reply all (OfIds mask) = Refused Mismatch
 agreed_reply all Clash = Refused Mismatch

@@ -25,7 +25,7 @@ IsAgreement (Some (Barrier k)) = ⊥
 -- the reply that a poll's Rust value stands for
 abbrev pub polled : {P : Type 0} → Polled P → Reply P
 polled Pending = StillPending
-polled (Agreed value failed raised) = AgreedOn value failed raised
+polled (Agreed raised failed value) = AgreedOn raised failed value
 polled (Shrunk j context size) = ShrunkTo j context size
 polled Done = AllCame
 
@@ -87,13 +87,13 @@ PendsIn meld alone asked old reply new =
 -- the same by the poll's result: a pending poll of an agreement ends in such a load
 abbrev pub EndsIn : {P : Type 0} → (P → P → P) → Bool → ℕ → Local P → Local P → Polled P → Type 0
 EndsIn {P} meld alone c old new Pending = IsAgreement (polled_by {P = P} old.own (Poll old.own.number c)) → EndsInMissing meld alone c old new
-EndsIn meld alone c old new (Agreed value failed raised) = ⊤
+EndsIn meld alone c old new (Agreed raised failed value) = ⊤
 EndsIn meld alone c old new (Shrunk j context size) = ⊤
 EndsIn meld alone c old new Done = ⊤
 
 -- the poll's answer isn't pending: the request was answered
 abbrev pub IsNotPending : {P : Type 0} → Polled P → Type 0
 IsNotPending Pending = ⊥
-IsNotPending (Agreed value failed raised) = ⊤
+IsNotPending (Agreed raised failed value) = ⊤
 IsNotPending (Shrunk j context size) = ⊤
 IsNotPending Done = ⊤

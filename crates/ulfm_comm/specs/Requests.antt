@@ -48,7 +48,7 @@ is_round_refusal _ = false
 
 -- .. a reply
 abbrev pub is_of_round : {P : Type 0} → Reply P → Bool
-is_of_round (Agreed value count raised) = true
+is_of_round (Agreed raised count value) = true
 is_of_round (Shrunk j context size) = true
 is_of_round (Refused refusal) = is_round_refusal refusal
 is_of_round _ = false

@@ -19,7 +19,7 @@ left_same : (ranks : ℕ) (after : History FlagAnd) (now : Record) (r c count : 
     → left_by ranks after now (Ack r c count) reply ≡ left_by ranks after now (FailureAck r c) reply
 left_same ranks after now r c count Started = refl
 left_same ranks after now r c count Pending = refl
-left_same ranks after now r c count (Agreed value failed raised) = refl
+left_same ranks after now r c count (Agreed raised failed value) = refl
 left_same ranks after now r c count (Shrunk comm context size) = refl
 left_same ranks after now r c count Done = refl
 left_same ranks after now r c count (FailedGroup n) = refl

@@ -87,7 +87,7 @@ refused_short refusal.OutOfMemory = refusal_short 14 (codes "out-of-memory") (om
 refused_short refusal.Twice = refusal_short 15 (codes "twice") (omega arith) (wider (lit (codes "twice") refl) (omega arith))
 
 -- a reply, which lists at most 1,024 ranks
-raised_short : (value : FlagAnd) (count : ℕ) (raised : Bool) → count < 10000 → Short 48 (reply_text [] (reply.Agreed value count raised))
+raised_short : (value : FlagAnd) (count : ℕ) (raised : Bool) → count < 10000 → Short 48 (reply_text [] (reply.Agreed raised count value))
 raised_short value count true lt = wider (joins (lit (codes "agreed ") refl) (joins (flag_short value) (joins (lit (codes " failed ") refl) (joins (num count lt) (lit (codes " raised") refl))))) (omega arith)
 raised_short value count false lt = wider (joins (lit (codes "agreed ") refl) (joins (flag_short value) (joins (lit (codes " failed ") refl) (joins (num count lt) (lit (codes " clean") refl))))) (omega arith)
 
@@ -105,7 +105,7 @@ word_short xs free few = wider (lit xs free) (omega (arith, few))
 reply_short : (group : List ℕ) (told : Reply FlagAnd) → ReplyFits told group → length group ≤ 1024 → Short 6000 (reply_text group told)
 reply_short group reply.Started fits few = word_short (codes "started") refl (omega arith)
 reply_short group reply.Pending fits few = word_short (codes "pending") refl (omega arith)
-reply_short group (reply.Agreed value count raised) fits few = wider (raised_short value count raised fits.0) (omega arith)
+reply_short group (reply.Agreed raised count value) fits few = wider (raised_short value count raised fits.0) (omega arith)
 reply_short group (reply.Shrunk comm context size) fits few =
     let x = fits.0 in let y = fits.1 in
     wider (members_short comm context group (omega (arith, x)) (omega (arith, y)) fits.4) (omega (arith, few))

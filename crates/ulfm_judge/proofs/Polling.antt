@@ -150,9 +150,9 @@ module _ {P : Type 0} (pack : P → ℕ) (tells : (x y : P) → pack x ≡ pack 
     pub agree_decides : (reply : Reply P) → Decides (agree_test pack late decided made reply) (Either Late decided (AgreeReplies made reply) reply)
     agree_decides Reply.Pending =
         Decides-like _ (λ p. inl (p, refl)) (λ q. elim q [ inl a ↦ a.0 | inr b ↦ elim (b.1) [ inl f ↦ absurd (cc (f.2)) | inr g ↦ absurd (cc (g.1)) ] ]) pending
-    agree_decides (Reply.Agreed value count raised) =
+    agree_decides (Reply.Agreed raised count value) =
         Decides-like _
-        (λ p. inr (p.0, inl (value, p.1.0, ap₂ (λ n b. Reply.Agreed value n b) p.1.1.0 p.1.1.1)))
+        (λ p. inr (p.0, inl (value, p.1.0, ap₂ (λ n b. Reply.Agreed b n value) p.1.1.0 p.1.1.1)))
         (λ q. elim q [
           | inl a ↦ absurd (cc (a.1))
           | inr b ↦ elim (b.1) [

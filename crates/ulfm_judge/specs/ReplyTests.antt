@@ -172,7 +172,7 @@ made_test None c k = false
 -- whether an agree's poll is answered so, by whether the round is pending, whether it is decided, and its decision
 abbrev pub agree_test : {P : Type 0} → (P → ℕ) → Bool → Bool → Decision P → Reply P → Bool
 agree_test pack late decided made Reply.Pending = late
-agree_test pack late decided made (Reply.Agreed value count raised) =
+agree_test pack late decided made (Reply.Agreed raised count value) =
     decided && (flag_test pack made.body value && ((count == length made.failed) && same_answer raised made.raised))
 agree_test pack late decided made (Reply.Refused refusal) = decided && (same_refusal refusal Refusal.Mismatch && clash_test made.body)
 agree_test pack late decided made _ = false

@@ -1,5 +1,5 @@
 //! The calls under way, each at its caller's place: lines that begin one, and looks.
-ghost use Rattle.std.specs.Prelude.{◌≡◌, ◌<◌, ◌≤◌, ◌==◌, IfOk, IfSome, List, OnOk, ℕ, false, find, length, map, max, position, take};
+ghost use Rattle.std.specs.Prelude.{◌≡◌, ◌<◌, ◌≤◌, ◌==◌, IfOk, IfSome, List, OnOk, ℕ, false, find, length, map, max, position};
 ghost use Rattle.ulfm_judge.specs.Kept.{AreCalls, GoesWith, needed_by, place_by, seat_of, traced_of};
 ghost use Rattle.ulfm_judge.specs.Tests.{due_test};
 ghost use Rattle.ulfm_model.specs.Answers.{traits_of};
@@ -178,16 +178,4 @@ pub(crate) fn look<P: Meld, A: Allocator>(
     }
     u.look = Some(count);
     None
-}
-
-/// The first so many ranks of a group, or all of it.
-pub(crate) fn first_of(group: &[u16], count: u16) -> &[u16]
-    ensures { result.now ≡ take count group.now }
-{
-    let count = usize::from(count);
-    if count < group.len() {
-        &group[..count]
-    } else {
-        group
-    }
 }

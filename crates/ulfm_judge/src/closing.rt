@@ -15,7 +15,7 @@ ghost use Rattle.ulfm_model.specs.Traces.{Takes, Under, caller_of, record_in, re
 ghost use Rattle.ulfm_model.specs.declared.line.Line.{Line};
 
 use crate::answers::{is_answer, lists};
-use crate::calls::{OpenCall, first_of, place_by, place_of_rank};
+use crate::calls::{OpenCall, place_by, place_of_rank};
 use crate::polls::View;
 use crate::replies::{is_fail_reply, is_refused};
 use std::alloc::{AllocError, Allocator};
@@ -23,6 +23,7 @@ use std::mem;
 use ulfm_laws::meld::{Meld, Packed};
 use ulfm_model::call::{Call, comm_of, rank_of};
 use ulfm_model::event::Caller;
+use ulfm_model::groups::first_of;
 use ulfm_model::held::{HeldComm, Members, take_in};
 use ulfm_model::leaves::settle;
 use ulfm_model::limits::Limits;

@@ -9,12 +9,13 @@ ghost use Rattle.ulfm_judge.specs.Tests.{own_by_test};
 ghost use Rattle.ulfm_model.specs.Traces.{Takes, Under, change_by, is_owned, with_event};
 ghost use Rattle.ulfm_model.specs.declared.line.Line.{Line};
 
-use crate::calls::{OpenCall, first_of, place_by, place_of_rank};
+use crate::calls::{OpenCall, place_by, place_of_rank};
 use crate::own::may_own;
 use std::alloc::{AllocError, Allocator};
 use ulfm_laws::meld::Meld;
 use ulfm_model::call::Call;
 use ulfm_model::event::{Caller, Entry, Event};
+use ulfm_model::groups::first_of;
 use ulfm_model::limits::Limits;
 use ulfm_model::line::Why;
 use ulfm_model::record::RankRecord;

@@ -67,7 +67,7 @@ reply_few : (text g : List ℕ) (told : SomeReply) → TellsReply text g told �
 reply_few text g None h = members_few text g h.comm h.context h.text_is
 reply_few text g (Some reply.Started) h = nobody_few g (length text) h.0
 reply_few text g (Some reply.Pending) h = nobody_few g (length text) h.0
-reply_few text g (Some (reply.Agreed value count raised)) h = nobody_few g (length text) h.0.1
+reply_few text g (Some (reply.Agreed raised count value)) h = nobody_few g (length text) h.0.1
 reply_few text g (Some (reply.Shrunk comm context size)) h = members_few text g comm context h.1
 reply_few text g (Some reply.Done) h = nobody_few g (length text) h.0
 reply_few text [] (Some (reply.FailedGroup count)) h = omega arith

@@ -145,7 +145,7 @@ is_agreed : IsField agreed_fields agreed_behind agreed_fits
 is_agreed = both_fields flag_field (both (labelled (codes "failed")) error_field) flag_text (λ x. failed_label x.0 ++ 32 ∷ error_word x.1) (λ flag. ⊤) (λ x. (x.0 < 10000) × ⊤) is_flag
     (both_fields (labelled (codes "failed")) error_field failed_label error_word (λ n. n < 10000) (λ raised. ⊤) (is_labelled (codes "failed") failed_word) is_error)
 
-agreed_line : (value : FlagAnd) (count : ℕ) (raised : Bool) → codes "agreed " ++ agreed_behind (value, (count, raised)) ≡ reply_text [] (reply.Agreed value count raised)
+agreed_line : (value : FlagAnd) (count : ℕ) (raised : Bool) → codes "agreed " ++ agreed_behind (value, (count, raised)) ≡ reply_text [] (reply.Agreed raised count value)
 agreed_line value count true = refl
 agreed_line value count false = refl
 
@@ -167,7 +167,7 @@ fields_found verb fields_at text_of Fits make is same tells fields told rest e g
 
 agreed_found : Reads (codes "agreed") read_agreed
 unfolding read_agreed
-agreed_found = fields_found (codes "agreed") agreed_fields agreed_behind agreed_fits (λ x. reply.Agreed x.0 x.1.0 x.1.1) is_agreed (λ x n. refl) (λ x h. ((h.1.0, refl), agreed_line x.0 x.1.0 x.1.1))
+agreed_found = fields_found (codes "agreed") agreed_fields agreed_behind agreed_fits (λ x. reply.Agreed x.1.1 x.1.0 x.0) is_agreed (λ x n. refl) (λ x h. ((h.1.0, refl), agreed_line x.0 x.1.0 x.1.1))
 
 acked_found : Reads (codes "acked") acked_reply
 unfolding acked_reply
@@ -288,9 +288,9 @@ fields_again {X} verb fields_at text_of Fits make word is at x fits =
     ap (λ (w : Result (List ℕ × Option (List ℕ)) LineKind). w >>= reply_from) (next_joined verb (Some (text_of x)) word) ∙ at (Some (text_of x))
     ∙ ap (alone make) (whole_again fields_at text_of Fits is x fits)
 
-agreed_again : (x : FlagAnd × (ℕ × Bool)) → agreed_fits x → starts (codes "agreed " ++ agreed_behind x) ≡ with_rest (Some (reply.Agreed x.0 x.1.0 x.1.1)) None
+agreed_again : (x : FlagAnd × (ℕ × Bool)) → agreed_fits x → starts (codes "agreed " ++ agreed_behind x) ≡ with_rest (Some (reply.Agreed x.1.1 x.1.0 x.0)) None
 unfolding read_agreed
-agreed_again = fields_again (codes "agreed") agreed_fields agreed_behind agreed_fits (λ x. reply.Agreed x.0 x.1.0 x.1.1) (literal _ refl) is_agreed (λ fields. refl)
+agreed_again = fields_again (codes "agreed") agreed_fields agreed_behind agreed_fits (λ x. reply.Agreed x.1.1 x.1.0 x.0) (literal _ refl) is_agreed (λ fields. refl)
 
 acked_again : (n : ℕ) → n < 10000 → starts (codes "acked " ++ decimal n) ≡ with_rest (Some (reply.Acked n)) None
 unfolding acked_reply
@@ -395,8 +395,8 @@ unfolding read_plain over
 reply_again text group None h = members_again text group h.comm h.context None h.comm_fits h.context_fits h.some h.ranks h.text_is (none_made h.comm h.context (length group) h.forged)
 reply_again text group (Some reply.Started) h = started_again reply.Started refl (literal _ refl) text group (λ n. refl) h.0 h.1
 reply_again text group (Some reply.Pending) h = started_again reply.Pending refl (literal _ refl) text group (λ n. refl) h.0 h.1
-reply_again text group (Some (reply.Agreed value count raised)) h =
-    alone_again text group (reply.Agreed value count raised) h.0.1 (λ n. refl) (ap starts (h.1 ∙ sym (agreed_line value count raised)) ∙ agreed_again (value, (count, raised)) (tt, (h.0.0, tt)))
+reply_again text group (Some (reply.Agreed raised count value)) h =
+    alone_again text group (reply.Agreed raised count value) h.0.1 (λ n. refl) (ap starts (h.1 ∙ sym (agreed_line value count raised)) ∙ agreed_again (value, (count, raised)) (tt, (h.0.0, tt)))
 reply_again text group (Some (reply.Shrunk comm context size)) h =
     members_again text group comm context (Some (reply.Shrunk comm context size)) h.0.0 (let k = h.0.1 in omega (arith, k)) (let s = h.0.2 in let e = h.0.3 in omega (arith, s, e)) h.0.4 h.1
     (made_again comm context (length group) h.0.1 ∙ ap (λ (n : ℕ). some_shrunk n) (sym h.0.3))

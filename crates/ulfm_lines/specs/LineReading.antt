@@ -55,7 +55,7 @@ read_plain word =
 -- what was agreed on
 unfoldable pub read_agreed : Option (List ℕ) → Field SomeReply
 read_agreed text =
-    alone (λ x. reply.Agreed x.0 x.1.0 x.1.1) (whole (both flag_field (both (labelled (codes "failed")) error_field)) text)
+    alone (λ x. reply.Agreed x.1.1 x.1.0 x.0) (whole (both flag_field (both (labelled (codes "failed")) error_field)) text)
 
 -- how many failures are acknowledged
 unfoldable pub acked_reply : Option (List ℕ) → Field SomeReply

@@ -75,7 +75,7 @@ ListsRanks text group false = (other : List ℕ) → AreRanks other → ¬ (behi
 
 -- the reply, with the group that it lists, is one that a line can tell
 abbrev pub ReplyFits : Reply FlagAnd → List ℕ → Type 0
-ReplyFits (reply.Agreed value count raised) group = (count < 10000) × (group ≡ [])
+ReplyFits (reply.Agreed raised count value) group = (count < 10000) × (group ≡ [])
 ReplyFits (reply.Shrunk j context size) group = (j < 256) × (context < 256) × (0 < size) × (size ≡ length group) × AreRanks group
 ReplyFits (reply.FailedGroup count) group = (count ≡ length group) × AreRanks group
 ReplyFits (reply.Acked count) group = (count < 10000) × (group ≡ [])

@@ -128,7 +128,7 @@ module _ {P : Type 0} (meld : P → P → P) (limits : Limits) (view : AtPoint P
       -- an agree is polled
       agreed_left : (k : ℕ) (reply : Reply P) → PollReplies meld limits view now.number x (Some (Agree k)) reply → Leaves poll reply
       agreed_left k reply (inl pending) = by_reply poll reply Pending pending.1 fits
-      agreed_left k reply (inr (decided, inl (value, body, is))) = let made = decision meld limits.ranks view.history x.comm k in by_reply poll reply (Agreed value (length made.failed) made.raised) is ended
+      agreed_left k reply (inr (decided, inl (value, body, is))) = let made = decision meld limits.ranks view.history x.comm k in by_reply poll reply (Agreed made.raised (length made.failed) value) is ended
       agreed_left k reply (inr (decided, inr clash)) = by_reply poll reply (Refused Mismatch) clash.1 ended
 
       -- a shrink is polled

@@ -24,7 +24,7 @@ pub left_keeps : {P : Type 0} (ranks : ℕ) (h : History P) (now : Record) (aske
     → (let left = left_by ranks h now asked reply in (left.number ≡ now.number) × (left.seen ≡ now.seen))
 left_keeps ranks h now asked Started = (refl, refl)
 left_keeps ranks h now asked Pending = (refl, refl)
-left_keeps ranks h now asked (Agreed value count raised) = (refl, refl)
+left_keeps ranks h now asked (Agreed raised count value) = (refl, refl)
 left_keeps ranks h now asked (Shrunk j context size) = (refl, refl)
 left_keeps ranks h now asked Done = (refl, refl)
 left_keeps ranks h now asked (FailedGroup count) = (refl, refl)

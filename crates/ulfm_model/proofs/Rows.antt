@@ -14,47 +14,47 @@ abbrev run : ℕ → ℕ → ℕ → List (Call ℕ) → List (Reply ℕ)
 run ranks comms rounds calls = replies bit_and (new_state (record { ranks = ranks; comms = comms; rounds = rounds })) calls
 
 -- a rank alone
-one_rank : run 1 1 2 (Agree 0 0 0xff ∷ Poll 0 0 ∷ []) ≡ Started ∷ Agreed 0xff 0 false ∷ []
+one_rank : run 1 1 2 (Agree 0 0 0xff ∷ Poll 0 0 ∷ []) ≡ Started ∷ Agreed false 0 0xff ∷ []
 one_rank = refl
 
 -- three contribute, and all are told the same
 three_flags : run 3 1 4 (Agree 0 0 0xf ∷ Agree 1 0 0x3c ∷ Agree 2 0 0xffff_ffff ∷ Poll 0 0 ∷ Poll 1 0 ∷ Poll 2 0 ∷ [])
-    ≡ Started ∷ Started ∷ Started ∷ Agreed 0xc 0 false ∷ Agreed 0xc 0 false ∷ Agreed 0xc 0 false ∷ []
+    ≡ Started ∷ Started ∷ Started ∷ Agreed false 0 0xc ∷ Agreed false 0 0xc ∷ Agreed false 0 0xc ∷ []
 three_flags = refl
 
 -- the last contribution is missing, then comes
 pending_then_decided : run 3 1 4 (Agree 0 0 0xf ∷ Agree 1 0 0x3c ∷ Poll 0 0 ∷ Agree 2 0 0x4 ∷ Poll 0 0 ∷ [])
-    ≡ Started ∷ Started ∷ Pending ∷ Started ∷ Agreed 0x4 0 false ∷ []
+    ≡ Started ∷ Started ∷ Pending ∷ Started ∷ Agreed false 0 0x4 ∷ []
 pending_then_decided = refl
 
 -- a failure that nobody has acknowledged raises an error
 failed_rank_raises : run 3 1 4 (Fail 2 ∷ Agree 0 0 0xf ∷ Agree 1 0 0x3c ∷ Poll 0 0 ∷ Poll 1 0 ∷ [])
-    ≡ Declared ∷ Started ∷ Started ∷ Agreed 0xc 1 true ∷ Agreed 0xc 1 true ∷ []
+    ≡ Declared ∷ Started ∷ Started ∷ Agreed true 1 0xc ∷ Agreed true 1 0xc ∷ []
 failed_rank_raises = refl
 
 -- it raises none where both have acknowledged it
 acknowledged_by_all : run 3 1 4 (Fail 2 ∷ Ack 0 0 1 ∷ Ack 1 0 1 ∷ Agree 0 0 0xf ∷ Agree 1 0 0x3c ∷ Poll 0 0 ∷ Poll 1 0 ∷ [])
-    ≡ Declared ∷ Acked 1 ∷ Acked 1 ∷ Started ∷ Started ∷ Agreed 0xc 1 false ∷ Agreed 0xc 1 false ∷ []
+    ≡ Declared ∷ Acked 1 ∷ Acked 1 ∷ Started ∷ Started ∷ Agreed false 1 0xc ∷ Agreed false 1 0xc ∷ []
 acknowledged_by_all = refl
 
 -- it raises one where only one of them has
 acknowledged_by_one : run 3 1 4 (Fail 2 ∷ Ack 0 0 1 ∷ Agree 0 0 0xf ∷ Agree 1 0 0x3c ∷ Poll 0 0 ∷ Poll 1 0 ∷ [])
-    ≡ Declared ∷ Acked 1 ∷ Started ∷ Started ∷ Agreed 0xc 1 true ∷ Agreed 0xc 1 true ∷ []
+    ≡ Declared ∷ Acked 1 ∷ Started ∷ Started ∷ Agreed true 1 0xc ∷ Agreed true 1 0xc ∷ []
 acknowledged_by_one = refl
 
 -- a member is declared after all contributed: its flag counts, and nobody knew of a failure
 fails_after_contributing : run 3 1 4 (Agree 0 0 0xf ∷ Agree 1 0 0x3c ∷ Agree 2 0 0x4 ∷ Fail 2 ∷ Poll 0 0 ∷ Poll 1 0 ∷ Poll 2 0 ∷ [])
-    ≡ Started ∷ Started ∷ Started ∷ Declared ∷ Agreed 0x4 0 false ∷ Agreed 0x4 0 false ∷ Refused SelfFailed ∷ []
+    ≡ Started ∷ Started ∷ Started ∷ Declared ∷ Agreed false 0 0x4 ∷ Agreed false 0 0x4 ∷ Refused SelfFailed ∷ []
 fails_after_contributing = refl
 
 -- the others know of the failure when they contribute: its flag still counts
 known_to_the_others : run 3 1 4 (Agree 2 0 0x5 ∷ Fail 2 ∷ Agree 0 0 0xf ∷ Agree 1 0 0x7 ∷ Poll 0 0 ∷ Poll 1 0 ∷ [])
-    ≡ Started ∷ Declared ∷ Started ∷ Started ∷ Agreed 0x5 1 true ∷ Agreed 0x5 1 true ∷ []
+    ≡ Started ∷ Declared ∷ Started ∷ Started ∷ Agreed true 1 0x5 ∷ Agreed true 1 0x5 ∷ []
 known_to_the_others = refl
 
 -- a revoked communicator has no barrier, but still agrees and shrinks; what it spawns isn't revoked
 agrees_though_revoked : run 2 4 8 (Revoke 1 0 ∷ Revoke 0 0 ∷ Barrier 0 0 ∷ Poll 0 0 ∷ Agree 0 0 0xf ∷ Agree 1 0 0x7 ∷ Poll 0 0 ∷ Poll 1 0 ∷ Shrink 0 0 ∷ Shrink 1 0 ∷ Poll 0 0 ∷ Poll 1 0 ∷ AskRevoked 0 0 ∷ AskRevoked 0 1 ∷ [])
-    ≡ Revoked ∷ AlreadyRevoked ∷ Started ∷ Refused IsRevoked ∷ Started ∷ Started ∷ Agreed 0x7 0 false ∷ Agreed 0x7 0 false ∷ Started ∷ Started ∷ Shrunk 1 1 2 ∷ Shrunk 1 1 2 ∷ Standing true ∷ Standing false ∷ []
+    ≡ Revoked ∷ AlreadyRevoked ∷ Started ∷ Refused IsRevoked ∷ Started ∷ Started ∷ Agreed false 0 0x7 ∷ Agreed false 0 0x7 ∷ Started ∷ Started ∷ Shrunk 1 1 2 ∷ Shrunk 1 1 2 ∷ Standing true ∷ Standing false ∷ []
 agrees_though_revoked = refl
 
 -- survivors shrink twice and keep their order
@@ -69,7 +69,7 @@ contexts_come_back_at_all = refl
 
 -- one agrees where the other shrinks; the next round is untouched
 agree_meets_shrink : run 2 2 4 (Agree 0 0 0xf ∷ Shrink 1 0 ∷ Poll 0 0 ∷ Poll 1 0 ∷ Agree 0 0 0xf ∷ Agree 1 0 0x3 ∷ Poll 1 0 ∷ [])
-    ≡ Started ∷ Started ∷ Refused Mismatch ∷ Refused Mismatch ∷ Started ∷ Started ∷ Agreed 0x3 0 false ∷ []
+    ≡ Started ∷ Started ∷ Refused Mismatch ∷ Refused Mismatch ∷ Started ∷ Started ∷ Agreed false 0 0x3 ∷ []
 agree_meets_shrink = refl
 
 -- the last round is kept for a shrink, which finds no room
@@ -84,7 +84,7 @@ acknowledgements_count = refl
 
 -- what is acknowledged after the contribution comes too late for it
 acknowledged_too_late : run 2 1 4 (Fail 1 ∷ Agree 0 0 0x1 ∷ Ack 0 0 1 ∷ Poll 0 0 ∷ [])
-    ≡ Declared ∷ Started ∷ Acked 1 ∷ Agreed 0x1 1 true ∷ []
+    ≡ Declared ∷ Started ∷ Acked 1 ∷ Agreed true 1 0x1 ∷ []
 acknowledged_too_late = refl
 
 -- a barrier that a declared member has not reached

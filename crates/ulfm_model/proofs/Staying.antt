@@ -18,7 +18,7 @@ module _ {P : Type 0} (meld : P → P → P) (limits : Limits) (h longer : Histo
         decided = stays.0;
         value = is.value;
         body = ap (λ (d : Decision P). d.body) stays.1 ∙ is.body;
-        reply_is = subst (λ (d : Decision P). reply ≡ Agreed is.value (length d.failed) d.raised) (sym stays.1) is.reply_is;
+        reply_is = subst (λ (d : Decision P). reply ≡ Agreed d.raised (length d.failed) is.value) (sym stays.1) is.reply_is;
       }
 
   pub made_lasts : (c k r : ℕ) (reply : Reply P) → Exists h c → IsMadeOf meld limits h c k r reply → IsMadeOf meld limits longer c k r reply

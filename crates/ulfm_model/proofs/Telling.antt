@@ -97,7 +97,7 @@ module _ {P : Type 0} (meld : P → P → P) (limits : Limits) (alone : Bool) (b
             decided = stays.0;
             value = value;
             body = ap (λ (d : Decision P). d.body) stays.1 ∙ body;
-            reply_is = subst (λ (d : Decision P). reply ≡ Agreed value (length d.failed) d.raised) (sym stays.1) is;
+            reply_is = subst (λ (d : Decision P). reply ≡ Agreed d.raised (length d.failed) value) (sym stays.1) is;
           }
       agree_told decided (inr clash) = absurd (no_refusal Mismatch clash.1)
 

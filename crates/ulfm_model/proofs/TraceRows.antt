@@ -50,7 +50,7 @@ all_contribute =
 -- rank 0 is told this flag, and rank 2 that it is declared
 abbrev told_so : ℕ → List (Told ℕ)
 told_so flag =
-    replied (Caller.Rank 0) 4 (Reply.Agreed flag 1 true) ∷ asks 2 (Call.Poll 2 0) 1
+    replied (Caller.Rank 0) 4 (Reply.Agreed true 1 flag) ∷ asks 2 (Call.Poll 2 0) 1
     ++ replied (Caller.Rank 2) 4 (Reply.Refused Refusal.SelfFailed) ∷ []
 
 -- each line may come after those before it
@@ -126,7 +126,7 @@ asked = record { asked = Call.Poll 0 0; begun = 4; look = Some 1; own = [] }
 
 -- rank 0 is answered another flag
 abbrev AnswersAnother : Under ℕ → Type 0
-AnswersAnother u = AnswersCall bit_and (said_by (nothing three) all_contribute) (Caller.Rank 0) u 4 (Reply.Agreed 7 1 true)
+AnswersAnother u = AnswersCall bit_and (said_by (nothing three) all_contribute) (Caller.Rank 0) u 4 (Reply.Agreed true 1 7)
 
 no_answer : AnswersAnother asked → ⊥
 no_answer answers =
@@ -144,7 +144,7 @@ no_answer answers =
       ]
     ]
 
-no_other_flag : MayCome bit_and (said_by (nothing three) all_contribute) [] (Line.Replied (Caller.Rank 0) 4 (Some (Reply.Agreed 7 1 true))) → ⊥
+no_other_flag : MayCome bit_and (said_by (nothing three) all_contribute) [] (Line.Replied (Caller.Rank 0) 4 (Some (Reply.Agreed true 1 7))) → ⊥
 no_other_flag may = let same : may.call ≡ asked = cc (may.is_open) in no_answer (subst AnswersAnother same may.answers)
 
 -- with the flag that rank 0 is told changed it is no legal trace

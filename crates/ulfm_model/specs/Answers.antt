@@ -166,7 +166,7 @@ pub record IsPending {P : Type 0} (view : AtPoint P) (x : Held) (k : ℕ) : Type
 -- a decided agree: the decision's flag, the size of its failed group and its error; a mismatch where some shrank
 abbrev pub AgreeReplies : {P : Type 0} → Decision P → Reply P → Type 0
 AgreeReplies {P} made reply =
-    ((value : P) × (made.body ≡ Body.Flag value) × (reply ≡ Reply.Agreed value (length made.failed) made.raised))
+    ((value : P) × (made.body ≡ Body.Flag value) × (reply ≡ Reply.Agreed made.raised (length made.failed) value))
     ⊎ ((made.body ≡ Body.Clash) × (reply ≡ Reply.Refused Refusal.Mismatch))
 
 -- a shrink that decided on free ids, of a caller that stays in: what was made of its round, with the least id; or no room was left for it
@@ -249,7 +249,7 @@ closed now c = with_held now c (λ y. record y { request = None })
 
 -- the effect of a reply
 abbrev pub effect_of : {P : Type 0} → Reply P → Effect
-effect_of (Reply.Agreed value count raised) = Effect.Ends
+effect_of (Reply.Agreed raised count value) = Effect.Ends
 effect_of (Reply.Shrunk j context size) = Effect.Ends
 effect_of Reply.Done = Effect.Ends
 effect_of (Reply.Refused refusal) = (printed refusal).2

@@ -83,7 +83,7 @@ start_reply (Some (Slot.Given given)) = Reply.Refused Refusal.Twice
 -- the reply of a decided agree; its caller gave a flag, so the round decides on a flag or clashes
 abbrev pub agree_reply : {P : Type 0} → Decision P → Body P → Reply P
 agree_reply made Body.Unit = Reply.Refused Refusal.Mismatch
-agree_reply made (Body.Flag value) = Reply.Agreed value (length made.failed) made.raised
+agree_reply made (Body.Flag value) = Reply.Agreed made.raised (length made.failed) value
 agree_reply made (Body.Ctx mask) = Reply.Refused Refusal.Mismatch
 agree_reply made Body.Clash = Reply.Refused Refusal.Mismatch
 

@@ -17,7 +17,7 @@ pub record IsDecision {P : Type 0} (meld : P → P → P) (limits : Limits) (h :
   pub decided : IsTrue (is_decided limits.ranks h c k)
   pub value : P
   pub body : (decision meld limits.ranks h c k).body ≡ Body.Flag value
-  pub reply_is : reply ≡ Reply.Agreed value (length (decision meld limits.ranks h c k).failed) (decision meld limits.ranks h c k).raised
+  pub reply_is : reply ≡ Reply.Agreed (decision meld limits.ranks h c k).raised (length (decision meld limits.ranks h c k).failed) value
 
 -- the reply is the communicator that was made of round k, with its context id and its size, and rank r is a member of it
 pub record IsMadeOf {P : Type 0} (meld : P → P → P) (limits : Limits) (h : History P) (c k r : ℕ) (reply : Reply P) : Type 0 where

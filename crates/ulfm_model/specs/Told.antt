@@ -11,7 +11,7 @@ use Rattle.ulfm_model.specs.Rounds.{AreRoundReplies, Gave, IsDecision, IsMadeOf,
 -- the reply of a poll that has ended it
 abbrev pub IsFinalReply : {P : Type 0} → Reply P → Type 0
 IsFinalReply {P} reply =
-    ((value : P) × (count : ℕ) × (raised : Bool) × (reply ≡ Reply.Agreed value count raised))
+    ((value : P) × (count : ℕ) × (raised : Bool) × (reply ≡ Reply.Agreed raised count value))
     ⊎ (((j context size : ℕ) × (reply ≡ Reply.Shrunk j context size)) ⊎ (reply ≡ Reply.Done))
 
 -- an agree that started is open in the round that was next, and the rank has given its flag

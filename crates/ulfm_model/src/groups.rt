@@ -87,7 +87,7 @@ fn known_of<P: Copy>(slot: &Slot<P>) -> u16
 }
 
 /// The first ranks of a group, or all of it where it has not so many.
-pub(crate) fn first_of(group: &[u16], count: u16) -> &[u16]
+pub fn first_of(group: &[u16], count: u16) -> &[u16]
     ensures { result.now ≡ take count group.now }
 {
     let count = usize::from(count);

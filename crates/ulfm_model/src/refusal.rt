@@ -2,6 +2,7 @@
 ghost use Rattle.std.specs.Prelude.{◌≡◌, Some};
 ghost use Rattle.ulfm_model.specs.Answers.{printed};
 
+use std::error::Error;
 use std::fmt::{self, Display, Formatter, Write};
 
 /// Why a call is refused.
@@ -75,6 +76,8 @@ impl Display for Refusal {
         f.write_str(self.name())
     }
 }
+
+impl Error for Refusal {}
 
 /// The number of a refusal, 1 to 15.
 ///

@@ -8,8 +8,9 @@ pub enum Reply<P> {
     Started,
     /// The request stays open: somebody who is not known to have failed is missing.
     Pending,
-    /// What an agree decided: the flags combined, the size of the failed group, and whether an error is raised.
-    Agreed { value: P, failed: u16, raised: bool },
+    // The widest field stands last: fields lie in the order of the source, so that a reply with a flag of 64 bits takes 16 bytes.
+    /// What an agree decided: whether an error is raised, the size of the failed group, and the flags combined.
+    Agreed { raised: bool, failed: u16, value: P },
     /// What a shrink made: the new communicator, its context id, and how many members it has.
     Shrunk { comm: u16, context: u8, size: u16 },
     /// All members arrived in the barrier.

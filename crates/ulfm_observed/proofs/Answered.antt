@@ -30,8 +30,8 @@ same_found o x y here there = cc (here, there)
 
 -- a reply that was told as a decision is one
 seen_agreed : (value : Option FlagAnd) (failed : Option ℕ) (raised : Bool) (reply : Reply FlagAnd) → IsSeen (Agreed value failed raised) reply
-    → (v : FlagAnd) × (n : ℕ) × (e : Bool) × (reply ≡ reply_of.Agreed v n e)
-seen_agreed value failed raised (reply_of.Agreed v n e) is = (v, n, e, refl)
+    → (v : FlagAnd) × (n : ℕ) × (e : Bool) × (reply ≡ reply_of.Agreed e n v)
+seen_agreed value failed raised (reply_of.Agreed e n v) is = (v, n, e, refl)
 seen_agreed value failed raised _ is = absurd is
 
 seen_shrunk : (comm : ℕ) (context : Option ℕ) (reply : Reply FlagAnd) → IsSeen (Shrunk comm context) reply → (j i n : ℕ) × (reply ≡ reply_of.Shrunk j i n)
@@ -134,7 +134,7 @@ module _ (limits : Limits) (r k : ℕ) (now : Traced FlagAnd) (kept : IsKept fla
       exists : Exists h 0
       exists = omega arith
 
-      told_at : (v : FlagAnd) (n : ℕ) (e : Bool) → reply ≡ reply_of.Agreed v n e → walk.waits ≡ true → On → IsDecision flag_meld now.limits now.history 0 k reply
+      told_at : (v : FlagAnd) (n : ℕ) (e : Bool) → reply ≡ reply_of.Agreed e n v → walk.waits ≡ true → On → IsDecision flag_meld now.limits now.history 0 k reply
       told_at v n e is waits on =
           let same : on.y ≡ x = same_found (held_at own 0) on.y x (subst (λ c. held_at own c ≡ Some on.y) here on.held) held in
           let open_is : on.y.request ≡ Some (request.Agree k) = ap (λ (y : Held). y.request) same ∙ is_at.waits waits in
@@ -157,7 +157,7 @@ module _ (limits : Limits) (r k : ℕ) (now : Traced FlagAnd) (kept : IsKept fla
           → (if walk.waits then Some (Agreed value failed raised) else walk.told) ≡ Some other → Tells limits k now.history other
       told_by value failed raised seen_is other = by_waits walk.waits refl
         where
-          given : (v : FlagAnd) × (n : ℕ) × (e : Bool) × (reply ≡ reply_of.Agreed v n e)
+          given : (v : FlagAnd) × (n : ℕ) × (e : Bool) × (reply ≡ reply_of.Agreed e n v)
           given = seen_agreed value failed raised reply seen_is
 
           decided : walk.waits ≡ true → ((w : Refusal) × (reply ≡ reply_of.Refused w)) ⊎ On → IsDecision flag_meld limits now.history 0 k reply
@@ -181,7 +181,7 @@ module _ (limits : Limits) (r k : ℕ) (now : Traced FlagAnd) (kept : IsKept fla
           let given = seen_agreed value failed raised reply seen_is in
           record {
             x = ended;
-            held = ended_by (reply_of.Agreed given.0 given.1 given.2) given.3 (left_agreed now.limits.ranks h looked u.asked x held here given.0 given.1 given.2);
+            held = ended_by (reply_of.Agreed given.2 given.1 given.0) given.3 (left_agreed now.limits.ranks h looked u.asked x held here given.0 given.1 given.2);
             at = record { left = is_at.left; waits = λ none. absurd (cc none) };
             said = record { gave = said.gave; told = told_by value failed raised seen_is };
           }

@@ -165,7 +165,7 @@ module _ {A B : Type 0} (log : Log A) (steps : List (Step B)) (e : Explains log 
 one_decision : (limits : Limits) (k : ℕ) (h : History FlagAnd) (one other : Reply FlagAnd) → IsDecision flag_meld limits h 0 k one → IsDecision flag_meld limits h 0 k other → one ≡ other
 one_decision limits k h one other a b =
     let value : a.value ≡ b.value = same_body a.value b.value (sym a.body ∙ b.body) in
-    a.reply_is ∙ (ap (λ v. reply_of.Agreed v (length (decision flag_meld limits.ranks h 0 k).failed) (decision flag_meld limits.ranks h 0 k).raised) value ∙ sym b.reply_is)
+    a.reply_is ∙ (ap (λ v. reply_of.Agreed (decision flag_meld limits.ranks h 0 k).raised (length (decision flag_meld limits.ranks h 0 k).failed) v) value ∙ sym b.reply_is)
   where
     same_body : (x y : FlagAnd) → ◌≡◌ {A = Body FlagAnd} (Flag x) (Flag y) → x ≡ y
     same_body x y is = cc is
@@ -197,7 +197,7 @@ all_one false false true x y z = absurd (cc z)
 
 -- what was seen of one reply doesn't differ
 seen_one : (a b : Seen) (reply : Reply FlagAnd) → IsSeen a reply → IsSeen b reply → decisions_differ (Some a) (Some b) ≡ false
-seen_one (Agreed v n e) (Agreed w m d) (reply_of.Agreed value count raised) one other =
+seen_one (Agreed v n e) (Agreed w m d) (reply_of.Agreed raised count value) one other =
     all_one (flags_differ v w) (counts_differ n m) (errors_differ e d) (flags_one v w value one.0 other.0) (counts_one n m count one.1.0 other.1.0) (errors_one e d (one.1.1 ∙ sym other.1.1))
 seen_one (Agreed v n e) (Agreed w m d) _ one other = absurd one
 seen_one (Agreed v n e) (Shrunk comm context) reply one other = refl
@@ -208,13 +208,13 @@ seen_one (Whole g) b reply one other = refl
 -- nor has it a bit that a contributor's flag lacks
 within_one : (limits : Limits) (r k : ℕ) (h : History FlagAnd) → IsLegal flag_meld limits h → (a : Seen) (reply : Reply FlagAnd) → IsSeen a reply → IsDecision flag_meld limits h 0 k reply → (flag : FlagAnd) → Gave h 0 k r flag
     → told_exceeds (Some a) (Some flag) ≡ false
-within_one limits r k h legal (Agreed (Some v) n e) (reply_of.Agreed value count raised) seen decided flag gave =
+within_one limits r k h legal (Agreed (Some v) n e) (reply_of.Agreed raised count value) seen decided flag gave =
     let same : value ≡ decided.value = same_value value decided.value count _ raised _ decided.reply_is in
     let within : flag_meld v flag ≡ v =
     subst (λ x. flag_meld x flag ≡ x) (sym (seen.0 ∙ same)) (decided_within limits h 0 k r decided.value flag legal decided.body gave) in
     ap not (ap (λ (f : FlagAnd). f.bits == v.bits) within ∙ is_same v.bits)
   where
-    same_value : (x y : FlagAnd) (m n : ℕ) (d e : Bool) → reply_of.Agreed x m d ≡ reply_of.Agreed y n e → x ≡ y
+    same_value : (x y : FlagAnd) (m n : ℕ) (d e : Bool) → reply_of.Agreed d m x ≡ reply_of.Agreed e n y → x ≡ y
     same_value x y m n d e is = cc is
 within_one limits r k h legal (Agreed (Some v) n e) _ seen decided flag gave = absurd seen
 within_one limits r k h legal (Agreed None n e) reply seen decided flag gave = refl

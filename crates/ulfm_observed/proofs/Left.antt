@@ -68,7 +68,7 @@ module _ {P : Type 0} (ranks : ℕ) (h : History P) (own : Record) (asked : Call
     left_elsewhere (Acked count) = find_elsewhere (comm_of asked) other (λ y. record y { acked = count }) (λ y. refl) own.held ∙ at
     left_elsewhere Freed = find_without (comm_of asked) other own.held ∙ at
     left_elsewhere Pending = at
-    left_elsewhere (Agreed value count raised) = closed_elsewhere
+    left_elsewhere (Agreed raised count value) = closed_elsewhere
     left_elsewhere Done = closed_elsewhere
     left_elsewhere (FailedGroup count) = at
     left_elsewhere Declared = at
@@ -86,7 +86,7 @@ module _ {P : Type 0} (ranks : ℕ) (h : History P) (own : Record) (asked : Call
     closed_here : find is_worlds (closed own (comm_of asked)).held ≡ Some ended
     closed_here = find_here (comm_of asked) here (λ y. record y { request = None }) (λ y. refl) own.held x at
 
-    pub left_agreed : (value : P) (count : ℕ) (raised : Bool) → left (Agreed value count raised) ≡ Some ended
+    pub left_agreed : (value : P) (count : ℕ) (raised : Bool) → left (Agreed raised count value) ≡ Some ended
     left_agreed value count raised = closed_here
 
     pub left_done : left Done ≡ Some ended

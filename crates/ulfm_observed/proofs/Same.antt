@@ -48,7 +48,7 @@ abbrev is_reply : Reply FlagAnd → Reply FlagAnd → Bool
 is_reply = (reply_eq.ghosts flag.the_row flag_eq.ghosts reply_eq.no_dict).eq
 
 -- Two decisions that are equal by it are one.
-same_agreed : (v w : FlagAnd) (f g : ℕ) (r s : Bool) → IsTrue (is_reply (reply.Agreed v f r) (reply.Agreed w g s)) → reply.Agreed v f r ≡ reply.Agreed w g s
+same_agreed : (v w : FlagAnd) (f g : ℕ) (r s : Bool) → IsTrue (is_reply (reply.Agreed r f v) (reply.Agreed s g w)) → reply.Agreed r f v ≡ reply.Agreed s g w
 same_agreed v w f g true true t =
     let bits : v.bits ≡ w.bits = grind arith in
     let count : f ≡ g = grind arith in
@@ -64,7 +64,7 @@ same_agreed v w f g false true t = grind arith
 pub same_reply : (a b : Reply FlagAnd) → IsTrue (is_reply a b) → a ≡ b
 same_reply reply.Started b t = grind arith
 same_reply reply.Pending b t = grind arith
-same_reply (reply.Agreed v f r) b t = grind (arith, same_agreed)
+same_reply (reply.Agreed r f v) b t = grind (arith, same_agreed)
 same_reply (reply.Shrunk c x s) b t = grind arith
 same_reply reply.Done b t = grind arith
 same_reply (reply.FailedGroup c) b t = grind arith

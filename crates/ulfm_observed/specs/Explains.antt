@@ -24,7 +24,7 @@ IsAs (Some y) x = y ≡ x
 -- The reply is as the log tells it.
 abbrev pub IsSeen : Seen → Reply FlagAnd → Type 0
 IsSeen (Whole told) given = told ≡ given
-IsSeen (Agreed value failed raised) (reply.Agreed v f r) = IsAs value v × (IsAs failed f × (raised ≡ r))
+IsSeen (Agreed value failed raised) (reply.Agreed r f v) = IsAs value v × (IsAs failed f × (raised ≡ r))
 IsSeen (Shrunk comm context) (reply.Shrunk j x size) = (comm ≡ j) × IsAs context x
 IsSeen _ _ = ⊥
 

@@ -47,7 +47,7 @@ ends_refused _ = false
 
 -- whether a reply to a poll ends the request
 abbrev pub ends : Option (Reply FlagAnd) → Bool
-ends (Some (reply.Agreed value failed raised)) = true
+ends (Some (reply.Agreed raised failed value)) = true
 ends (Some (reply.Shrunk comm context size)) = true
 ends (Some reply.Done) = true
 ends (Some (reply.Refused why)) = ends_refused why

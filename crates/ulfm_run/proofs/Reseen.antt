@@ -77,7 +77,7 @@ left_with_reseen now s c Effect.ForGood = refl
 pub left_reseen : {P : Type 0} (ranks : ℕ) (h : History P) (now : Record) (s : List ℕ) (asked : Call P) (reply : Reply P) → left_by ranks h (reseen now s) asked reply ≡ reseen (left_by ranks h now asked reply) s
 left_reseen ranks h now s asked is_reply.Started = refl
 left_reseen ranks h now s asked is_reply.Pending = refl
-left_reseen ranks h now s asked (is_reply.Agreed value count raised) = refl
+left_reseen ranks h now s asked (is_reply.Agreed raised count value) = refl
 left_reseen ranks h now s asked (is_reply.Shrunk j context size) = refl
 left_reseen ranks h now s asked is_reply.Done = refl
 left_reseen ranks h now s asked (is_reply.FailedGroup count) = refl

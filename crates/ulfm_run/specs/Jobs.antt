@@ -41,7 +41,7 @@ pub record StepsBy {P : Type 0} (meld : P → P → P) (alone : Bool) (asked : C
 abbrev pub IsAbout : {P : Type 0} → State P → ℕ → List ℕ → List ℕ → Reply P → Type 0
 IsAbout state c old group Started = group ≡ old
 IsAbout state c old group Pending = group ≡ old
-IsAbout state c old group (Agreed value count raised) = group ≡ old
+IsAbout state c old group (Agreed raised count value) = group ≡ old
 IsAbout state c old group (Shrunk j context size) = group ≡ members state.limits.ranks state.history j
 IsAbout state c old group Done = group ≡ old
 IsAbout state c old group (FailedGroup count) = group ≡ take count (failed state.limits.ranks state.history c)

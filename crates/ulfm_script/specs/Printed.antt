@@ -48,7 +48,7 @@ refused_text refusal = codes "refused " ++ (decimal (printed refusal).0 ++ 32 �
 abbrev pub reply_text : List ℕ → Reply FlagAnd → List ℕ
 reply_text group reply.Started = codes "started"
 reply_text group reply.Pending = codes "pending"
-reply_text group (reply.Agreed value failed raised) = agreed_text value failed raised
+reply_text group (reply.Agreed raised failed value) = agreed_text value failed raised
 reply_text group (reply.Shrunk comm context size) = shrunk_text comm context group
 reply_text group reply.Done = codes "done"
 reply_text group (reply.FailedGroup count) = failed_text group

@@ -8,7 +8,7 @@ use Rattle.ulfm_story.specs.declared.bars.Tone.{Tone}
 abbrev pub tone_of : Reply FlagAnd → Tone
 tone_of Reply.Started = Tone.Started
 tone_of Reply.Pending = Tone.Pending
-tone_of (Reply.Agreed value count raised) = if raised then Tone.Raised else Tone.Answered
+tone_of (Reply.Agreed raised count value) = if raised then Tone.Raised else Tone.Answered
 tone_of (Reply.Refused refusal) = Tone.Refused
 tone_of _ = Tone.Answered
 
@@ -21,7 +21,7 @@ is_round_refusal _ = false
 
 -- .. a reply; that a rank had no memory is no decision
 abbrev pub is_of_round : Reply FlagAnd → Bool
-is_of_round (Reply.Agreed value count raised) = true
+is_of_round (Reply.Agreed raised count value) = true
 is_of_round (Reply.Shrunk comm context size) = true
 is_of_round (Reply.Refused refusal) = is_round_refusal refusal
 is_of_round _ = false

@@ -20,7 +20,7 @@ use Rattle.ulfm_wait.specs.Waits.{IsPolledOn, MemberAwaits, MemberPollsOn, Membe
 -- an answer ends its request
 pub answer_ends : {P : Type 0} (reply : Polled P) → IsNotPending reply → IsFinalReply (polled reply)
 answer_ends StillPending answer = absurd answer
-answer_ends (Agreed value count raised) answer = inl (value, count, raised, refl)
+answer_ends (Agreed raised count value) answer = inl (value, count, raised, refl)
 answer_ends (Shrunk j context size) answer = inr (inl (j, context, size, refl))
 answer_ends Done answer = inr (inr refl)
 
@@ -141,7 +141,7 @@ module _ {P : Type 0} (meld : P → P → P) (alone : Bool) (name : Over P) (c :
 -- what isn't pending is an answer
 pub is_answer : {P : Type 0} (reply : Polled P) → (reply ≡ StillPending → ⊥) → IsNotPending reply
 is_answer StillPending other = other refl
-is_answer (Agreed value count raised) other = tt
+is_answer (Agreed raised count value) other = tt
 is_answer (Shrunk j context size) other = tt
 is_answer Done other = tt
 
