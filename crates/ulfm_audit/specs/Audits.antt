@@ -36,7 +36,7 @@ pub record TakesPieces (limits : Limits) (pieces : List (List ℕ)) (old new : H
   pub takes : Takes limits log old new before after
 
 -- a pass over words of these limits and tables stand for what the pass has seen
-pub record Stands {A : Type 0} {g : _} (limits : Limits) (pass : Sight FlagAnd) (numbers : Numbers FlagAnd A g) : Type 0 where
+pub record Stands {A : Type 0} {g : _} {k : _} (limits : Limits) (pass : Sight FlagAnd) (numbers : Numbers FlagAnd A g k) : Type 0 where
   pub limits_are : limits ≡ pass.name.limits
   pub replayed : AreReplayed flag_meld (view_of flag_bits pass.name pass) numbers
 

@@ -151,13 +151,13 @@ on_test (Ok b) test Q goes same = λ is. goes (sym same ∙ is)
 on_test (Err e) test Q goes same = tt
 
 -- a state whose history stays passes where what is said with it does
-pub goes_on : {P A E W : Type 0} {g : _} (limits : Limits) (numbers : Numbers P A g) (records : List (RankRecord A)) (calls : List (OpenCall P A)) (Taken : Traced P → W → Type 0) (h : History P) (result : Result W E)
+pub goes_on : {P A E W : Type 0} {g : _} {k : _} (limits : Limits) (numbers : Numbers P A g k) (records : List (RankRecord A)) (calls : List (OpenCall P A)) (Taken : Traced P → W → Type 0) (h : History P) (result : Result W E)
     → TablesTell limits.ranks numbers h → IfOk result (GoesWith calls (λ next. Taken (traced_of limits h records next))) → IfOk result (TellsSome limits numbers records calls Taken)
 goes_on limits numbers records calls Taken h (Ok why) tells taken = (h, taken.0, tells, taken.1, taken.2)
 goes_on limits numbers records calls Taken h (Err e) tells taken = tt
 
 -- what is kept stands for what lines said, before a line and after it
-pub stands_on : {P A E : Type 0} {g : _} (meld : P → P → P) (limits : Limits) (numbers : Numbers P A g) (records : List (RankRecord A)) (calls : List (OpenCall P A)) (group : List ℕ) (told : Line P) (result : Result (Option Why) E) (old new : Traced P)
+pub stands_on : {P A E : Type 0} {g : _} {k : _} (meld : P → P → P) (limits : Limits) (numbers : Numbers P A g k) (records : List (RankRecord A)) (calls : List (OpenCall P A)) (group : List ℕ) (told : Line P) (result : Result (Option Why) E) (old new : Traced P)
     → new ≡ old → IfOk result (TellsSome limits numbers records calls (Takes meld old group told))
     → IfOk result (λ why. (next : Traced P) × Takes meld new group told next why
     × (TablesTell limits.ranks numbers next.history × AreCalls calls next.calls × (next ≡ traced_of limits next.history records next.calls)))

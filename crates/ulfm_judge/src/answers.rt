@@ -16,7 +16,7 @@ use crate::replies::{
     is_revoke_reply, is_standing_reply, is_start_reply,
 };
 use std::alloc::{AllocError, Allocator};
-use ulfm_laws::meld::{Meld, Packed};
+use ulfm_laws::meld::Packed;
 use ulfm_model::call::{Call, MOST_FAILURES, comm_of};
 use ulfm_model::contribution::Offer;
 use ulfm_model::held::{HeldComm, place_of, refusal_of};
@@ -40,7 +40,7 @@ fn starts<P: Copy>(asked: &Call<P>) -> bool
 }
 
 /// Whether a reply refuses for good, by whether the rank is declared, which is looked up only where the reply is that refusal.
-fn is_self_failed<P: Meld, A: Allocator + Copy + Drop>(
+fn is_self_failed<P: Packed, A: Allocator + Copy + Drop>(
     view: &View<P, A>,
     rank: u16,
     asked: &Call<P>,
@@ -54,7 +54,7 @@ fn is_self_failed<P: Meld, A: Allocator + Copy + Drop>(
 }
 
 /// How many failures of a communicator there were at a point.
-fn count_failed<P: Meld, A: Allocator + Copy + Drop>(
+fn count_failed<P: Packed, A: Allocator + Copy + Drop>(
     numbers: &Numbers<P, A>,
     point: u64,
     comm: u16,
@@ -65,7 +65,7 @@ fn count_failed<P: Meld, A: Allocator + Copy + Drop>(
 }
 
 /// Whether a look found all that were declared at a point.
-fn found_all<P: Meld, A: Allocator + Copy + Drop>(view: &View<P, A>) -> bool
+fn found_all<P: Packed, A: Allocator + Copy + Drop>(view: &View<P, A>) -> bool
     ensures { result ≡ same_ranks (seen_at view.now.numbers.now view.now.point).failures view.now.look.now }
 {
     same_ranks(view.numbers.failures_at(view.point), view.look)
@@ -73,7 +73,7 @@ fn found_all<P: Meld, A: Allocator + Copy + Drop>(view: &View<P, A>) -> bool
 
 /// How many of a communicator's members a look found declared, where these are the members that a rank knows. They aren't read where the
 /// look found nobody.
-fn count_found<P: Meld, A: Allocator + Copy + Drop>(
+fn count_found<P: Packed, A: Allocator + Copy + Drop>(
     numbers: &Numbers<P, A>,
     look: &[u16],
     comm: u16,
@@ -91,7 +91,7 @@ fn count_found<P: Meld, A: Allocator + Copy + Drop>(
 }
 
 /// Whether a query of the failed group is answered so, which is of all that were declared then.
-fn is_failed_reply<P: Meld, A: Allocator + Copy + Drop>(
+fn is_failed_reply<P: Packed, A: Allocator + Copy + Drop>(
     view: &View<P, A>,
     comm: u16,
     reply: &Reply<P>,
@@ -105,7 +105,7 @@ fn is_failed_reply<P: Meld, A: Allocator + Copy + Drop>(
 }
 
 /// Whether a query of the acknowledged failures is answered so, at a look that found all.
-fn is_acked_group_reply<P: Meld, A: Allocator + Copy + Drop>(
+fn is_acked_group_reply<P: Packed, A: Allocator + Copy + Drop>(
     view: &View<P, A>,
     x: &HeldComm<A>,
     comm: u16,
@@ -121,7 +121,7 @@ fn is_acked_group_reply<P: Meld, A: Allocator + Copy + Drop>(
 }
 
 /// Whether an acknowledgement of so many failures is answered so, at a look that found all.
-fn is_ack_reply<P: Meld, A: Allocator + Copy + Drop>(
+fn is_ack_reply<P: Packed, A: Allocator + Copy + Drop>(
     view: &View<P, A>,
     x: &HeldComm<A>,
     comm: u16,
@@ -155,7 +155,7 @@ fn is_offer_reply<P: Packed, A: Allocator + Copy + Drop>(
 }
 
 /// Whether the start of a barrier is answered so, by what the tables say of its round.
-fn is_arrival_reply<P: Meld, A: Allocator + Copy + Drop>(
+fn is_arrival_reply<P: Packed, A: Allocator + Copy + Drop>(
     view: &View<P, A>,
     x: &HeldComm<A>,
     reply: &Reply<P>,
@@ -241,7 +241,7 @@ pub(crate) fn is_answer<P: Packed, A: Allocator + Copy + Drop>(
 }
 
 /// Whether a reply lists this group.
-pub(crate) fn lists<P: Meld, A: Allocator + Copy + Drop>(
+pub(crate) fn lists<P: Packed, A: Allocator + Copy + Drop>(
     numbers: &Numbers<P, A>,
     point: u64,
     comm: u16,

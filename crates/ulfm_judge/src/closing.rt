@@ -163,7 +163,7 @@ fn hold_made<P: Copy, A: Allocator + Copy + Drop>(
 }
 
 /// Takes a reply into a record, by the tables at its point, with the failures that the rank has seen then.
-fn leave<P: Meld, A: Allocator + Copy + Drop>(
+fn leave<P: Packed, A: Allocator + Copy + Drop>(
     alloc: A,
     limits: Limits,
     numbers: &Numbers<P, A>,
@@ -192,7 +192,7 @@ fn leave<P: Meld, A: Allocator + Copy + Drop>(
 }
 
 /// Takes the reply to a call into its rank's record.
-fn settle_call<P: Meld, A: Allocator + Copy + Drop>(
+fn settle_call<P: Packed, A: Allocator + Copy + Drop>(
     alloc: A,
     limits: Limits,
     numbers: &Numbers<P, A>,

@@ -12,7 +12,7 @@ ghost use Rattle.ulfm_model.specs.declared.line.Line.{Line};
 use crate::calls::{OpenCall, place_by, place_of_rank};
 use crate::own::may_own;
 use std::alloc::{AllocError, Allocator};
-use ulfm_laws::meld::Meld;
+use ulfm_laws::meld::{Meld, Packed};
 use ulfm_model::call::Call;
 use ulfm_model::event::{Caller, Entry, Event};
 use ulfm_model::groups::first_of;
@@ -92,7 +92,7 @@ fn is_own<P: Meld, A: Allocator>(
 }
 
 /// Takes in an event.
-pub(crate) fn happen<P: Meld, A: Allocator + Copy + Drop>(
+pub(crate) fn happen<P: Packed, A: Allocator + Copy + Drop>(
     alloc: A,
     limits: Limits,
     numbers: &mut Numbers<P, A>,

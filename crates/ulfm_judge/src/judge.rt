@@ -12,7 +12,7 @@ use crate::calls::{OpenCall, begin, look, place_by};
 use crate::closing::take_reply;
 use crate::events::happen;
 use std::alloc::{AllocError, Allocator};
-use ulfm_laws::meld::{Meld, Packed};
+use ulfm_laws::meld::Packed;
 use ulfm_model::event::{Caller, Event};
 use ulfm_model::fresh::new_records;
 use ulfm_model::limits::Limits;
@@ -25,7 +25,7 @@ use ulfm_numbers::numbers::Numbers;
 /// grows with the members of its communicator, with the communicators and with the failures, and not with the lines before it. For calls
 /// it has a place for the outside and for each rank up to the greatest whose call began, however many calls there were.
 #[derive(Drop)]
-pub struct Judge<P: Meld, A: Allocator> {
+pub struct Judge<P: Packed, A: Allocator> {
     alloc: A,
     limits: Limits,
     numbers: Numbers<P, A>,

@@ -11,7 +11,7 @@ ghost use Rattle.ulfm_numbers.specs.Telling.{seen_at};
 
 use crate::replies::{same_answer, same_refusal};
 use std::alloc::{AllocError, Allocator};
-use ulfm_laws::meld::{Meld, Packed};
+use ulfm_laws::meld::Packed;
 use ulfm_laws::summary::Body;
 use ulfm_model::call::Request;
 use ulfm_model::decide::Decided;
@@ -30,7 +30,7 @@ use ulfm_numbers::numbers::{Numbers, among};
 /// What a reply to a rank's call is judged by: the limits of the world, the record of the rank, whom the call's look found
 /// declared, the tables at a point, and the call's own events.
 #[derive(Drop)]
-pub(crate) struct View<'a, P: Meld, A: Allocator> {
+pub(crate) struct View<'a, P: Packed, A: Allocator> {
     /// The limits of the world.
     pub(crate) limits: Limits,
     /// What the rank keeps, before this reply.
@@ -46,7 +46,7 @@ pub(crate) struct View<'a, P: Meld, A: Allocator> {
 }
 
 /// Whether a rank that the look didn't find declared is unsettled.
-fn is_late<P: Meld, A: Allocator + Copy + Drop>(
+fn is_late<P: Packed, A: Allocator + Copy + Drop>(
     view: &View<P, A>,
     comm: u16,
     round: u16,
@@ -59,7 +59,7 @@ fn is_late<P: Meld, A: Allocator + Copy + Drop>(
 }
 
 /// Whether the member at a place, if there is one, is such a rank.
-fn is_late_at<P: Meld, A: Allocator + Copy + Drop>(
+fn is_late_at<P: Packed, A: Allocator + Copy + Drop>(
     view: &View<P, A>,
     x: &HeldComm<A>,
     round: u16,
@@ -76,7 +76,7 @@ fn is_late_at<P: Meld, A: Allocator + Copy + Drop>(
 }
 
 /// Whether a member that the look didn't find declared is unsettled. It is looked for first where the hint says that it may be.
-fn is_pending<P: Meld, A: Allocator + Copy + Drop>(
+fn is_pending<P: Packed, A: Allocator + Copy + Drop>(
     view: &View<P, A>,
     x: &HeldComm<A>,
     round: u16,
@@ -146,7 +146,7 @@ fn is_made_at(spawned: &[(u16, u16)], made: u16, comm: u16, round: u16) -> bool
 }
 
 /// Whether the communicator of a number was made of a round.
-fn was_made<P: Meld, A: Allocator + Copy + Drop>(
+fn was_made<P: Packed, A: Allocator + Copy + Drop>(
     numbers: &Numbers<P, A>,
     point: u64,
     made: u16,
@@ -202,7 +202,7 @@ fn is_full<P: Packed, A: Allocator + Copy + Drop>(
 }
 
 /// Whether as many communicators exist as there is room for.
-fn is_last<P: Meld, A: Allocator + Copy + Drop>(
+fn is_last<P: Packed, A: Allocator + Copy + Drop>(
     limits: Limits,
     numbers: &Numbers<P, A>,
     point: u64,
@@ -306,7 +306,7 @@ fn is_barrier_reply<P: Copy>(revoked: bool, all: bool, known: bool, reply: &Repl
 }
 
 /// Whether all of a group had arrived in a barrier round.
-fn have_arrived<P: Meld, A: Allocator + Copy + Drop>(
+fn have_arrived<P: Packed, A: Allocator + Copy + Drop>(
     group: &[u16],
     numbers: &Numbers<P, A>,
     point: u64,
@@ -377,7 +377,7 @@ fn is_shrink_poll<P: Packed, A: Allocator + Copy + Drop>(
 }
 
 /// Whom of a communicator's members a look found declared, where these are the members that a rank knows.
-fn found_among<P: Meld, A: Allocator + Copy + Drop>(
+fn found_among<P: Packed, A: Allocator + Copy + Drop>(
     alloc: A,
     numbers: &Numbers<P, A>,
     look: &[u16],

@@ -14,7 +14,7 @@ use Rattle.ulfm_numbers.specs.{Failed.{members_of}, Groups.{group_at, items_of},
 use Rattle.ulfm_numbers.specs.Numbers.{before_then, by_then, count_by}
 use Rattle.ulfm_numbers.proofs.Tabling.{first_by, given_at, passing_at}
 
-module _ {P A : Type 0} {g : _} (ranks : ℕ) (numbers : Numbers P A g) (h : History P) (tells : TablesTell ranks numbers h) (point : ℕ) where
+module _ {P A : Type 0} {g : _} {k : _} (ranks : ℕ) (numbers : Numbers P A g k) (h : History P) (tells : TablesTell ranks numbers h) (point : ℕ) where
   slots_same : (at : ℕ × ℕ × ℕ) → (seen_at numbers point).slots at ≡ (seen_of ranks (take point h)).slots at
   slots_same at = ap (by_then point) (tells.slots at) ∙ sym (slot_first (take point h) (at.0) (at.1) (at.2) ∙ first_by (λ (e : Entry P). put_at at (says e.event).settles) point h)
 
@@ -100,7 +100,7 @@ module _ {P : Type 0} (ranks : ℕ) (groups : List (List ℕ)) (h : History P) (
           ∙ (is ∙ sym (members_made ranks h e c (of.0) (of.1) makes next))
 
 -- what they say of now is what the whole history says
-pub seen_now : {P A : Type 0} {g : _} (ranks : ℕ) (numbers : Numbers P A g) (h : History P) → TablesTell ranks numbers h → seen_at numbers numbers.count ≡ seen_of ranks h
+pub seen_now : {P A : Type 0} {g : _} {k : _} (ranks : ℕ) (numbers : Numbers P A g k) (h : History P) → TablesTell ranks numbers h → seen_at numbers numbers.count ≡ seen_of ranks h
 seen_now ranks numbers h tells = seen_same ranks numbers h tells numbers.count ∙ ap (seen_of ranks) (ap (λ n. take n h) tells.count ∙ take-length h)
 
 -- the groups at first: the world's members alone

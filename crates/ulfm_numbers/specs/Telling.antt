@@ -13,7 +13,7 @@ pub record TellsGroups {P : Type 0} (ranks : ℕ) (groups : List (List ℕ)) (h 
   pub each : (c : ℕ) → c ≤ length (spawns h) → group_at groups c ≡ members ranks h c
 
 -- the tables are those of a history in a world of so many ranks
-pub record TablesTell {P A : Type 0} {g : _} (ranks : ℕ) (numbers : Numbers P A g) (h : History P) : Type 0 where
+pub record TablesTell {P A : Type 0} {g : _} {k : _} (ranks : ℕ) (numbers : Numbers P A g k) (h : History P) : Type 0 where
   pub slots : TellsSlots numbers.slots h
   pub arrivals : TellsArrivals numbers.arrivals h
   pub revocations : TellsRevocations numbers.revocations h
@@ -24,7 +24,7 @@ pub record TablesTell {P A : Type 0} {g : _} (ranks : ℕ) (numbers : Numbers P 
   pub count : numbers.count ≡ length h
 
 -- what the tables say of a point, which is a number of events
-abbrev pub seen_at : {P A : Type 0} {g : _} → Numbers P A g → ℕ → Seen P
+abbrev pub seen_at : {P A : Type 0} {g : _} {k : _} → Numbers P A g k → ℕ → Seen P
 seen_at numbers point = record {
   slots = λ at. by_then point (told_at numbers.slots at);
   arrived = λ at. before_then point (number_at numbers.arrivals at);

@@ -8,14 +8,14 @@ ghost use Rattle.ulfm_numbers.specs.Tests.{at_test, follow_test, ids_test, place
 use crate::groups::has_member;
 use crate::numbers::{Numbers, RoundKey};
 use std::alloc::{AllocError, Allocator};
-use ulfm_laws::meld::Meld;
+use ulfm_laws::meld::Packed;
 use ulfm_laws::summary::Body;
 use ulfm_model::decide::{Decided, decided_by};
 use ulfm_model::event::Event;
 use ulfm_model::limits::Limits;
 
 /// Whether a communicator exists.
-fn exists<P: Meld, A: Allocator + Copy + Drop>(
+fn exists<P: Packed, A: Allocator + Copy + Drop>(
     numbers: &Numbers<P, A>,
     point: u64,
     comm: u16,
@@ -26,7 +26,7 @@ fn exists<P: Meld, A: Allocator + Copy + Drop>(
 }
 
 /// Whether a rank is a member of a communicator that has a round of this number.
-fn is_place<P: Meld, A: Allocator + Copy + Drop>(
+fn is_place<P: Packed, A: Allocator + Copy + Drop>(
     limits: Limits,
     numbers: &Numbers<P, A>,
     point: u64,
@@ -40,7 +40,7 @@ fn is_place<P: Meld, A: Allocator + Copy + Drop>(
 }
 
 /// Whether a rank may contribute to a round, knowing so many failures.
-fn may_settle<P: Meld, A: Allocator + Copy + Drop>(
+fn may_settle<P: Packed, A: Allocator + Copy + Drop>(
     limits: Limits,
     numbers: &Numbers<P, A>,
     point: u64,
@@ -69,7 +69,7 @@ fn is_at(group: &[u16], place: u16, rank: u16) -> bool
 }
 
 /// Whether a rank may be marked in a round, as the one of so many failures that is declared last.
-fn may_mark<P: Meld, A: Allocator + Copy + Drop>(
+fn may_mark<P: Packed, A: Allocator + Copy + Drop>(
     limits: Limits,
     numbers: &Numbers<P, A>,
     point: u64,
@@ -98,7 +98,7 @@ pub fn has_ids<P: Copy>(body: &Body<P>) -> bool
 }
 
 /// Whether a round was decided at a point: each member was settled.
-pub fn is_decided<P: Meld, A: Allocator + Copy + Drop>(
+pub fn is_decided<P: Packed, A: Allocator + Copy + Drop>(
     numbers: &Numbers<P, A>,
     point: u64,
     comm: u16,
@@ -112,7 +112,7 @@ pub fn is_decided<P: Meld, A: Allocator + Copy + Drop>(
 }
 
 /// The decision of a round, by what was settled in it at a point.
-pub fn decision<P: Meld, A: Allocator + Copy + Drop>(
+pub fn decision<P: Packed, A: Allocator + Copy + Drop>(
     alloc: A,
     numbers: &Numbers<P, A>,
     point: u64,
@@ -127,7 +127,7 @@ pub fn decision<P: Meld, A: Allocator + Copy + Drop>(
 }
 
 /// Whether a round decides on a set of context ids that isn't empty.
-fn decides_ids<P: Meld, A: Allocator + Copy + Drop>(
+fn decides_ids<P: Packed, A: Allocator + Copy + Drop>(
     alloc: A,
     numbers: &Numbers<P, A>,
     point: u64,
@@ -141,7 +141,7 @@ fn decides_ids<P: Meld, A: Allocator + Copy + Drop>(
 }
 
 /// Whether a communicator has the next number.
-fn is_next<P: Meld, A: Allocator + Copy + Drop>(
+fn is_next<P: Packed, A: Allocator + Copy + Drop>(
     numbers: &Numbers<P, A>,
     point: u64,
     made: u16,
@@ -159,7 +159,7 @@ fn is_of(made: (u16, u16), comm: u16, round: u16) -> bool
 }
 
 /// Whether a communicator was made of a round by a point.
-pub fn is_made<P: Meld, A: Allocator + Copy + Drop>(
+pub fn is_made<P: Packed, A: Allocator + Copy + Drop>(
     numbers: &Numbers<P, A>,
     point: u64,
     comm: u16,
@@ -174,7 +174,7 @@ pub fn is_made<P: Meld, A: Allocator + Copy + Drop>(
 }
 
 /// Whether the communicator of this number may be made of a round.
-fn may_spawn<P: Meld, A: Allocator + Copy + Drop>(
+fn may_spawn<P: Packed, A: Allocator + Copy + Drop>(
     alloc: A,
     limits: Limits,
     numbers: &Numbers<P, A>,
@@ -204,7 +204,7 @@ fn may_spawn<P: Meld, A: Allocator + Copy + Drop>(
 /// let event = Event::Fail { rank: 1 };
 /// assert!(rt; may_follow(Global, limits, &numbers, numbers.count, &event)?);
 /// ```
-pub fn may_follow<P: Meld, A: Allocator + Copy + Drop>(
+pub fn may_follow<P: Packed, A: Allocator + Copy + Drop>(
     alloc: A,
     limits: Limits,
     numbers: &Numbers<P, A>,

@@ -1,8 +1,10 @@
 //! What settles a place, with the number of its event, in one value of few bytes: the small parts stand beside the tag.
 ghost use Rattle.std.specs.Prelude.{◌≤◌};
 
+use crate::kept::{EventNumber, KeptFlag, KeptMask};
 use ulfm_laws::flag_and::FlagAnd;
-use ulfm_laws::summary::{Acked, CtxMask, Known};
+use ulfm_laws::meld::Packed;
+use ulfm_laws::summary::{Acked, Known};
 use ulfm_model::contribution::MarkCount;
 
 /// The counts of a contribution.
@@ -15,17 +17,17 @@ pub struct Counts {
     ghost within: { acked.count ≤ known.count },
 }
 
-/// What settles a place, if anything does. Fields lie in the order of the source behind the tag, so that 64 bits of a flag take 24 bytes in all.
+/// What settles a place, if anything does: 20 bytes, since each part may lie at a multiple of 4.
 #[derive(Clone, Copy)]
-pub enum Cell<P> {
+pub enum Cell<P: Packed> {
     /// Nothing does.
     Empty,
     /// A mark, and the number of its event.
-    Marked(MarkCount, u64),
+    Marked(MarkCount, EventNumber),
     /// A contribution to an agree: its counts, the number of its event, and its flag.
-    Flag(Counts, u64, P),
+    Flag(Counts, EventNumber, KeptFlag<P>),
     /// A contribution to a shrink: its counts, the number of its event, and its context ids.
-    Ctx(Counts, u64, CtxMask),
+    Ctx(Counts, EventNumber, KeptMask),
 }
 
-const _: () = prove!(size_of::<Cell<FlagAnd>>() == 24);
+const _: () = prove!(size_of::<Cell<FlagAnd>>() == 20);

@@ -5,6 +5,7 @@ pub mod allowed;
 pub mod cells;
 pub mod grids;
 pub mod groups;
+pub mod kept;
 pub mod numbers;
 pub mod rounds;
 pub mod slots;

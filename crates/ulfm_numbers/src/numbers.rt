@@ -19,12 +19,13 @@ ghost use Rattle.ulfm_model.specs.History.{History, has, same_place, says};
 use crate::cells::Cell;
 use crate::grids::{Grid, cell_at, new_grid, put_at};
 use crate::groups::{Group, declare_in_all, group_of, has_member, same_ranks};
+use crate::kept::EventNumber;
 use crate::rounds::{Done, have_common, know_few};
 use crate::slots::{number_at, put_number, put_told, told_at};
 use std::alloc::{AllocError, Allocator};
 use std::collections::HashMap;
 use std::hash::{BuildHasherDefault, FoldHasher, Hash};
-use ulfm_laws::meld::Meld;
+use ulfm_laws::meld::Packed;
 use ulfm_model::contribution::Slot;
 use ulfm_model::decide::{Decided, decided_by};
 use ulfm_model::event::{Entry, Event};
@@ -42,7 +43,7 @@ const KEPT_ROUNDS: u16 = 4;
 
 /// The numbers of the events so far, by what they say.
 #[derive(Drop)]
-pub struct Numbers<P: Meld, A: Allocator> {
+pub struct Numbers<P: Packed, A: Allocator> {
     /// By place, what it is settled by, with the number of the event that settled it.
     pub slots: Grid<Cell<P>, A>,
     /// By place, the arrival of its rank: 1 more than the number of its event, or 0 where there is none.
@@ -147,12 +148,13 @@ fn declared_by<P: Copy>(entry: &Entry<P>) -> Option<u16>
 }
 
 /// Notes what one more event settles, with its number.
-fn note_slot<P: Copy, A: Allocator + Copy>(
+fn note_slot<P: Packed, A: Allocator + Copy>(
     alloc: A,
     slots: &mut Grid<Cell<P>, A>,
     number: u64,
     entry: &Entry<P>,
 ) -> Result<(), AllocError>
+    requires { number < 281474976710656 }
     ensures told { Notes TellsSlots slots.old slots.new number entry.now result }
     ensures kept { OnOk result (KeepsSlots slots.old slots.new) }
 {
@@ -285,7 +287,7 @@ fn note_group<A: Allocator + Copy + Drop>(
 }
 
 /// Notes one more event in each table, and the members of the communicator that it makes.
-fn note_all<P: Copy, A: Allocator + Copy + Drop>(
+fn note_all<P: Packed, A: Allocator + Copy + Drop>(
     alloc: A,
     slots: &mut Grid<Cell<P>, A>,
     arrivals: &mut Grid<u64, A>,
@@ -300,7 +302,7 @@ fn note_all<P: Copy, A: Allocator + Copy + Drop>(
     entry: &Entry<P>,
     made: Option<Vec<u16, A>>,
 ) -> Result<(), AllocError>
-    requires { number < 18446744073709551615 }
+    requires { number < 281474976710656 }
     ensures slots { Notes TellsSlots slots.old slots.new number entry.now result }
     ensures arrivals { Notes TellsArrivals arrivals.old arrivals.new number entry.now result }
     ensures revocations { Notes TellsRevocations revocations.old revocations.new number entry.now result }
@@ -414,7 +416,7 @@ pub fn among<A: Allocator + Copy>(
         .collect(alloc)
 }
 
-impl<P: Meld, A: Allocator + Copy + Drop> Numbers<P, A> {
+impl<P: Packed, A: Allocator + Copy + Drop> Numbers<P, A> {
     ghost use Rattle.ulfm_numbers.specs.Telling.{TablesTell, seen_at};
 
     /// The tables of an empty history, in a world of so many ranks. Memory may be refused.
@@ -448,12 +450,12 @@ impl<P: Meld, A: Allocator + Copy + Drop> Numbers<P, A> {
     }
 
     /// Notes one more event, whether or not it may follow: [`may_follow`](crate::allowed::may_follow) is the test. Memory may be refused; so it
-    /// is behind 2^64 - 1 events, for which there would be no room anyway. After a refusal the tables tell nothing of use. It takes time by the
+    /// is behind 2^48 events; no legal history has 2^24. After a refusal the tables tell nothing of use. It takes time by the
     /// event and the members of its communicator, and none by the length of the history.
     pub fn note(&mut self, alloc: A, entry: &Entry<P>) -> Result<(), AllocError>
         ensures { (ranks : ℕ) (h : History P) → TablesTell ranks self.old h → OnOk result (TablesTell ranks self.new (h ++ entry.now ∷ [])) }
     {
-        if self.count == u64::MAX {
+        if self.count >= EventNumber::END {
             return Err(AllocError);
         }
         let made = self.group_made(alloc, entry)?;

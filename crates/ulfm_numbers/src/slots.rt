@@ -6,8 +6,10 @@ ghost use Rattle.ulfm_numbers.specs.Cells.{counts_of, given_of, number_at, numbe
 
 use crate::cells::{Cell, Counts};
 use crate::grids::{Grid, cell_at, put_at};
+use crate::kept::{EventNumber, KeptFlag, KeptMask};
 use crate::numbers::RoundKey;
 use std::alloc::{AllocError, Allocator};
+use ulfm_laws::meld::Packed;
 use ulfm_model::contribution::{Contribution, Offer, Slot};
 
 /// What a rank contributed, by its counts and what it offered.
@@ -32,43 +34,51 @@ fn counts_of<P: Copy>(given: &Contribution<P>) -> Counts
 }
 
 /// The cell of a contribution, with the number of its event.
-fn cell_given<P: Copy>(number: u64, counts: Counts, offer: &Offer<P>) -> Cell<P>
+fn cell_given<P: Packed>(number: u64, counts: Counts, offer: &Offer<P>) -> Cell<P>
+    requires { number < 281474976710656 }
     ensures { told_by result ≡ Some (number, Given (given_of counts offer.now)) }
 {
     match *offer {
-        Offer::Flag(flag) => Cell::Flag(counts, number, flag),
-        Offer::Ctx(mask) => Cell::Ctx(counts, number, mask),
+        Offer::Flag(flag) => Cell::Flag(counts, EventNumber::of(number), KeptFlag::of(&flag)),
+        Offer::Ctx(mask) => Cell::Ctx(counts, EventNumber::of(number), KeptMask::of(mask)),
     }
 }
 
 /// The cell of what settles a place, with the number of its event.
-fn cell_of<P: Copy>(number: u64, slot: &Slot<P>) -> Cell<P>
+fn cell_of<P: Packed>(number: u64, slot: &Slot<P>) -> Cell<P>
+    requires { number < 281474976710656 }
     ensures { told_by result ≡ Some (number, slot.now) }
 {
     match slot {
-        Slot::Mark(mark) => Cell::Marked(*mark, number),
+        Slot::Mark(mark) => Cell::Marked(*mark, EventNumber::of(number)),
         Slot::Given(given) => cell_given(number, counts_of(given), &given.offer),
     }
 }
 
 /// What a cell says that settles a place, with the number of its event.
-fn told_by<P: Copy>(cell: &Cell<P>) -> Option<(u64, Slot<P>)>
+fn told_by<P: Packed>(cell: &Cell<P>) -> Option<(u64, Slot<P>)>
     ensures { result ≡ told_by cell.now }
 {
     match *cell {
         Cell::Empty => None,
-        Cell::Marked(mark, number) => Some((number, Slot::Mark(mark))),
+        Cell::Marked(mark, number) => Some((number.get(), Slot::Mark(mark))),
         Cell::Flag(counts, number, flag) => {
-            Some((number, Slot::Given(given_of(counts, Offer::Flag(flag)))))
+            Some((
+                number.get(),
+                Slot::Given(given_of(counts, Offer::Flag(flag.get()))),
+            ))
         }
         Cell::Ctx(counts, number, mask) => {
-            Some((number, Slot::Given(given_of(counts, Offer::Ctx(mask)))))
+            Some((
+                number.get(),
+                Slot::Given(given_of(counts, Offer::Ctx(mask.get()))),
+            ))
         }
     }
 }
 
 /// What settles a place, with the number of its event.
-pub(crate) fn told_at<P: Copy, A: Allocator>(
+pub(crate) fn told_at<P: Packed, A: Allocator>(
     slots: &Grid<Cell<P>, A>,
     place: RoundKey,
 ) -> Option<(u64, Slot<P>)>
@@ -78,13 +88,14 @@ pub(crate) fn told_at<P: Copy, A: Allocator>(
 }
 
 /// Puts at a place what settles it, with the number of its event.
-pub(crate) fn put_told<P: Copy, A: Allocator + Copy>(
+pub(crate) fn put_told<P: Packed, A: Allocator + Copy>(
     alloc: A,
     slots: &mut Grid<Cell<P>, A>,
     place: RoundKey,
     number: u64,
     slot: &Slot<P>,
 ) -> Result<(), AllocError>
+    requires { number < 281474976710656 }
     ensures { OnOk result ((q : ℕ × ℕ × ℕ) → told_at slots.new q ≡ (if same_place place q then Some (number, slot.now) else told_at slots.old q)) }
 {
     put_at(alloc, slots, place, Cell::Empty, cell_of(number, slot))

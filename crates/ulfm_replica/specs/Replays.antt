@@ -47,7 +47,7 @@ pub record IsFed {P : Type 0} (meld : P → P → P) (e : Entry P) (taken : Bool
   pub onward : old.pass.steps ≤ new.pass.steps
 
 -- a view's pass and tables stand for one history, and no wing of the pass stands without its place
-pub record AreReplayed {P A : Type 0} {g : _} (meld : P → P → P) (view : View P) (numbers : Numbers P A g) : Type 0 where
+pub record AreReplayed {P A : Type 0} {g : _} {k : _} (meld : P → P → P) (view : View P) (numbers : Numbers P A g k) : Type 0 where
   pub of : IsView meld view
   pub tells : TablesTell view.words.limits.ranks numbers view.pass.seen
   pub wings : WingsSettled view
