@@ -7,7 +7,7 @@ ghost use Rattle.ulfm_search.specs.Answers.{Answers, AnswersLog, SaysNothing, re
 
 use crate::reducing::reduce;
 use crate::search::{Outcome, cost_of, search};
-use crate::telling::{choose_cycle, say_lines, say_why};
+use crate::telling::{Telling, choose_cycle};
 use std::alloc::{AllocError, Allocator};
 use ulfm_graph::tables::{NONE, at, put};
 use ulfm_model::Limits;
@@ -225,16 +225,17 @@ fn tell<A: Allocator + Copy, B: Allocator>(
     why: Why,
     cycle: &[u32],
 ) -> Result<Vec<u8, A>, AllocError> {
-    let mut text = Vec::new(study.alloc);
-    say_why(&mut text, study, why, cycle)?;
-    text.push(b'\n')?;
+    let text = Vec::new(study.alloc);
+    let mut telling = Telling { study, text };
+    telling.say_why(why, cycle)?;
+    telling.say("\n")?;
     let mut chosen = vec![in study.alloc; 0; lines.len()]?;
     choose_lines(study, why, &mut chosen);
     if why == Why::Cycle {
         choose_cycle(study, cycle, &mut chosen)?;
     }
-    say_lines(&mut text, study.alloc, lines, &chosen)?;
-    Ok(text)
+    telling.say_lines(lines, &chosen)?;
+    Ok(telling.text)
 }
 
 /// Chooses the replies that can't stand together: one that is forbidden, or those that still count.

@@ -5,6 +5,7 @@ pub mod answer;
 mod blame;
 mod broken;
 mod choice;
+mod contexts;
 pub mod observing;
 mod opened;
 mod reducing;

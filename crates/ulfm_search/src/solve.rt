@@ -1,9 +1,8 @@
 //! One judgement: what was chosen, and whether an order and a trace come of it.
 use crate::blame::needed;
-use crate::broken::broken;
 use crate::choice::{Choice, Fork};
 use crate::ways::choose;
-use crate::witness::{Source, Writer, write};
+use crate::witness::{Source, Writer};
 use std::alloc::{AllocError, Allocator};
 use ulfm_graph::tables::{NONE, at, count_up, greatest, number, put, small};
 use ulfm_model::Refusal;
@@ -150,13 +149,13 @@ fn finish<A: Allocator + Copy, B: Allocator>(
         revokers: &settled.revokers,
         makers: &settled.makers,
     };
-    let writer = write(&source)?;
+    let writer = source.write()?;
     let none = Vec::new(study.alloc);
     if writer.wrong != NONE {
         let act = writer.wrong;
         return Ok(Judgement::Failed(Why::Context { act }, none, choices));
     }
-    match broken(&writer, &source) {
+    match source.broken(&writer) {
         Some(fork) => Ok(Judgement::Broken(fork)),
         None => Ok(Judgement::Found(writer)),
     }
@@ -181,9 +180,7 @@ fn fill<A: Allocator + Copy, B: Allocator>(
 ) -> Result<Option<Why>, AllocError> {
     rules::lines(plan, study)?;
     rules::failures(plan, study)?;
-    rules::calls(plan, study, &settled.deals, lines)?;
-    rules::rounds(plan, study, &settled.deals)?;
-    rules::roomless(plan, study, &settled.deals)?;
+    rules::calls_and_rounds(plan, study, &settled.deals, lines)?;
     rules::groups(plan, study, settled.top)?;
     if !makers(plan, study, settled)? {
         return Ok(Some(Why::Choices));

@@ -1,5 +1,5 @@
 //! The calls of a log, each with its reply, its round and what its rank had acknowledged.
-use ulfm_model::Refusal;
+use ulfm_model::{Caller, Refusal};
 use ulfm_observed::Seen;
 
 /// What is called.
@@ -85,6 +85,15 @@ impl Act {
         match self.kind {
             Kind::Fail => false,
             _ => true,
+        }
+    }
+
+    /// Who calls it.
+    pub fn caller(&self) -> Caller {
+        if self.is_ranks() {
+            Caller::Rank(self.rank)
+        } else {
+            Caller::Outside
         }
     }
 

@@ -19,5 +19,5 @@ pub use deals::{Deal, Deals, tells_end};
 pub use plan::{Part, Plan};
 pub use reading::read_log;
 pub use records::{Ban, study_log};
-pub use study::Study;
+pub use study::{Round, Study};
 pub use why::Why;

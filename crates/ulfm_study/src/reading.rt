@@ -1,13 +1,11 @@
 //! The text of a log, read. Nothing of it is trusted: what was read is printed and compared with the text.
 use std::alloc::{AllocError, Allocator};
 use ulfm_lines::read_line;
+use ulfm_lines::trace_line::LONGEST;
 use ulfm_model::{Limits, Line, Reply};
 use ulfm_observed::{Failures, Item, Log, LogLine, Order, Seen};
 use ulfm_script::words::{LAST_RANK, next_word, read_number, read_number_to, split_word};
 use ulfm_script::{LineKind, RunFault, is_padded, read_call};
-
-/// The most bytes of a line, without its newline.
-const LONGEST: usize = 8192;
 
 /// The most lines of a log.
 const LAST_LINE: u32 = 5_000_000;
@@ -23,33 +21,35 @@ fn split_line(text: &[u8]) -> Option<(&[u8], &[u8])> {
 }
 
 /// The next line of a text, and the text behind it.
-fn take_line(text: &[u8], number: u32) -> Result<(&[u8], &[u8]), RunFault> {
-    let Some((line, rest)) = split_line(text) else {
-        let kind = LineKind::Cut;
-        return Err(RunFault::Line { number, kind });
-    };
-    if line.len() > LONGEST {
-        let kind = LineKind::Long;
-        return Err(RunFault::Line { number, kind });
+fn take_line(text: &[u8], number: u32) -> Result<(&[u8], &[u8]), LineKind> {
+    match split_line(text) {
+        None => Err(LineKind::Cut),
+        Some((line, _)) if line.len() > LONGEST => Err(LineKind::Long),
+        Some(_) if number > LAST_LINE => Err(LineKind::Lines),
+        Some(taken) => Ok(taken),
     }
-    if number > LAST_LINE {
-        let kind = LineKind::Lines;
-        return Err(RunFault::Line { number, kind });
+}
+
+/// That a line, counted from 1, has this fault.
+fn at_line<T>(number: u32, read: Result<T, LineKind>) -> Result<T, RunFault> {
+    match read {
+        Ok(read) => Ok(read),
+        Err(kind) => Err(RunFault::Line { number, kind }),
     }
-    Ok((line, rest))
+}
+
+/// The first line of a text, and the text behind it; an empty text has none.
+fn take_first(text: &[u8]) -> Result<(&[u8], &[u8]), LineKind> {
+    if text.is_empty() {
+        return Err(LineKind::Header);
+    }
+    take_line(text, 1)
 }
 
 /// The log that a text is.
 pub fn read_log<A: Allocator + Copy>(alloc: A, text: &[u8]) -> Result<Log<A>, RunFault> {
-    if text.is_empty() {
-        let kind = LineKind::Header;
-        return Err(RunFault::Line { number: 1, kind });
-    }
-    let (first, mut rest) = take_line(text, 1)?;
-    let (limits, order, failures) = match read_first(first) {
-        Ok(read) => read,
-        Err(kind) => return Err(RunFault::Line { number: 1, kind }),
-    };
+    let (first, mut rest) = at_line(1, take_first(text))?;
+    let (limits, order, failures) = at_line(1, read_first(first))?;
     let mut lines = Vec::new(alloc);
     let mut number = 1;
     for _ in 0..text.len() {
@@ -57,11 +57,9 @@ pub fn read_log<A: Allocator + Copy>(alloc: A, text: &[u8]) -> Result<Log<A>, Ru
             break;
         }
         number = next_number(number);
-        let (line, behind) = take_line(rest, number)?;
-        match read_item(alloc, line)? {
-            Ok(read) => push_line(&mut lines, read)?,
-            Err(kind) => return Err(RunFault::Line { number, kind }),
-        }
+        let (line, behind) = at_line(number, take_line(rest, number))?;
+        let read = at_line(number, read_item(alloc, line)?)?;
+        push_line(&mut lines, read)?;
         rest = behind;
     }
     Ok(Log {
@@ -121,8 +119,12 @@ fn read_header_words(line: &[u8]) -> Result<(Limits, Order, Failures), LineKind>
     let ranks = read_number(ranks)?;
     let comms = read_number(comms)?;
     let rounds = read_number(rounds)?;
-    let order = read_order(order)?;
-    let failures = read_failures(failures)?;
+    let order = one_of(order, (b"time", Order::Time), (b"ranks", Order::Ranks))?;
+    let failures = one_of(
+        failures,
+        (b"any", Failures::Any),
+        (b"logged", Failures::Logged),
+    )?;
     Ok((
         Limits {
             ranks,
@@ -134,23 +136,12 @@ fn read_header_words(line: &[u8]) -> Result<(Limits, Order, Failures), LineKind>
     ))
 }
 
-/// `time` or `ranks`.
-fn read_order(word: &[u8]) -> Result<Order, LineKind> {
-    if word == b"time".as_slice() {
-        Ok(Order::Time)
-    } else if word == b"ranks".as_slice() {
-        Ok(Order::Ranks)
-    } else {
-        Err(LineKind::Header)
-    }
-}
-
-/// `any` or `logged`.
-fn read_failures(word: &[u8]) -> Result<Failures, LineKind> {
-    if word == b"any".as_slice() {
-        Ok(Failures::Any)
-    } else if word == b"logged".as_slice() {
-        Ok(Failures::Logged)
+/// What a word means that must be one of two.
+fn one_of<T: Copy>(word: &[u8], one: (&[u8], T), other: (&[u8], T)) -> Result<T, LineKind> {
+    if word == one.0 {
+        Ok(one.1)
+    } else if word == other.0 {
+        Ok(other.1)
     } else {
         Err(LineKind::Header)
     }

@@ -29,6 +29,59 @@ pub enum Ban {
     Declared,
 }
 
+/// What a caller is at, and what a rank was told of itself.
+#[derive(Clone, Copy)]
+struct Seat {
+    /// Its open call: its place among the calls; `NONE` where it has none.
+    open: u32,
+    /// Its last line: its place in the log, from 0; `NONE` where it has none.
+    last: u32,
+    /// Whether it is a rank that was refused for good.
+    refused: bool,
+    /// The number of the communicator of its open shrink; `NONE` where it has none.
+    shrink: u32,
+}
+
+impl Seat {
+    /// It did nothing yet.
+    fn new() -> Seat {
+        Seat {
+            open: NONE,
+            last: NONE,
+            refused: false,
+            shrink: NONE,
+        }
+    }
+}
+
+/// What a rank keeps of a communicator.
+#[derive(Clone, Copy)]
+struct Record {
+    /// Whether the rank holds it.
+    held: bool,
+    /// How many failures the rank has acknowledged there.
+    acked: u32,
+    /// The number of its next round of agreement, from 0.
+    agreement: u32,
+    /// The number of its next round of a barrier, from 0.
+    barrier: u32,
+    /// The start that isn't answered yet: its place among the calls; `NONE` where there is none.
+    request: u32,
+}
+
+impl Record {
+    /// Nothing was begun there yet.
+    fn new(held: bool) -> Record {
+        Record {
+            held,
+            acked: 0,
+            agreement: 0,
+            barrier: 0,
+            request: NONE,
+        }
+    }
+}
+
 /// What each rank holds.
 #[derive(Drop)]
 struct Records<A: Allocator> {
@@ -36,47 +89,40 @@ struct Records<A: Allocator> {
     ranks: usize,
     /// How many communicators the world may have.
     comms: usize,
-    /// For each caller, the outside first, its open call: its place among the calls; `NONE` where it has none.
-    open: Vec<u32, A>,
-    /// For each caller, the outside first, its last line: its place in the log, from 0; `NONE` where it has none.
-    last: Vec<u32, A>,
-    /// For each rank, 1 where it was refused for good; else 0.
-    refused: Vec<u32, A>,
-    /// For each rank's communicator, 1 where the rank holds it; else 0.
-    held: Vec<u32, A>,
-    /// For each rank's communicator, how many failures the rank has acknowledged there.
-    acked: Vec<u32, A>,
-    /// For each rank's communicator, the number of its next round of agreement, from 0.
-    agreement: Vec<u32, A>,
-    /// For each rank's communicator, the number of its next round of a barrier, from 0.
-    barrier: Vec<u32, A>,
-    /// For each rank's communicator, the start that isn't answered yet: its place among the calls; `NONE` where there is none.
-    request: Vec<u32, A>,
-    /// For each rank, the number of the communicator of its open shrink; `NONE` where it has none.
-    shrink: Vec<u32, A>,
+    /// What each caller is at, the outside first.
+    seats: Vec<Seat, A>,
+    /// What each rank keeps of each communicator.
+    kept: Vec<Record, A>,
 }
 
 impl<A: Allocator + Copy> Records<A> {
     /// Each rank holds the world's communicator, and nothing else.
     fn new(alloc: A, ranks: usize, comms: usize) -> Result<Self, AllocError> {
-        let cells = ranks.wrapping_mul(comms);
         let mut records = Records {
             ranks,
             comms,
-            open: vec![in alloc; NONE; 1025]?,
-            last: vec![in alloc; NONE; 1025]?,
-            refused: vec![in alloc; 0; ranks]?,
-            held: vec![in alloc; 0; cells]?,
-            acked: vec![in alloc; 0; cells]?,
-            agreement: vec![in alloc; 0; cells]?,
-            barrier: vec![in alloc; 0; cells]?,
-            request: vec![in alloc; NONE; cells]?,
-            shrink: vec![in alloc; NONE; ranks]?,
+            seats: vec![in alloc; Seat::new(); 1025]?,
+            kept: vec![in alloc; Record::new(false); ranks.wrapping_mul(comms)]?,
         };
         for rank in 0..ranks {
-            put(&mut records.held, rank.wrapping_mul(comms), 1);
+            records.keep(rank.wrapping_mul(comms), Record::new(true));
         }
         Ok(records)
+    }
+
+    /// What a caller is at.
+    fn seat(&self, place: usize) -> Seat {
+        match self.seats.get(place) {
+            Some(seat) => *seat,
+            None => Seat::new(),
+        }
+    }
+
+    /// Writes it down.
+    fn sit(&mut self, place: usize, seat: Seat) {
+        if let Some(old) = self.seats.get_mut(place) {
+            *old = seat;
+        }
     }
 
     /// The place of a rank's communicator.
@@ -86,16 +132,46 @@ impl<A: Allocator + Copy> Records<A> {
             .wrapping_add(comm as usize)
     }
 
+    /// What a rank keeps of a communicator.
+    fn record(&self, cell: usize) -> Record {
+        match self.kept.get(cell) {
+            Some(record) => *record,
+            None => Record::new(false),
+        }
+    }
+
+    /// Writes it down.
+    fn keep(&mut self, cell: usize, record: Record) {
+        if let Some(old) = self.kept.get_mut(cell) {
+            *old = record;
+        }
+    }
+
     /// Whether a rank holds a communicator.
     fn holds(&self, rank: u16, comm: u16) -> bool {
         (rank as usize) < self.ranks
             && (comm as usize) < self.comms
-            && at(&self.held, self.cell(rank, comm)) == 1
+            && self.record(self.cell(rank, comm)).held
+    }
+
+    /// Writes down which start of a rank isn't answered yet.
+    fn request(&mut self, cell: usize, start: u32) {
+        let mut record = self.record(cell);
+        record.request = start;
+        self.keep(cell, record);
+    }
+
+    /// Writes down the communicator of a rank's open shrink.
+    fn shrink(&mut self, by: Caller, comm: u32) {
+        let place = place_of(by);
+        let mut seat = self.seat(place);
+        seat.shrink = comm;
+        self.sit(place, seat);
     }
 }
 
 /// The place of a caller: the outside's is first.
-fn seat(by: Caller) -> usize {
+fn place_of(by: Caller) -> usize {
     match by {
         Caller::Outside => 0,
         Caller::Rank(rank) => rank as usize + 1,
@@ -175,53 +251,41 @@ struct Reading<A: Allocator> {
 }
 
 impl<A: Allocator + Copy> Reading<A> {
-    /// Takes in that a line is of a caller.
-    fn link(&mut self, seat: usize, line: u32) {
-        put(
-            &mut self.study.before,
-            line as usize,
-            at(&self.records.last, seat),
-        );
-        put(&mut self.records.last, seat, line);
+    /// Takes in that a line is of a caller and a call, and which call of the caller is open behind it.
+    fn link(&mut self, by: Caller, line: u32, place: u32, open: u32) {
+        let mut seat = self.records.seat(place_of(by));
+        put(&mut self.study.before, line as usize, seat.last);
+        put(&mut self.study.act_at, line as usize, place);
+        seat.last = line;
+        seat.open = open;
+        self.records.sit(place_of(by), seat);
     }
 
     /// A call begins.
     fn call_begins(&mut self, asked: &Call<FlagAnd>, line: u32) -> Banned {
         let act = act_of(asked, line);
-        let by = if act.is_ranks() {
-            Caller::Rank(act.rank)
-        } else {
-            Caller::Outside
-        };
-        let seat = seat(by);
-        if at(&self.records.open, seat) != NONE {
+        let by = act.caller();
+        if self.records.seat(place_of(by)).open != NONE {
             return Ok(Some(Ban::Open));
         }
-        self.link(seat, line);
         let place = number(self.study.acts.len());
-        put(&mut self.study.act_at, line as usize, place);
-        put(&mut self.records.open, seat, place);
+        self.link(by, line, place, place);
         self.study.acts.push(act)?;
         Ok(None)
     }
 
     /// A call ends.
     fn call_ends(&mut self, by: Caller, seen: Seen, group: &[u16], line: u32) -> Banned {
-        let seat = seat(by);
-        let place = at(&self.records.open, seat);
+        let place = self.records.seat(place_of(by)).open;
         let Some(mut act) = self.study.act(place) else {
             return Ok(Some(Ban::NoCall));
         };
-        self.link(seat, line);
-        put(&mut self.study.act_at, line as usize, place);
-        put(&mut self.records.open, seat, NONE);
+        self.link(by, line, place, NONE);
         act.reply = line;
         act.seen = Some(seen);
         act.standing = Standing::Answered;
         let banned = self.take_reply(&mut act, place, group)?;
-        if let Some(cell) = self.study.acts.get_mut(place as usize) {
-            *cell = act;
-        }
+        self.study.put_act(place, act);
         Ok(banned)
     }
 
@@ -234,12 +298,14 @@ impl<A: Allocator + Copy> Reading<A> {
         if !act.is_ranks() {
             return Ok(take_declaration(&mut self.study, act, place));
         }
-        if at(&self.records.refused, act.rank as usize) == 1 {
+        let mut seat = self.records.seat(place_of(act.caller()));
+        if seat.refused {
             act.standing = Standing::Unseen;
             return Ok(ban_unless(act.refused(Refusal::SelfFailed), Ban::Gone));
         }
         if act.refused(Refusal::SelfFailed) {
-            put(&mut self.records.refused, act.rank as usize, 1);
+            seat.refused = true;
+            self.records.sit(place_of(act.caller()), seat);
             name(&mut self.study, act.rank as usize, 0);
             act.standing = Standing::Dead;
             return Ok(None);
@@ -261,25 +327,20 @@ impl<A: Allocator + Copy> Reading<A> {
         if !self.records.holds(act.rank, act.comm) {
             return Some(Refusal::NoSuchComm);
         }
-        let cell = self.records.cell(act.rank, act.comm);
-        let busy = at(&self.records.request, cell) != NONE;
+        let record = self.records.record(self.records.cell(act.rank, act.comm));
+        let busy = record.request != NONE;
+        let shrinks = self.records.seat(place_of(act.caller())).shrink != NONE;
         let rounds = u32::from(self.study.limits.rounds);
         match act.kind {
             Kind::Agree if busy => Some(Refusal::Busy),
             Kind::Shrink if busy => Some(Refusal::Busy),
             Kind::Barrier if busy => Some(Refusal::Busy),
-            Kind::Shrink if at(&self.records.shrink, act.rank as usize) != NONE => {
-                Some(Refusal::ShrinkOpen)
-            }
-            Kind::Agree if at(&self.records.agreement, cell).wrapping_add(1) >= rounds => {
+            Kind::Shrink if shrinks => Some(Refusal::ShrinkOpen),
+            Kind::Agree if record.agreement.wrapping_add(1) >= rounds => {
                 Some(Refusal::RoundsUsedUp)
             }
-            Kind::Shrink if at(&self.records.agreement, cell) >= rounds => Some(
-                Refusal::RoundsUsedUp,
-            ),
-            Kind::Barrier if at(&self.records.barrier, cell) >= rounds => Some(
-                Refusal::RoundsUsedUp,
-            ),
+            Kind::Shrink if record.agreement >= rounds => Some(Refusal::RoundsUsedUp),
+            Kind::Barrier if record.barrier >= rounds => Some(Refusal::RoundsUsedUp),
             Kind::Poll if !busy => Some(Refusal::Idle),
             Kind::Free if act.comm == 0 => Some(Refusal::WorldKept),
             Kind::Free if busy => Some(Refusal::Busy),
@@ -290,7 +351,7 @@ impl<A: Allocator + Copy> Reading<A> {
     /// A reply that the record doesn't refuse.
     fn take_answer(&mut self, act: &mut Act, place: u32, group: &[u16]) -> Banned {
         let cell = self.records.cell(act.rank, act.comm);
-        act.acked = small(at(&self.records.acked, cell));
+        act.acked = small(self.records.record(cell).acked);
         match (act.kind, act.seen) {
             (Kind::Get, Some(Seen::Whole(Reply::FailedGroup { .. }))) => {
                 name_all(&mut self.study, act.comm, group);
@@ -302,7 +363,7 @@ impl<A: Allocator + Copy> Reading<A> {
             (Kind::Revoke, Some(Seen::Whole(Reply::Revoked | Reply::AlreadyRevoked))) => Ok(None),
             (Kind::IsRevoked, Some(Seen::Whole(Reply::Standing { .. }))) => Ok(None),
             (Kind::Free, Some(Seen::Whole(Reply::Freed))) => {
-                put(&mut self.records.held, cell, 0);
+                self.records.keep(cell, Record::new(false));
                 Ok(None)
             }
             (Kind::Poll, Some(seen)) => self.take_poll(act, cell, seen, group),
@@ -319,7 +380,7 @@ impl<A: Allocator + Copy> Reading<A> {
         if let Seen::Whole(Reply::Pending) = seen {
             return Ok(None);
         }
-        put(&mut self.records.request, cell, NONE);
+        self.records.request(cell, NONE);
         self.take_end(act, seen, group)
     }
 
@@ -338,13 +399,13 @@ impl<A: Allocator + Copy> Reading<A> {
         }
         act.blocking = true;
         act.start = place;
-        put(&mut self.records.request, cell, NONE);
+        self.records.request(cell, NONE);
         self.take_end(act, seen, group)
     }
 
     /// Writes down what a poll asks for.
     fn put_polled(&self, act: &mut Act, cell: usize) {
-        act.start = at(&self.records.request, cell);
+        act.start = self.records.record(cell).request;
         if let Some(start) = self.study.act(act.start) {
             act.round = start.round;
         }
@@ -352,24 +413,23 @@ impl<A: Allocator + Copy> Reading<A> {
 
     /// A start takes its rank's next round.
     fn begin(&mut self, act: &mut Act, place: u32, cell: usize) -> Result<(), AllocError> {
-        put(&mut self.records.request, cell, place);
+        let mut record = self.records.record(cell);
+        record.request = place;
         if act.is(Kind::Barrier) {
-            let round = at(&self.records.barrier, cell);
-            put(&mut self.records.barrier, cell, round.wrapping_add(1));
+            let round = record.barrier;
+            record.barrier = round.wrapping_add(1);
+            self.records.keep(cell, record);
             act.round = self.study.barriers.place(act.comm, small(round))?;
             self.study.barriers.begin(act.round, act.rank, place);
             return Ok(());
         }
-        let round = at(&self.records.agreement, cell);
-        put(&mut self.records.agreement, cell, round.wrapping_add(1));
+        let round = record.agreement;
+        record.agreement = round.wrapping_add(1);
+        self.records.keep(cell, record);
         act.round = self.study.agreements.place(act.comm, small(round))?;
         self.study.agreements.begin(act.round, act.rank, place);
         if act.is(Kind::Shrink) {
-            put(
-                &mut self.records.shrink,
-                act.rank as usize,
-                u32::from(act.comm),
-            );
+            self.records.shrink(act.caller(), u32::from(act.comm));
         }
         Ok(())
     }
@@ -382,7 +442,7 @@ impl<A: Allocator + Copy> Reading<A> {
             self.study.asked_by(act)
         };
         if asked == Kind::Shrink {
-            put(&mut self.records.shrink, act.rank as usize, NONE);
+            self.records.shrink(act.caller(), NONE);
         }
         match (asked, seen) {
             (Kind::Agree, Seen::Agreed { .. }) => Ok(None),
@@ -430,23 +490,17 @@ impl<A: Allocator + Copy> Reading<A> {
             return Ok(Some(Ban::Members));
         }
         let cell = self.records.cell(act.rank, comm);
-        put(&mut self.records.held, cell, 1);
-        put(&mut self.records.acked, cell, 0);
-        put(&mut self.records.agreement, cell, 0);
-        put(&mut self.records.barrier, cell, 0);
-        put(&mut self.records.request, cell, NONE);
+        self.records.keep(cell, Record::new(true));
         Ok(None)
     }
 
     /// Calls that have no reply: a start has its round, if its record doesn't refuse it.
     fn open_calls(&mut self) -> Result<(), AllocError> {
         for seat in 0..1025 {
-            let place = at(&self.records.open, seat);
+            let place = self.records.seat(seat).open;
             if let Some(mut act) = self.study.act(place) {
                 self.open_call(&mut act, place)?;
-                if let Some(cell) = self.study.acts.get_mut(place as usize) {
-                    *cell = act;
-                }
+                self.study.put_act(place, act);
             }
         }
         Ok(())
@@ -464,7 +518,7 @@ impl<A: Allocator + Copy> Reading<A> {
             }
             return Ok(());
         }
-        if at(&self.records.refused, act.rank as usize) == 1 {
+        if self.records.seat(place_of(act.caller())).refused {
             act.standing = Standing::Unseen;
             return Ok(());
         }
@@ -473,7 +527,7 @@ impl<A: Allocator + Copy> Reading<A> {
             return Ok(());
         }
         let cell = self.records.cell(act.rank, act.comm);
-        act.acked = small(at(&self.records.acked, cell));
+        act.acked = small(self.records.record(cell).acked);
         if act.starts() {
             self.begin(act, place, cell)?;
         }
@@ -533,14 +587,16 @@ fn name_lacking<A: Allocator + Copy>(study: &mut Study<A>, parent: u16, comm: u1
 }
 
 /// A count of acknowledged failures.
-fn take_count<A: Allocator>(
+fn take_count<A: Allocator + Copy>(
     records: &mut Records<A>,
     act: &Act,
     cell: usize,
     count: u32,
 ) -> Option<Ban> {
     let old = u32::from(act.acked);
-    put(&mut records.acked, cell, count);
+    let mut record = records.record(cell);
+    record.acked = count;
+    records.keep(cell, record);
     ban_unless(
         count == old || (count > old && u64::from(count) <= act.number),
         Ban::Count,

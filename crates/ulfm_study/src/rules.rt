@@ -40,32 +40,17 @@ pub fn failures<A: Allocator + Copy>(
     Ok(())
 }
 
-/// Puts in what each call asks.
-pub fn calls<A: Allocator + Copy, B: Allocator>(
+/// Puts in what each call asks, and each decided round.
+pub fn calls_and_rounds<A: Allocator + Copy, B: Allocator>(
     plan: &mut Plan<A>,
     study: &Study<A>,
     deals: &Deals<A>,
     lines: &[LogLine<B>],
 ) -> Result<(), AllocError> {
-    Rules { study, deals }.calls(plan, lines)
-}
-
-/// Puts in what each decided round asks.
-pub fn rounds<A: Allocator + Copy>(
-    plan: &mut Plan<A>,
-    study: &Study<A>,
-    deals: &Deals<A>,
-) -> Result<(), AllocError> {
-    Rules { study, deals }.rounds(plan)
-}
-
-/// Puts in that who was told that there is no room isn't in the group that its round decided.
-pub fn roomless<A: Allocator + Copy>(
-    plan: &mut Plan<A>,
-    study: &Study<A>,
-    deals: &Deals<A>,
-) -> Result<(), AllocError> {
-    Rules { study, deals }.roomless(plan)
+    let rules = Rules { study, deals };
+    rules.calls(plan, lines)?;
+    rules.rounds(plan)?;
+    rules.roomless(plan)
 }
 
 /// A call whose reply counts for nothing: a start took effect all the same.

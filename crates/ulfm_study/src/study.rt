@@ -192,6 +192,13 @@ impl<A: Allocator + Copy> Study<A> {
         }
     }
 
+    /// Writes a call down at its place.
+    pub(crate) fn put_act(&mut self, place: u32, act: Act) {
+        if let Some(old) = self.acts.get_mut(place as usize) {
+            *old = act;
+        }
+    }
+
     /// Whether the reply to a call counts.
     pub fn counts(&self, act: &Act) -> bool {
         act.reply != NONE && at(&self.muted, act.reply as usize) == 0
