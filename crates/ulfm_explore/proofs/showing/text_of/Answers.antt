@@ -1,6 +1,6 @@
 use Rattle.std.proofs.Common.{map}
 use Rattle.ulfm_explore.specs.Views.{told_of}
-use Rattle.ulfm_explore.proofs.showing.all_outcomes.Goals as goal
+use Rattle.ulfm_explore.proofs.showing.text_of.Goals as goal
 
 pub returns : goal.returns
 returns g c =
