@@ -119,18 +119,8 @@ pub explored : (A : Type 0) (program : Program A) (options : ExploreOptions) (ol
     → (is_whole ≡ true → states ≤ most_states options) → text ≡ shown → PrintsWhole text old new status
     → ExploredWith A options old new (at_status is_whole status)
 explored A program options old new shown text is_whole states status script outcomes within is printed =
-    inl (
-      program,
-      record {
-        text = shown;
-        is_whole = is_whole;
-        states = states;
-        script = script;
-        outcomes = outcomes;
-        within = within;
-        printed = subst (λ (t : List ℕ). PrintsAt (whole_status is_whole) t old new (at_status is_whole status)) is (at_its is_whole text old new status printed);
-      },
-    )
+    let whole = subst (λ (t : List ℕ). PrintsAt (whole_status is_whole) t old new (at_status is_whole status)) is (at_its is_whole text old new status printed) in
+    inl (program, record { text = shown; is_whole = is_whole; states = states; script = script; outcomes = outcomes; within = within; printed = whole })
 
 -- memory was refused before anything was read or printed: to a log
 pub observe_ran_out : (A : Type 0) (witness : Bool) (known out : KnownText) (status : ℕ) → status ≡ status_of (Err Memory) → ObservedWith A witness known out out status

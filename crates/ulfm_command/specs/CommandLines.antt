@@ -76,24 +76,19 @@ replay = new_app (codes "replay")
 abbrev pub race : App
 race = with_rule (with_rule (with_rule (new_app (codes "race")) ranks_rule) rounds_rule) fail_rule
 
--- the program as a command that has a version and subcommands, of which one must be given: the one that runs scripts
-abbrev pub runners : App
-runners =
+-- the program as a command that has a version and subcommands, of which one must be given, while it has none yet
+abbrev pub bare : App
+bare =
     let named = new_app (codes "ulfm") in
-    let top = record named { top = record named.top { has_version = true; subcommand_required = true } } in
-    with_subcommand top run.top
+    record named { top = record named.top { has_version = true; subcommand_required = true } }
 
--- the same with those that migrate scripts and judge traces
+-- the program as a command, with those that run scripts, migrate them and judge traces
 abbrev pub readers : App
-readers = with_subcommand (with_subcommand runners migrate.top) check.top
+readers = with_subcommand (with_subcommand (with_subcommand bare run.top) migrate.top) check.top
 
--- the same with those that draw traces and explore programs
-abbrev pub explorers : App
-explorers = with_subcommand (with_subcommand readers draw.top) explore.top
-
--- the program as a command, with all its subcommands: those that replay logs and run races, too
+-- the same with all its subcommands: those that draw traces, explore programs, replay logs and run races, too
 abbrev pub ulfm : App
-ulfm = with_subcommand (with_subcommand explorers replay.top) race.top
+ulfm = with_subcommand (with_subcommand (with_subcommand (with_subcommand readers draw.top) explore.top) replay.top) race.top
 
 -- the command is this one, and has no global option
 abbrev pub IsCommand : App → Command → Type 0

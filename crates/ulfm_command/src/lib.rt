@@ -5,6 +5,7 @@ pub mod asked;
 mod commands;
 pub mod reading;
 mod texts;
+mod verbs;
 
 pub use asked::{
     Asked, CheckForm, DrawOptions, ExploreOptions, RaceOptions, Reason, RunForm, Task,

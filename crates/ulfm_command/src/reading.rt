@@ -1,7 +1,8 @@
 //! What the words of a command line ask for.
-ghost use Rattle.std.specs.Prelude.{◌≡◌, IfOk, Some, codes, map};
+ghost use Rattle.std.specs.Prelude.{◌≡◌, IfOk, MatchResult, Some, codes, map};
 ghost use Rattle.clap.specs.Words.{FailsBy, fault_of, found_of, one_of, rows_of, subcommand_of, subcommand_rows_of};
-ghost use Rattle.ulfm_command.specs.CommandLines.{IsAskedBy, IsDrawRead, IsEntered, IsExploreRead, IsNumberRead, IsRaceRead, check_form, has_flag, judged_form, run_form, ulfm};
+ghost use Rattle.ulfm_command.specs.declared.asked.Task.{Task as TaskOf};
+ghost use Rattle.ulfm_command.specs.CommandLines.{IsAskedBy, IsDrawRead, IsEntered, IsExploreRead, IsNumberRead, IsRaceRead, Names, check_form, has_flag, judged_form, run_form, ulfm};
 
 use crate::asked::{
     Asked, CheckForm, DrawOptions, ExploreOptions, RaceOptions, Reason, RunForm, Task,
@@ -45,36 +46,36 @@ fn parse<'a>(global: Global, words: &'a [&'a str]) -> Result<ArgMatches<'a>, Err
 fn read_command(matches: &ArgMatches<'_>) -> Asked
     ensures { IsEntered (subcommand_rows_of matches.now) result }
 {
-    match matches.subcommand() {
-        Some((name, options)) => {
-            if name == "run" {
-                Asked::Task(Task::Run(read_run(options)))
-            } else if name == "migrate" {
-                Asked::Task(Task::Migrate)
-            } else if name == "check" {
-                match read_check(options) {
-                    Some(form) => Asked::Task(Task::Check(form)),
-                    None => Asked::Bad(Reason::NotOfAllForms),
-                }
-            } else if name == "draw" {
-                Asked::Task(Task::Draw(read_draw(options)))
-            } else if name == "explore" {
-                match read_explore(options) {
-                    Some(explore) => Asked::Task(Task::Explore(explore)),
-                    None => Asked::Bad(Reason::NoCommand),
-                }
-            } else if name == "replay" {
-                Asked::Task(Task::Replay)
-            } else if name == "race" {
-                match read_race(options) {
-                    Some(race) => Asked::Task(Task::Race(race)),
-                    None => Asked::Bad(Reason::NoSuchRank),
-                }
-            } else {
-                Asked::Bad(Reason::NoCommand)
-            }
-        }
-        None => Asked::Bad(Reason::NoCommand),
+    let Some((name, options)) = matches.subcommand() else {
+        return Asked::Bad(Reason::NoCommand);
+    };
+    match read_task(name, options) {
+        Ok(task) => Asked::Task(task),
+        Err(reason) => Asked::Bad(reason),
+    }
+}
+
+/// The task of this name, with its options, if there is one.
+fn read_task(name: &str, options: &ArgMatches<'_>) -> Result<Task, Reason>
+    ensures { MatchResult result (λ task. Names (Some (name.now, rows_of (found_of options.now))) task)
+        (λ reason. (task : TaskOf) → Names (Some (name.now, rows_of (found_of options.now))) task → ⊥) }
+{
+    if name == "run" {
+        Ok(Task::Run(read_run(options)))
+    } else if name == "migrate" {
+        Ok(Task::Migrate)
+    } else if name == "check" {
+        Ok(Task::Check(read_check(options).ok_or(Reason::NotOfAllForms)?))
+    } else if name == "draw" {
+        Ok(Task::Draw(read_draw(options)))
+    } else if name == "explore" {
+        Ok(Task::Explore(read_explore(options).ok_or(Reason::NoCommand)?))
+    } else if name == "replay" {
+        Ok(Task::Replay)
+    } else if name == "race" {
+        Ok(Task::Race(read_race(options).ok_or(Reason::NoSuchRank)?))
+    } else {
+        Err(Reason::NoCommand)
     }
 }
 

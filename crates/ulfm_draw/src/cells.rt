@@ -18,6 +18,21 @@ use ulfm_trace::{Verdict, verdict_line};
 /// After how many rows the names of the lanes come again.
 const AGAIN: usize = 40;
 
+/// How a lane stands.
+#[derive(Clone, Copy)]
+struct Standing {
+    /// Whether a call is under way.
+    is_open: bool,
+    /// Whether it is declared.
+    is_declared: bool,
+}
+
+/// Nothing has happened in a lane.
+const IDLE: Standing = Standing {
+    is_open: false,
+    is_declared: false,
+};
+
 /// What a text form is made of.
 #[derive(Drop)]
 struct Table<'a, A: Allocator> {
@@ -27,10 +42,8 @@ struct Table<'a, A: Allocator> {
     step: usize,
     /// How many notes were put.
     noted: usize,
-    /// By lane, whether a call is under way.
-    open: Vec<bool, A>,
-    /// By lane, whether it is declared.
-    declared: Vec<bool, A>,
+    /// How each lane stands.
+    lanes: Vec<Standing, A>,
     /// The cells of the row under work.
     cells: Vec<u8, A>,
     /// The columns of the row under work.
@@ -116,8 +129,7 @@ fn put_table<A: Allocator + Copy + Drop>(
         looks,
         step: if story.lanes.len() > 17 { 2 } else { 3 },
         noted: 0,
-        open: vec![in alloc; false; 1026]?,
-        declared: vec![in alloc; false; 1026]?,
+        lanes: vec![in alloc; IDLE; 1026]?,
         cells: Vec::new(alloc),
         columns: Vec::new(alloc),
     };
@@ -305,20 +317,17 @@ impl<A: Allocator + Copy + Drop> Table<'_, A> {
 
     /// What a lane shows where nothing happens.
     fn ground(&self, lane: u16) -> u8 {
-        let place = usize::from(lane);
-        if self.open.get(place).copied().unwrap_or(false) {
-            b'|'
-        } else if self.declared.get(place).copied().unwrap_or(false) {
-            b':'
-        } else {
-            b'.'
+        match self.lanes.get(usize::from(lane)) {
+            Some(standing) if standing.is_open => b'|',
+            Some(standing) if standing.is_declared => b':',
+            _ => b'.',
         }
     }
 
     /// Notes whether a call is under way.
     fn note_open(&mut self, lane: u16, is_open: bool) {
-        if let Some(open) = self.open.get_mut(usize::from(lane)) {
-            *open = is_open;
+        if let Some(standing) = self.lanes.get_mut(usize::from(lane)) {
+            standing.is_open = is_open;
         }
     }
 
@@ -328,8 +337,8 @@ impl<A: Allocator + Copy + Drop> Table<'_, A> {
             Event::Fail { .. } => {
                 self.set_target(row, at, b'F');
                 if let Some(target) = row.target {
-                    if let Some(declared) = self.declared.get_mut(usize::from(target)) {
-                        *declared = true;
+                    if let Some(standing) = self.lanes.get_mut(usize::from(target)) {
+                        standing.is_declared = true;
                     }
                 }
             }

@@ -80,10 +80,7 @@ fn put_number<A: Allocator>(text: &mut Vec<u8, A>, number: u32) -> Result<(), Al
 pub(crate) fn put_words<A: Allocator>(text: &mut Vec<u8, A>, words: &[u8]) -> Result<(), AllocError>
     ensures { OnOk result (text.new.items ≡ text.old.items ++ map plain_of words.now) }
 {
-    for byte in words {
-        text.push(plain(*byte))?;
-    }
-    Ok(())
+    text.extend(words.iter().map(|byte| plain(*byte)))
 }
 
 /// A byte where it stands for itself in a text and in a value, and else a question mark.

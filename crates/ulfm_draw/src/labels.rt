@@ -10,112 +10,99 @@ use ulfm_model::call::{Call, comm_of};
 use ulfm_model::contribution::{Contribution, Offer};
 use ulfm_model::event::Event;
 use ulfm_model::reply::Reply;
-use ulfm_script::flag_digits;
 use ulfm_story::Row;
 
 /// The words in a row's lane.
 pub fn put_label<A: Allocator>(label: &mut Vec<u8, A>, row: &Row) -> Result<(), AllocError>
     ensures { OnOk result (Appends label.old.items label.new.items) }
 {
-    match row.line {
-        Line::Called { call: asked, .. } => label_call(label, &asked),
-        Line::Looked { failures, .. } => say_counted(label, b"sees ", failures),
+    say(label, &label_of(&row.line))
+}
+
+/// What a label says: a word, and a number or a word more.
+type Label = [Part<'static>; 2];
+
+/// A word and a number.
+fn counted(word: &'static [u8], number: u16) -> Label {
+    [Part::Text(word), Part::Number(u32::from(number))]
+}
+
+/// A word alone.
+fn alone(word: &'static [u8]) -> Label {
+    [Part::Text(word), Part::Text(b"")]
+}
+
+/// The label of a line.
+fn label_of(line: &Line<FlagAnd>) -> Label {
+    match *line {
+        Line::Called { call: asked, .. } => call_label(&asked),
+        Line::Looked { failures, .. } => counted(b"sees ", failures),
         Line::Happened {
             event: Some(event),
             ..
-        } => label_event(label, &event),
+        } => event_label(&event),
         Line::Replied {
             reply: Some(reply),
             ..
-        } => label_reply(label, &reply),
-        _ => say(label, &[]),
+        } => reply_label(&reply),
+        _ => alone(b""),
     }
 }
 
-/// Appends a word and a number.
-fn say_counted<A: Allocator>(
-    words: &mut Vec<u8, A>,
-    word: &[u8],
-    number: u16,
-) -> Result<(), AllocError>
-    ensures { OnOk result (Appends words.old.items words.new.items) }
-{
-    say(words, &[Part::Text(word), Part::Number(u32::from(number))])
-}
-
-/// The verb of a call.
+/// The verb of a call, and a space.
 fn verb_of(asked: &Call<FlagAnd>) -> &'static [u8] {
     match *asked {
-        Call::Fail { .. } => b"fail",
-        Call::GetFailed { .. } => b"get",
-        Call::Ack { .. } => b"ack",
-        Call::FailureAck { .. } => b"failure_ack",
-        Call::FailureGetAcked { .. } => b"failure_get_acked",
-        Call::Agree { .. } => b"agree",
-        Call::Shrink { .. } => b"shrink",
-        Call::Barrier { .. } => b"barrier",
-        Call::Poll { .. } => b"poll",
-        Call::Revoke { .. } => b"revoke",
-        Call::IsRevoked { .. } => b"isrevoked",
-        Call::Free { .. } => b"free",
+        Call::Fail { .. } => b"fail ",
+        Call::GetFailed { .. } => b"get ",
+        Call::Ack { .. } => b"ack ",
+        Call::FailureAck { .. } => b"failure_ack ",
+        Call::FailureGetAcked { .. } => b"failure_get_acked ",
+        Call::Agree { .. } => b"agree ",
+        Call::Shrink { .. } => b"shrink ",
+        Call::Barrier { .. } => b"barrier ",
+        Call::Poll { .. } => b"poll ",
+        Call::Revoke { .. } => b"revoke ",
+        Call::IsRevoked { .. } => b"isrevoked ",
+        Call::Free { .. } => b"free ",
     }
 }
 
 /// A call's verb and its communicator; of a declaration the rank.
-fn label_call<A: Allocator>(label: &mut Vec<u8, A>, asked: &Call<FlagAnd>) -> Result<(), AllocError>
-    ensures { OnOk result (Appends label.old.items label.new.items) }
-{
+fn call_label(asked: &Call<FlagAnd>) -> Label {
     let number = match *asked {
         Call::Fail { rank } => rank,
         _ => comm_of(asked),
     };
-    let number = Part::Number(u32::from(number));
-    say(
-        label,
-        &[Part::Text(verb_of(asked)), Part::Text(b" "), number],
-    )
+    counted(verb_of(asked), number)
 }
 
 /// What an event does.
-fn label_event<A: Allocator>(
-    label: &mut Vec<u8, A>,
-    event: &Event<FlagAnd>,
-) -> Result<(), AllocError>
-    ensures { OnOk result (Appends label.old.items label.new.items) }
-{
+fn event_label(event: &Event<FlagAnd>) -> Label {
     match *event {
-        Event::Fail { .. } => say(label, &[Part::Text(b"declared")]),
+        Event::Fail { .. } => alone(b"declared"),
         Event::Settle { given, .. } => match given.offer {
-            Offer::Flag(flag) => say(label, &[Part::Text(flag_digits(flag).text())]),
-            Offer::Ctx(_) => say(label, &[Part::Text(b"ids")]),
+            Offer::Flag(flag) => [Part::Flag(flag), Part::Text(b"")],
+            Offer::Ctx(_) => alone(b"ids"),
         },
-        Event::Mark { .. } => say(label, &[Part::Text(b"left out")]),
-        Event::Arrive { .. } => say(label, &[Part::Text(b"arrives")]),
-        Event::Revoke { comm } => say_counted(label, b"revokes ", comm),
-        Event::Spawn { comm, .. } => say_counted(label, b"makes ", comm),
+        Event::Mark { .. } => alone(b"left out"),
+        Event::Arrive { .. } => alone(b"arrives"),
+        Event::Revoke { comm } => counted(b"revokes ", comm),
+        Event::Spawn { comm, .. } => counted(b"makes ", comm),
     }
 }
 
 /// What a reply says.
-fn label_reply<A: Allocator>(
-    label: &mut Vec<u8, A>,
-    reply: &Reply<FlagAnd>,
-) -> Result<(), AllocError>
-    ensures { OnOk result (Appends label.old.items label.new.items) }
-{
+fn reply_label(reply: &Reply<FlagAnd>) -> Label {
     match *reply {
         Reply::Agreed { value, raised, .. } => {
-            let word: &[u8] = if raised { b" raised" } else { b"" };
-            say(
-                label,
-                &[Part::Text(flag_digits(value).text()), Part::Text(word)],
-            )
+            let more: &[u8] = if raised { b" raised" } else { b"" };
+            [Part::Flag(value), Part::Text(more)]
         }
-        Reply::Shrunk { comm, .. } => say_counted(label, b"gets ", comm),
-        Reply::FailedGroup { count } => say_counted(label, b"failed ", count),
-        Reply::Acked { count } => say_counted(label, b"acked ", count),
-        Reply::Refused(refusal) => say(label, &[Part::Text(refusal.name().as_bytes())]),
-        ref other => say(label, &[Part::Text(plain_word(other))]),
+        Reply::Shrunk { comm, .. } => counted(b"gets ", comm),
+        Reply::FailedGroup { count } => counted(b"failed ", count),
+        Reply::Acked { count } => counted(b"acked ", count),
+        Reply::Refused(refusal) => alone(refusal.name().as_bytes()),
+        ref other => alone(plain_word(other)),
     }
 }
 
@@ -214,97 +201,53 @@ fn title_event<A: Allocator>(
 ) -> Result<(), AllocError>
     ensures { OnOk result (Appends title.old.items title.new.items) }
 {
+    say(title, &deed_of(event))?;
+    say(title, &round_of(event))?;
     match *event {
-        Event::Fail { rank } => {
-            title_of(title, b" declares ", rank)?;
-            say(title, &[Part::Text(b" failed")])
-        }
-        Event::Settle {
-            comm,
-            round,
-            given,
-            ..
-        } => {
-            title_given(title, &given)?;
-            title_round(title, b" to round ", round, comm)?;
-            title_counts(title, &given)
-        }
-        Event::Mark {
-            comm,
-            round,
-            rank,
-            ..
-        } => {
-            title_of(title, b" leaves ", rank)?;
-            title_round(title, b" out of round ", round, comm)
-        }
-        Event::Arrive { comm, round, .. } => {
-            title_round(title, b" arrives in barrier round ", round, comm)
-        }
-        Event::Revoke { comm } => say_counted(title, b" revokes communicator ", comm),
-        Event::Spawn {
-            comm,
-            parent,
-            round,
-        } => {
-            say_counted(title, b" makes communicator ", comm)?;
-            title_round(title, b" of round ", round, parent)
+        Event::Fail { .. } => say(title, &alone(b" failed")),
+        Event::Settle { given, .. } => title_counts(title, &given),
+        _ => say(title, &[]),
+    }
+}
+
+/// What an event does, and to whom.
+fn deed_of(event: &Event<FlagAnd>) -> Label {
+    match *event {
+        Event::Fail { rank } => counted(b" declares rank ", rank),
+        Event::Settle { given, .. } => contributed(&given),
+        Event::Mark { rank, .. } => counted(b" leaves rank ", rank),
+        Event::Arrive { .. } => alone(b" arrives"),
+        Event::Revoke { comm } => counted(b" revokes communicator ", comm),
+        Event::Spawn { comm, .. } => counted(b" makes communicator ", comm),
+    }
+}
+
+/// What is contributed.
+fn contributed(given: &Contribution<FlagAnd>) -> Label {
+    match given.offer {
+        Offer::Flag(flag) => [Part::Text(b" contributes the flag "), Part::Flag(flag)],
+        Offer::Ctx(mask) => {
+            let bits = FlagAnd { bits: mask.bits };
+            [
+                Part::Text(b" contributes the context ids "),
+                Part::Flag(bits),
+            ]
         }
     }
 }
 
-/// A rank, behind what is done to it.
-fn title_of<A: Allocator>(title: &mut Vec<u8, A>, verb: &[u8], rank: u16) -> Result<(), AllocError>
-    ensures { OnOk result (Appends title.old.items title.new.items) }
-{
-    say(
-        title,
-        &[
-            Part::Text(verb),
-            Part::Text(b"rank "),
-            Part::Number(u32::from(rank)),
-        ],
-    )
-}
-
-/// A round and its communicator, behind what they are to the event.
-fn title_round<A: Allocator>(
-    title: &mut Vec<u8, A>,
-    before: &[u8],
-    round: u16,
-    comm: u16,
-) -> Result<(), AllocError>
-    ensures { OnOk result (Appends title.old.items title.new.items) }
-{
-    say(
-        title,
-        &[
-            Part::Text(before),
-            Part::Number(u32::from(round)),
-            Part::Text(b" of "),
-            Part::Number(u32::from(comm)),
-        ],
-    )
-}
-
-/// What is contributed.
-fn title_given<A: Allocator>(
-    title: &mut Vec<u8, A>,
-    given: &Contribution<FlagAnd>,
-) -> Result<(), AllocError>
-    ensures { OnOk result (Appends title.old.items title.new.items) }
-{
-    let (words, digits) = match given.offer {
-        Offer::Flag(flag) => (b" contributes the flag ".as_slice(), flag_digits(flag)),
-        Offer::Ctx(mask) => {
-            let bits = FlagAnd { bits: mask.bits };
-            (
-                b" contributes the context ids ".as_slice(),
-                flag_digits(bits),
-            )
-        }
+/// The round of an event and its communicator, behind what they are to it; nothing where it has none.
+fn round_of(event: &Event<FlagAnd>) -> [Part<'static>; 4] {
+    let (before, round, comm): (&[u8], u16, u16) = match *event {
+        Event::Settle { comm, round, .. } => (b" to round ", round, comm),
+        Event::Mark { comm, round, .. } => (b" out of round ", round, comm),
+        Event::Arrive { comm, round, .. } => (b" in barrier round ", round, comm),
+        Event::Spawn { parent, round, .. } => (b" of round ", round, parent),
+        Event::Fail { .. } | Event::Revoke { .. } => return [Part::Text(b""); 4],
     };
-    say(title, &[Part::Text(words), Part::Text(digits.text())])
+    let round = Part::Number(u32::from(round));
+    let comm = Part::Number(u32::from(comm));
+    [Part::Text(before), round, Part::Text(b" of "), comm]
 }
 
 /// What is known by who contributes.

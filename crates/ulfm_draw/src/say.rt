@@ -1,16 +1,19 @@
-//! Words, put together of texts and numbers.
+//! Words, put together of texts, numbers and flags.
 ghost use Rattle.std.specs.Prelude.{◌≡◌, ◌++◌, OnOk, flat_map};
 ghost use Rattle.std.specs.Fmt.{decimal};
 ghost use Rattle.ulfm_draw.specs.Words.{Appends, lane_text, part_text};
 
 use itoa::Buffer;
 use std::alloc::{AllocError, Allocator};
+use ulfm_laws::FlagAnd;
+use ulfm_script::print_flag;
 
 /// A part of what is said.
 #[derive(Clone, Copy, PartialEq, Eq)]
 pub enum Part<'a> {
     Text(&'a [u8]),
     Number(u32),
+    Flag(FlagAnd),
 }
 
 /// Appends these parts. After an error a beginning of them may be there.
@@ -32,6 +35,7 @@ fn say_part<A: Allocator>(words: &mut Vec<u8, A>, part: Part<'_>) -> Result<(), 
     match part {
         Part::Text(text) => words.extend_from_slice(text),
         Part::Number(number) => say_number(words, number),
+        Part::Flag(flag) => print_flag(words, flag),
     }
 }
 

@@ -50,10 +50,7 @@ pub(crate) fn put_words<A: Allocator>(
 fn put_columns<A: Allocator>(sheet: &mut Vec<u8, A>, columns: &[u8]) -> Result<(), AllocError>
     ensures { OnOk result (sheet.new.items ≡ sheet.old.items ++ map column_of columns.now) }
 {
-    for byte in columns {
-        sheet.push(column(*byte))?;
-    }
-    Ok(())
+    sheet.extend(columns.iter().map(|byte| column(*byte)))
 }
 
 /// A byte of a column.

@@ -30,6 +30,16 @@ pub(crate) struct Drawn<'a, A: Allocator> {
     pub(crate) note: Option<&'a Note<A>>,
 }
 
+impl<A: Allocator + Copy + Drop> Drawn<'_, A> {
+    /// The middle of the row.
+    fn y(&self) -> u32
+        ensures low { 111 ≤ result }
+        ensures high { result < 2 ^ 22 }
+    {
+        self.layout.y(self.index)
+    }
+}
+
 /// Draws a row as a group with a title.
 pub(crate) fn draw_row<A: Allocator + Copy + Drop>(
     page: Page<A>,
@@ -40,7 +50,7 @@ pub(crate) fn draw_row<A: Allocator + Copy + Drop>(
     words.clear();
     put_title(words, number, drawn.row, drawn.line)?;
     let mut group = page.titled(words)?;
-    draw_number(&mut group, words, number, 44, drawn.layout.y(drawn.index))?;
+    draw_number(&mut group, words, number, 44, drawn.y())?;
     draw_band(&mut group, drawn)?;
     draw_sign(&mut group, drawn)?;
     draw_label(&mut group, words, drawn)?;
@@ -77,7 +87,7 @@ fn draw_band<A: Allocator + Copy + Drop>(
     };
     let first = drawn.layout.x(note.first);
     let last = drawn.layout.x(note.last).max(first);
-    let y = drawn.layout.y(drawn.index) + drawn.layout.scale.row() / 2 - 2;
+    let y = drawn.y() + drawn.layout.scale.row() / 2 - 2;
     let numbers = [first - 14, y, last - first + 28, 3, 1];
     group.put(Leaf::Box, class, &numbers, b"")
 }
@@ -88,7 +98,7 @@ fn draw_sign<A: Allocator + Copy + Drop>(
     drawn: &Drawn<'_, A>,
 ) -> Result<(), AllocError> {
     let x = drawn.layout.x(drawn.row.lane);
-    let y = drawn.layout.y(drawn.index);
+    let y = drawn.y();
     match drawn.row.line {
         Line::Called { .. } => draw_dot(group, x, y),
         Line::Looked { .. } => {
@@ -145,11 +155,13 @@ fn draw_event<A: Allocator + Copy + Drop>(
         Event::Fail { .. } => {
             let target = draw_link(group, drawn, b"link", x, y)?;
             let size = half + 2;
-            draw_diamond(group, target, y, size)
+            let numbers = [target, y - size, size, size, size, size, size, size];
+            group.put(Leaf::Diamond, b"fail", &numbers, b"")
         }
         Event::Mark { .. } => {
             let target = draw_link(group, drawn, b"mark", x, y)?;
-            draw_mark(group, target, y, half + 1)
+            group.put(Leaf::Disc, b"mark", &[target, y, half + 1], b"")?;
+            group.put(Leaf::Cross, b"mark", &[target - 3, y - 3], b"")
         }
         Event::Settle { round, .. } => {
             group.put(Leaf::Disc, round_class(round), &[x, y, half], b"")
@@ -177,33 +189,6 @@ fn draw_link<A: Allocator + Copy + Drop>(
         draw_dot(group, x, y)?;
     }
     Ok(target)
-}
-
-/// A declaration.
-fn draw_diamond<A: Allocator + Copy>(
-    group: &mut Group<A>,
-    x: u32,
-    y: u32,
-    size: u32,
-) -> Result<(), AllocError>
-    requires { size ≤ y }
-{
-    let numbers = [x, y - size, size, size, size, size, size, size];
-    group.put(Leaf::Diamond, b"fail", &numbers, b"")
-}
-
-/// A mark.
-fn draw_mark<A: Allocator + Copy>(
-    group: &mut Group<A>,
-    x: u32,
-    y: u32,
-    radius: u32,
-) -> Result<(), AllocError>
-    requires left { 3 ≤ x }
-    requires low { 3 ≤ y }
-{
-    group.put(Leaf::Disc, b"mark", &[x, y, radius], b"")?;
-    group.put(Leaf::Cross, b"mark", &[x - 3, y - 3], b"")
 }
 
 /// An arrival.
@@ -248,17 +233,16 @@ fn draw_label<A: Allocator + Copy + Drop>(
     words: &mut Vec<u8, A>,
     drawn: &Drawn<'_, A>,
 ) -> Result<(), AllocError> {
-    let y = drawn.layout.y(drawn.index);
     let x = drawn.layout.label_x(drawn.row);
     words.clear();
     if drawn.layout.scale.is_labelled() {
         put_label(words, drawn.row)?;
-        group.put(Leaf::Words, b"t", &[x, y + 4], words)?;
+        group.put(Leaf::Words, b"t", &[x, drawn.y() + 4], words)?;
     }
     let from = x + crate::layout::span_of(words.len(), 7) + 6;
     let to = drawn.layout.text.saturating_sub(44);
     if from < to {
-        group.put(Leaf::Across, b"lead", &[from, y, to], b"")?;
+        group.put(Leaf::Across, b"lead", &[from, drawn.y(), to], b"")?;
     }
     Ok(())
 }
@@ -269,19 +253,18 @@ fn draw_line<A: Allocator + Copy + Drop>(
     words: &mut Vec<u8, A>,
     drawn: &Drawn<'_, A>,
 ) -> Result<(), AllocError> {
-    let y = drawn.layout.y(drawn.index);
     let x = drawn.layout.text;
     if let Some(number) = drawn.row.event {
-        draw_number(group, words, number, x.saturating_sub(8), y)?;
+        draw_number(group, words, number, x.saturating_sub(8), drawn.y())?;
     }
     words.clear();
     put_shown(words, drawn.line)?;
-    group.put(Leaf::Words, b"l", &[x, y + 4], words)?;
+    group.put(Leaf::Words, b"l", &[x, drawn.y() + 4], words)?;
     let Some(note) = drawn.note else {
         return Ok(());
     };
     let behind = crate::layout::span_of(words.len(), 8) + 24;
-    let place = [x.saturating_add(behind), y + 4];
+    let place = [x.saturating_add(behind), drawn.y() + 4];
     group.put(Leaf::Words, note_class(note.round), &place, &note.words)
 }
 

@@ -22,7 +22,8 @@ const MOST_COUNTS: u16 = 1024;
 /// The account of a bad line.
 #[derive(Drop)]
 pub(crate) struct Account<A: Allocator> {
-    alloc: A,
+    /// What it and its notes are allocated by.
+    pub(crate) alloc: A,
     /// What is told of the line, and of what judged it.
     pub(crate) notes: Vec<Vec<u8, A>, A>,
     /// Lines that might stand in its place.
@@ -80,13 +81,12 @@ fn first_bytes(line: &[u8], count: usize) -> &[u8] {
 
 /// Notes the first bytes of a bad line.
 fn note_line<A: Allocator + Copy>(
-    alloc: A,
     account: &mut Account<A>,
     number: u32,
     shown: &[u8],
 ) -> Result<(), AllocError> {
     let mut note = say(
-        alloc,
+        account.alloc,
         &[
             Part::Words(b"line "),
             Part::Number(number),
@@ -112,7 +112,7 @@ pub(crate) fn account_of<A: Allocator + Copy + Drop>(
     };
     let (bad, is_whole) = line_behind(text, before);
     let mut group = Vec::new(alloc);
-    note_line(alloc, &mut account, number, first_bytes(bad, MOST_SHOWN))?;
+    note_line(&mut account, number, first_bytes(bad, MOST_SHOWN))?;
     if why == Why::Text {
         note_text(&mut account, bad, is_whole, number)?;
         return Ok(account);
@@ -125,8 +125,8 @@ pub(crate) fn account_of<A: Allocator + Copy + Drop>(
     };
     match why {
         Why::Call => tell_call(&mut account, &scene, &line)?,
-        Why::Reply => tell_reply(alloc, &mut account, before, &scene, &line, &group)?,
-        _ => tell_other(alloc, &mut account, before, &scene, &line, why)?,
+        Why::Reply => tell_reply(&mut account, before, &scene, &line, &group)?,
+        _ => tell_other(&mut account, before, &scene, &line, why)?,
     }
     Ok(account)
 }
@@ -160,24 +160,23 @@ fn tell_call<A: Allocator + Copy>(
 
 /// Tells of a bad look or event.
 fn tell_other<A: Allocator + Copy + Drop>(
-    alloc: A,
     account: &mut Account<A>,
     before: &[u8],
     scene: &Scene<A>,
     line: &Line<FlagAnd>,
     why: Why,
 ) -> Result<(), AllocError> {
-    let Some(mut trier) = Trier::new(alloc, before)? else {
+    let Some(mut trier) = Trier::new(account.alloc, before)? else {
         return Ok(());
     };
     match *line {
         Line::Looked { rank, .. } => {
-            note_look(alloc, account, scene, rank)?;
+            note_look(account, scene, rank)?;
             note_call(account, scene)?;
             try_looks(&mut trier, scene, rank)?;
         }
         Line::Happened { by, event } => {
-            tell_event(alloc, account, scene, event, why)?;
+            tell_event(account, scene, event, why)?;
             try_events(&mut trier, by, event)?;
         }
         _ => {}
@@ -188,7 +187,6 @@ fn tell_other<A: Allocator + Copy + Drop>(
 
 /// Tells of a bad event.
 fn tell_event<A: Allocator + Copy + Drop>(
-    alloc: A,
     account: &mut Account<A>,
     scene: &Scene<A>,
     event: Option<Event<FlagAnd>>,
@@ -198,7 +196,7 @@ fn tell_event<A: Allocator + Copy + Drop>(
         note_own(account, scene)?;
         note_call(account, scene)?;
     } else {
-        note_event(alloc, account, scene, event)?;
+        note_event(account, scene, event)?;
     }
     let (comm, request) = match event {
         Some(Event::Settle { comm, round, .. }) | Some(Event::Mark { comm, round, .. }) => {
@@ -210,9 +208,9 @@ fn tell_event<A: Allocator + Copy + Drop>(
         _ => (0, None),
     };
     let round = round_of(request);
-    let matters = matters_of(alloc, &scene.history, comm, round)?;
-    note_request(alloc, account, scene, &matters, comm, request)?;
-    note_matters(alloc, account, &matters)
+    let matters = matters_of(account.alloc, &scene.history, comm, round)?;
+    note_request(account, scene, &matters, comm, request)?;
+    note_matters(account, &matters)
 }
 
 /// The round of a request; 0 where there is none.
@@ -313,7 +311,6 @@ fn try_events<A: Allocator + Copy + Drop>(
 
 /// Tells of a bad reply.
 fn tell_reply<A: Allocator + Copy + Drop>(
-    alloc: A,
     account: &mut Account<A>,
     before: &[u8],
     scene: &Scene<A>,
@@ -325,8 +322,8 @@ fn tell_reply<A: Allocator + Copy + Drop>(
     };
     let comm = comm_of(&begun.asked);
     let request = scene.request_of(&begun.asked);
-    let matters = matters_of(alloc, &scene.history, comm, round_of(request))?;
-    let Some(mut trier) = Trier::new(alloc, before)? else {
+    let matters = matters_of(account.alloc, &scene.history, comm, round_of(request))?;
+    let Some(mut trier) = Trier::new(account.alloc, before)? else {
         return Ok(());
     };
     let asked = Asked {
@@ -337,12 +334,12 @@ fn tell_reply<A: Allocator + Copy + Drop>(
     };
     let points = matters.points(point, begun.events, scene.events())?;
     for at in points.iter() {
-        asked.try_at(alloc, &mut trier, *at)?;
+        asked.try_at(account.alloc, &mut trier, *at)?;
     }
     note_reply(account, scene, &begun, line, group, &trier.found)?;
     note_call(account, scene)?;
-    note_request(alloc, account, scene, &matters, comm, request)?;
-    note_matters(alloc, account, &matters)?;
+    note_request(account, scene, &matters, comm, request)?;
+    note_matters(account, &matters)?;
     account.candidates = trier.texts()?;
     Ok(())
 }

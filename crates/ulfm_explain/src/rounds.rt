@@ -14,58 +14,117 @@ use ulfm_story::decision_words;
 
 /// Notes the events that matter, each with its number.
 pub(crate) fn note_matters<A: Allocator + Copy>(
-    alloc: A,
     account: &mut Account<A>,
     matters: &Relevant<A>,
 ) -> Result<(), AllocError> {
     for placed in matters.events.iter() {
         let Entry { by, event } = placed.entry;
         let event = Some(event);
-        let words = line_words(alloc, &Line::Happened { by, event }, &[])?;
+        let words = line_words(account.alloc, &Line::Happened { by, event }, &[])?;
         let number = placed.at.saturating_add(1);
-        let mut note = say(alloc, &[Part::Number(number), Part::Words(b": ")])?;
+        let head = [Part::Number(number), Part::Words(b": ")];
+        let mut note = say(account.alloc, &head)?;
         note.extend_from_slice(&words)?;
         account.push(note)?;
     }
     Ok(())
 }
 
-/// Whether a member has taken part in a round, or is left out of it.
-fn is_settled(history: &[Entry<FlagAnd>], comm: u16, request: Request, rank: u16) -> bool {
-    match request {
-        Request::Agree { round } | Request::Shrink { round } => {
-            slot(history, comm, round, rank).is_some()
+/// The round of a communicator that a request is about, and the events that matter to it.
+struct AskedRound<'a> {
+    /// How many ranks the world has.
+    ranks: u16,
+    /// These events.
+    history: &'a [Entry<FlagAnd>],
+    /// The communicator.
+    comm: u16,
+    /// The request.
+    request: Request,
+}
+
+impl<'a> AskedRound<'a> {
+    /// Whether a member has taken part in the round, or is left out of it.
+    fn is_settled(&self, rank: u16) -> bool {
+        match self.request {
+            Request::Agree { round } | Request::Shrink { round } => {
+                slot(self.history, self.comm, round, rank).is_some()
+            }
+            Request::Barrier { round } => has_arrived(self.history, self.comm, round, rank),
         }
-        Request::Barrier { round } => has_arrived(history, comm, round, rank),
+    }
+
+    /// Those of these members that are missing in the round.
+    fn missing<A: Allocator + Copy>(
+        &self,
+        alloc: A,
+        group: &[u16],
+    ) -> Result<Vec<u16, A>, AllocError> {
+        let mut missing = Vec::new(alloc);
+        for rank in group {
+            if !self.is_settled(*rank) {
+                missing.push(*rank)?;
+            }
+        }
+        Ok(missing)
+    }
+
+    /// Notes which of these members are missing in the round, and what it decided.
+    fn note<A: Allocator + Copy + Drop>(
+        &self,
+        account: &mut Account<A>,
+        group: &[u16],
+    ) -> Result<(), AllocError> {
+        let missing = self.missing(account.alloc, group)?;
+        match self.request {
+            Request::Agree { round } | Request::Shrink { round } => {
+                note_missing(account, b"agreement ", round, &missing)?;
+                self.note_decision(account, round)
+            }
+            Request::Barrier { round } => note_missing(account, b"barrier ", round, &missing),
+        }
+    }
+
+    /// Notes what an agreement round decided, if it has.
+    fn note_decision<A: Allocator + Copy + Drop>(
+        &self,
+        account: &mut Account<A>,
+        round: u16,
+    ) -> Result<(), AllocError> {
+        let alloc = account.alloc;
+        match decision_words(alloc, self.ranks, self.history, self.comm, round)? {
+            Some(words) => {
+                let mut note = say(alloc, &[Part::Words(b"decision: ")])?;
+                note.extend_from_slice(&words)?;
+                account.push(note)
+            }
+            None => Ok(()),
+        }
     }
 }
 
-/// The members that are missing in a round.
-fn missing_in<A: Allocator + Copy>(
-    alloc: A,
-    history: &[Entry<FlagAnd>],
-    comm: u16,
-    request: Request,
-    group: &[u16],
-) -> Result<Vec<u16, A>, AllocError> {
-    let mut missing = Vec::new(alloc);
-    for rank in group {
-        if !is_settled(history, comm, request, *rank) {
-            missing.push(*rank)?;
-        }
-    }
-    Ok(missing)
+/// Notes a round of this kind, and who is missing in it.
+fn note_missing<A: Allocator + Copy>(
+    account: &mut Account<A>,
+    kind: &'static [u8],
+    round: u16,
+    missing: &[u16],
+) -> Result<(), AllocError> {
+    let number = Part::Number(u32::from(round));
+    let head = [Part::Words(kind), number, Part::Words(b": missing")];
+    let mut note = say(account.alloc, &head)?;
+    put_ranks(&mut note, missing)?;
+    account.push(note)
 }
 
 /// Notes a communicator, and the round of it that a request is about.
 pub(crate) fn note_request<A: Allocator + Copy + Drop>(
-    alloc: A,
     account: &mut Account<A>,
     scene: &Scene<A>,
     matters: &Relevant<A>,
     comm: u16,
     request: Option<Request>,
 ) -> Result<(), AllocError> {
+    let alloc = account.alloc;
     let ranks = scene.limits.ranks;
     let history = matters.first(u32::MAX)?;
     let group = members(alloc, ranks, &history, comm)?;
@@ -86,67 +145,16 @@ pub(crate) fn note_request<A: Allocator + Copy + Drop>(
     }
     account.push(note)?;
     match request {
-        Some(request) => note_round(alloc, account, ranks, &history, comm, request, &group),
+        Some(request) => {
+            let history = history.as_slice();
+            let asked = AskedRound {
+                ranks,
+                history,
+                comm,
+                request,
+            };
+            asked.note(account, &group)
+        }
         None => Ok(()),
     }
-}
-
-/// Notes who is missing in a round, or what it decided.
-fn note_round<A: Allocator + Copy + Drop>(
-    alloc: A,
-    account: &mut Account<A>,
-    ranks: u16,
-    history: &[Entry<FlagAnd>],
-    comm: u16,
-    request: Request,
-    group: &[u16],
-) -> Result<(), AllocError> {
-    let missing = missing_in(alloc, history, comm, request, group)?;
-    let mut note = match request {
-        Request::Agree { round } | Request::Shrink { round } => {
-            say(
-                alloc,
-                &[
-                    Part::Words(b"agreement "),
-                    Part::Number(u32::from(round)),
-                    Part::Words(b": missing"),
-                ],
-            )?
-        },
-        Request::Barrier { round } => {
-            say(
-                alloc,
-                &[
-                    Part::Words(b"barrier "),
-                    Part::Number(u32::from(round)),
-                    Part::Words(b": missing"),
-                ],
-            )?
-        },
-    };
-    put_ranks(&mut note, &missing)?;
-    account.push(note)?;
-    match request {
-        Request::Agree { round } | Request::Shrink { round } => {
-            note_decision(alloc, account, ranks, history, comm, round)
-        }
-        Request::Barrier { .. } => Ok(()),
-    }
-}
-
-/// Notes what a round decided, if it has.
-fn note_decision<A: Allocator + Copy + Drop>(
-    alloc: A,
-    account: &mut Account<A>,
-    ranks: u16,
-    history: &[Entry<FlagAnd>],
-    comm: u16,
-    round: u16,
-) -> Result<(), AllocError> {
-    let Some(words) = decision_words(alloc, ranks, history, comm, round)? else {
-        return Ok(());
-    };
-    let mut note = say(alloc, &[Part::Words(b"decision: ")])?;
-    note.extend_from_slice(&words)?;
-    account.push(note)
 }

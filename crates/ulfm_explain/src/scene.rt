@@ -181,40 +181,6 @@ impl<A: Allocator + Copy> Scene<A> {
         }
     }
 
-    /// Takes in a line.
-    fn tell(&mut self, number: u32, line: Line<FlagAnd>) -> Result<(), AllocError> {
-        match line {
-            Line::Called { call: asked, .. } => {
-                if caller_of(&asked) == self.caller {
-                    self.begun = Some(Begun {
-                        asked,
-                        line: number,
-                        events: self.events(),
-                        look: None,
-                    });
-                }
-                Ok(())
-            }
-            Line::Looked { rank, failures } => {
-                if Caller::Rank(rank) == self.caller {
-                    self.look(failures);
-                }
-                Ok(())
-            }
-            Line::Happened { by, event } => match event {
-                Some(event) => {
-                    self.history.push(Entry { by, event })?;
-                    Ok(())
-                }
-                None => Ok(()),
-            },
-            Line::Replied { by, reply, .. } => match reply {
-                Some(reply) if by == self.caller => self.answer(&reply),
-                _ => Ok(()),
-            },
-        }
-    }
-
     /// Takes in that the caller's call has looked.
     fn look(&mut self, failures: u16) {
         if let Some(begun) = self.begun {
@@ -250,6 +216,89 @@ impl<A: Allocator + Copy> Scene<A> {
     }
 }
 
+/// A line before a bad one.
+struct Told<'a> {
+    /// Its number.
+    number: u32,
+    /// What it tells.
+    line: Line<FlagAnd>,
+    /// The ranks that its reply lists, in order; else nobody.
+    group: &'a [u16],
+}
+
+/// What takes in the lines before a bad one, one by one.
+trait Taker {
+    /// Takes in a line.
+    fn take_in(&mut self, told: &Told<'_>) -> Result<(), AllocError>;
+}
+
+impl<A: Allocator + Copy> Taker for Scene<A> {
+    fn take_in(&mut self, told: &Told<'_>) -> Result<(), AllocError> {
+        match told.line {
+            Line::Called { call: asked, .. } => {
+                if caller_of(&asked) == self.caller {
+                    self.begun = Some(Begun {
+                        asked,
+                        line: told.number,
+                        events: self.events(),
+                        look: None,
+                    });
+                }
+                Ok(())
+            }
+            Line::Looked { rank, failures } => {
+                if Caller::Rank(rank) == self.caller {
+                    self.look(failures);
+                }
+                Ok(())
+            }
+            Line::Happened { by, event } => match event {
+                Some(event) => {
+                    self.history.push(Entry { by, event })?;
+                    Ok(())
+                }
+                None => Ok(()),
+            },
+            Line::Replied { by, reply, .. } => match reply {
+                Some(reply) if by == self.caller => self.answer(&reply),
+                _ => Ok(()),
+            },
+        }
+    }
+}
+
+impl<A: Allocator + Copy + Drop> Taker for Judge<FlagAnd, A> {
+    fn take_in(&mut self, told: &Told<'_>) -> Result<(), AllocError> {
+        let _ = self.take(&told.line, told.group)?;
+        Ok(())
+    }
+}
+
+/// Takes in the lines behind a header, up to the first that isn't whole.
+fn take_lines<A: Allocator + Copy, T: Taker>(
+    alloc: A,
+    text: &[u8],
+    taker: &mut T,
+) -> Result<(), AllocError> {
+    let mut group = Vec::new(alloc);
+    let mut left = text;
+    for number in 2..u32::MAX {
+        let Some((line, behind)) = split_line(left) else {
+            return Ok(());
+        };
+        if let Some(line) = read_line(line, &mut group)? {
+            let group = group.as_slice();
+            taker.take_in(&Told {
+                number,
+                line,
+                group,
+            })?;
+        }
+        left = behind;
+    }
+    Ok(())
+}
+
 /// The limits in the first line of a trace, and the text behind it.
 fn limits_of(before: &[u8]) -> Option<(Limits, &[u8])> {
     let (first, rest) = split_line(before)?;
@@ -269,17 +318,7 @@ pub(crate) fn scene_of<A: Allocator + Copy>(
         return Ok(None);
     };
     let mut scene = Scene::new(alloc, limits, caller);
-    let mut group = Vec::new(alloc);
-    let mut left = rest;
-    for number in 2..u32::MAX {
-        let Some((line, behind)) = split_line(left) else {
-            return Ok(Some(scene));
-        };
-        if let Some(told) = read_line(line, &mut group)? {
-            scene.tell(number, told)?;
-        }
-        left = behind;
-    }
+    take_lines(alloc, rest, &mut scene)?;
     Ok(Some(scene))
 }
 
@@ -288,23 +327,10 @@ pub(crate) fn judge_behind<A: Allocator + Copy + Drop>(
     alloc: A,
     before: &[u8],
 ) -> Result<Option<Judge<FlagAnd, A>>, AllocError> {
-    let Some((first, rest)) = split_line(before) else {
-        return Ok(None);
-    };
-    let Ok(limits) = read_header(HeaderKind::Trace, first) else {
+    let Some((limits, rest)) = limits_of(before) else {
         return Ok(None);
     };
     let mut judge = Judge::open(alloc, limits)?;
-    let mut group = Vec::new(alloc);
-    let mut left = rest;
-    for _number in 2..u32::MAX {
-        let Some((line, behind)) = split_line(left) else {
-            return Ok(Some(judge));
-        };
-        if let Some(told) = read_line(line, &mut group)? {
-            let _ = judge.take(&told, &group)?;
-        }
-        left = behind;
-    }
+    take_lines(alloc, rest, &mut judge)?;
     Ok(Some(judge))
 }

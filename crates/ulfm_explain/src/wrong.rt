@@ -51,7 +51,6 @@ fn text_reason(bad: &[u8], is_whole: bool, number: u32) -> &'static [u8] {
 
 /// Notes what is wrong with a look.
 pub(crate) fn note_look<A: Allocator + Copy + Drop>(
-    alloc: A,
     account: &mut Account<A>,
     scene: &Scene<A>,
     rank: u16,
@@ -71,9 +70,9 @@ pub(crate) fn note_look<A: Allocator + Copy + Drop>(
             b"wrong: the look, since the rank was refused for good before",
         )]);
     }
-    let declared = failures(alloc, &scene.history)?;
+    let declared = failures(account.alloc, &scene.history)?;
     let mut note = say(
-        alloc,
+        account.alloc,
         &[
             Part::Words(b"wrong: the look, since the number of those declared is "),
             Part::Number(u32::try_from(declared.len()).unwrap_or(u32::MAX)),
@@ -111,7 +110,6 @@ fn own_reason<A: Allocator>(scene: &Scene<A>) -> &'static [u8] {
 
 /// Notes why an event may not come next.
 pub(crate) fn note_event<A: Allocator + Copy + Drop>(
-    alloc: A,
     account: &mut Account<A>,
     scene: &Scene<A>,
     event: Option<Event<FlagAnd>>,
@@ -119,7 +117,7 @@ pub(crate) fn note_event<A: Allocator + Copy + Drop>(
     let reason = match event {
         None =>
             b"known is at most 1024, acked at most known, and a mark's known at least 1".as_slice(),
-        Some(event) => event_reason(alloc, scene, &event)?,
+        Some(event) => event_reason(account.alloc, scene, &event)?,
     };
     account.note(&[
         Part::Words(b"wrong: the event, since "),
