@@ -52,14 +52,13 @@ fn main(rt: HostRuntime) -> anyhow::Result<()> {
     };
     let (mut outside, members) = vukrasp::open(rt.alloc(), limits)?;
     let (replies, declared) = join(&rt, || agree_all(&rt, members), move || outside.fail(3));
-    let replies = replies?;
+    let (replies, declared) = (replies?, declared?);
     match replies.first() {
-        Some(Ok(Polled::Agreed { value, .. })) if is_one_reply(&replies) && declared == Ok(true) =>
-            {
-                println!(rt; "ranks 0, 1 and 2 agreed on {:04b}", value.bits)?;
-                println!(rt; "rank 3 was declared failed, and got the same reply or none")?;
-            }
-        _ => println!(rt; "no one reply: {replies:?}, {declared:?}")?,
+        Some(Ok(Polled::Agreed { value, .. })) if declared && is_one_reply(&replies) => {
+            println!(rt; "ranks 0, 1 and 2 agreed on {:04b}", value.bits)?;
+            println!(rt; "rank 3 was declared failed, and got the same reply or none")?;
+        }
+        _ => println!(rt; "no one reply: {replies:?}, {declared}")?,
     }
     Ok(())
 }

@@ -88,47 +88,41 @@ fn go_on<R: Wait>(rt: &R, member: &mut Member, comm: u16) -> Reply {
     Ok(agreed)
 }
 
+/// Each agrees, in a thread of its own: its reply, and its member again.
 fn work_all<R: Threads + Wait + Sync>(
     rt: &R,
     all: Vec<Member>,
-) -> Result<Vec<(Member, Reply)>, AllocError> {
+) -> Result<Vec<(Reply, Member)>, AllocError> {
     thread::map_vec(
         rt,
         all,
-        &|mut member| {
-            let reply = agree(rt, &mut member, WORLD);
-            (member, reply)
-        },
+        &|mut member| (agree(rt, &mut member, WORLD), member),
     )
 }
 
+/// Each recovers likewise.
 fn recover_all<R: Threads + Wait + Sync>(
     rt: &R,
     alloc: Global,
     all: Vec<Member>,
-) -> Result<Vec<(Member, Result<Recovery, Refusal>)>, AllocError> {
+) -> Result<Vec<(Result<Recovery, Refusal>, Member)>, AllocError> {
     thread::map_vec(
         rt,
         all,
-        &|mut member| {
-            let recovery = recover(rt, alloc, &mut member);
-            (member, recovery)
-        },
+        &|mut member| (recover(rt, alloc, &mut member), member),
     )
 }
 
+/// Each goes on likewise.
 fn go_on_all<R: Threads + Wait + Sync>(
     rt: &R,
     all: Vec<Member>,
     comm: u16,
-) -> Result<Vec<(Member, Reply)>, AllocError> {
+) -> Result<Vec<(Reply, Member)>, AllocError> {
     thread::map_vec(
         rt,
         all,
-        &|mut member| {
-            let reply = go_on(rt, &mut member, comm);
-            (member, reply)
-        },
+        &|mut member| (go_on(rt, &mut member, comm), member),
     )
 }
 
@@ -173,8 +167,8 @@ fn print_recovery<R: Print>(rt: &R, recovery: &Result<Recovery, Refusal>) -> io:
     }
 }
 
-fn print_work<R: Print>(rt: &R, worked: &[(Member, Reply)]) -> io::Result<()> {
-    for (member, reply) in worked {
+fn print_work<R: Print>(rt: &R, worked: &[(Reply, Member)]) -> io::Result<()> {
+    for (reply, member) in worked {
         println!(rt; "rank {} works", member.number())?;
         print_agreed(rt, reply)?;
     }
@@ -183,9 +177,9 @@ fn print_work<R: Print>(rt: &R, worked: &[(Member, Reply)]) -> io::Result<()> {
 
 fn print_recoveries<R: Print>(
     rt: &R,
-    recovered: &[(Member, Result<Recovery, Refusal>)],
+    recovered: &[(Result<Recovery, Refusal>, Member)],
 ) -> io::Result<()> {
-    for (member, recovery) in recovered {
+    for (recovery, member) in recovered {
         println!(rt; "rank {} recovers", member.number())?;
         print_recovery(rt, recovery)?;
         println!(rt; "  members {:?}", member.members(MADE))?;
@@ -193,8 +187,8 @@ fn print_recoveries<R: Print>(
     Ok(())
 }
 
-fn print_end<R: Print>(rt: &R, gone_on: &[(Member, Reply)]) -> io::Result<()> {
-    for (member, reply) in gone_on {
+fn print_end<R: Print>(rt: &R, gone_on: &[(Reply, Member)]) -> io::Result<()> {
+    for (reply, member) in gone_on {
         println!(rt; "rank {} goes on", member.number())?;
         print_agreed(rt, reply)?;
         println!(rt; "  members {:?}", member.members(MADE))?;
@@ -205,11 +199,11 @@ fn print_end<R: Print>(rt: &R, gone_on: &[(Member, Reply)]) -> io::Result<()> {
 /// The members alone, without that of a rank that stops.
 fn members_of<T: Drop>(
     alloc: Global,
-    all: Vec<(Member, T)>,
+    all: Vec<(T, Member)>,
     stops: Option<u16>,
 ) -> Result<Vec<Member>, AllocError> {
     let mut members = Vec::with_capacity(alloc, all.len())?;
-    for (member, _) in all {
+    for (_, member) in all {
         if Some(member.number()) != stops {
             members.push(member)?;
         }

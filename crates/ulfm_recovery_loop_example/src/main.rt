@@ -64,11 +64,9 @@ fn shrink<R: Wait>(rt: &R, member: &mut Member, comm: u16) -> Result<u16, Refusa
 
 /// Agrees on one communicator after the other, until an agree is clean. All survivors go the same way: whether they go on is decided by the
 /// agree, whose reply is the same for all of them.
-fn recover<R: Wait>(rt: &R, alloc: Global, member: &mut Member) -> Result<Way, Refusal> {
+fn recover<R: Wait>(rt: &R, alloc: Global, member: &mut Member) -> anyhow::Result<Way> {
     let rank = member.number();
-    let Ok(mut agreed) = Vec::with_capacity(alloc, usize::from(LIMITS.comms)) else {
-        return Err(Refusal::OutOfMemory);
-    };
+    let mut agreed = Vec::with_capacity(alloc, usize::from(LIMITS.comms))?;
     let mut comm = WORLD;
     for _ in 0..LIMITS.comms {
         if stops_on(rank) == Some(comm) {
@@ -77,9 +75,7 @@ fn recover<R: Wait>(rt: &R, alloc: Global, member: &mut Member) -> Result<Way, R
             return Ok(Way { agreed, comm: None });
         }
         let reply = vukrasp::agree(rt, member, comm, flag(rank))?;
-        if agreed.push(reply).is_err() {
-            return Err(Refusal::OutOfMemory);
-        }
+        agreed.push(reply)?;
         if let Polled::Agreed { raised: false, .. } = reply {
             return Ok(Way {
                 agreed,
@@ -94,18 +90,16 @@ fn recover<R: Wait>(rt: &R, alloc: Global, member: &mut Member) -> Result<Way, R
     Ok(Way { agreed, comm: None })
 }
 
+/// Each recovers, in a thread of its own: its way, and its member again.
 fn recover_all<R: Threads + Wait + Sync>(
     rt: &R,
     alloc: Global,
     all: Vec<Member>,
-) -> Result<Vec<(Member, Result<Way, Refusal>)>, AllocError> {
+) -> Result<Vec<(anyhow::Result<Way>, Member)>, AllocError> {
     thread::map_vec(
         rt,
         all,
-        &|mut member| {
-            let way = recover(rt, alloc, &mut member);
-            (member, way)
-        },
+        &|mut member| (recover(rt, alloc, &mut member), member),
     )
 }
 
@@ -139,11 +133,11 @@ fn main(rt: HostRuntime) -> anyhow::Result<()> {
     let alloc = rt.alloc();
     let (_outside, members) = vukrasp::open(alloc, LIMITS)?;
     let ways = recover_all(&rt, alloc, members)?;
-    for (member, way) in &ways {
+    for (way, member) in &ways {
         println!(rt; "rank {}", member.number())?;
         match way {
             Ok(way) => print_way(&rt, member, way)?,
-            Err(refusal) => println!(rt; "  refused {refusal}")?,
+            Err(error) => println!(rt; "  refused {error}")?,
         }
     }
     Ok(())

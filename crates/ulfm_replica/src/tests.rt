@@ -21,108 +21,110 @@ fn by_rank(rank: u16, event: Event<FlagAnd>) -> Entry<FlagAnd> {
     }
 }
 
-fn is_written_so(rt: &impl Abort, entry: &Entry<FlagAnd>, bytes: Bytes) {
-    assert!(rt; bytes_of(entry) == bytes);
-    assert!(rt; entry_of(&bytes) == Some(*entry));
+/// A contribution of a rank that knows of so many failures, of which so many are acknowledged.
+fn settle(of: (u16, u16, u16), offer: Offer<FlagAnd>, known: u16, acked: u16) -> Event<FlagAnd> {
+    let (comm, round, rank) = of;
+    Event::Settle {
+        comm,
+        round,
+        rank,
+        given: Contribution {
+            offer,
+            known: Known { count: known },
+            acked: Acked { count: acked },
+        },
+    }
+}
+
+/// A mark by somebody who knows of so many failures.
+fn mark(of: (u16, u16, u16), known: u16) -> Event<FlagAnd> {
+    let (comm, round, rank) = of;
+    Event::Mark {
+        comm,
+        round,
+        rank,
+        known: MarkCount {
+            known: Known { count: known },
+        },
+    }
+}
+
+fn arrive(comm: u16, round: u16, rank: u16) -> Event<FlagAnd> {
+    Event::Arrive { comm, round, rank }
+}
+
+fn spawn(comm: u16, parent: u16, round: u16) -> Event<FlagAnd> {
+    Event::Spawn {
+        comm,
+        parent,
+        round,
+    }
+}
+
+/// The declaration of a rank.
+fn failure(rank: u16) -> Entry<FlagAnd> {
+    Entry {
+        by: Caller::Outside,
+        event: Event::Fail { rank },
+    }
 }
 
 #[test]
 fn each_kind_has_its_bytes(rt: HostRuntime) {
-    let declared = Entry {
-        by: Caller::Outside,
-        event: Event::Fail { rank: 258 },
-    };
-    is_written_so(
-        &rt,
-        &declared,
-        [
-            1, 0, 0, 0, 0, 0, 0, 0, 2, 1, 0, 0, 0, 0, 0, 0, 0, 0, 0, 0, 0, 0, 0, 0,
-        ],
-    );
-    let agree = Event::Settle {
-        comm: 3,
-        round: 1027,
-        rank: 513,
-        given: Contribution {
-            offer: Offer::Flag(FlagAnd {
-                bits: 0x0102_0304_0506_0708,
-            }),
-            known: Known { count: 1024 },
-            acked: Acked { count: 260 },
-        },
-    };
-    is_written_so(
-        &rt,
-        &by_rank(513, agree),
-        [
-            2, 1, 1, 2, 3, 0, 3, 4, 1, 2, 0, 4, 4, 1, 0, 0, 8, 7, 6, 5, 4, 3, 2, 1,
-        ],
-    );
-    let shrink = Event::Settle {
-        comm: 0,
-        round: 0,
-        rank: 1,
-        given: Contribution {
-            offer: Offer::Ctx(CtxMask {
-                bits: 0xff00_0000_0000_0001,
-            }),
-            known: Known { count: 0 },
-            acked: Acked { count: 0 },
-        },
-    };
-    is_written_so(
-        &rt,
-        &by_rank(1, shrink),
-        [
-            3, 1, 1, 0, 0, 0, 0, 0, 1, 0, 0, 0, 0, 0, 0, 0, 1, 0, 0, 0, 0, 0, 0, 255,
-        ],
-    );
-    let mark = Event::Mark {
-        comm: 1,
-        round: 2,
-        rank: 5,
-        known: MarkCount {
-            known: Known { count: 257 },
-        },
-    };
-    is_written_so(
-        &rt,
-        &by_rank(0, mark),
-        [
-            4, 1, 0, 0, 1, 0, 2, 0, 5, 0, 1, 1, 0, 0, 0, 0, 0, 0, 0, 0, 0, 0, 0, 0,
-        ],
-    );
-    let arrival = Event::Arrive {
-        comm: 0,
-        round: 4095,
-        rank: 7,
-    };
-    is_written_so(
-        &rt,
-        &by_rank(7, arrival),
-        [
-            5, 1, 7, 0, 0, 0, 255, 15, 7, 0, 0, 0, 0, 0, 0, 0, 0, 0, 0, 0, 0, 0, 0, 0,
-        ],
-    );
-    is_written_so(
-        &rt,
-        &by_rank(2, Event::Revoke { comm: 255 }),
-        [
-            6, 1, 2, 0, 255, 0, 0, 0, 0, 0, 0, 0, 0, 0, 0, 0, 0, 0, 0, 0, 0, 0, 0, 0,
-        ],
-    );
-    let spawn = Event::Spawn {
-        comm: 2,
-        parent: 1,
-        round: 3,
-    };
-    is_written_so(
-        &rt,
-        &by_rank(4, spawn),
-        [
-            7, 1, 4, 0, 2, 0, 3, 0, 1, 0, 0, 0, 0, 0, 0, 0, 0, 0, 0, 0, 0, 0, 0, 0,
-        ],
-    );
+    let flag = Offer::Flag(FlagAnd {
+        bits: 0x0102_0304_0506_0708,
+    });
+    let ids = Offer::Ctx(CtxMask {
+        bits: 0xff00_0000_0000_0001,
+    });
+    let rows: [(Entry<FlagAnd>, Bytes); 7] = [
+        (
+            failure(258),
+            [
+                1, 0, 0, 0, 0, 0, 0, 0, 2, 1, 0, 0, 0, 0, 0, 0, 0, 0, 0, 0, 0, 0, 0, 0,
+            ],
+        ),
+        (
+            by_rank(513, settle((3, 1027, 513), flag, 1024, 260)),
+            [
+                2, 1, 1, 2, 3, 0, 3, 4, 1, 2, 0, 4, 4, 1, 0, 0, 8, 7, 6, 5, 4, 3, 2, 1,
+            ],
+        ),
+        (
+            by_rank(1, settle((0, 0, 1), ids, 0, 0)),
+            [
+                3, 1, 1, 0, 0, 0, 0, 0, 1, 0, 0, 0, 0, 0, 0, 0, 1, 0, 0, 0, 0, 0, 0, 255,
+            ],
+        ),
+        (
+            by_rank(0, mark((1, 2, 5), 257)),
+            [
+                4, 1, 0, 0, 1, 0, 2, 0, 5, 0, 1, 1, 0, 0, 0, 0, 0, 0, 0, 0, 0, 0, 0, 0,
+            ],
+        ),
+        (
+            by_rank(7, arrive(0, 4095, 7)),
+            [
+                5, 1, 7, 0, 0, 0, 255, 15, 7, 0, 0, 0, 0, 0, 0, 0, 0, 0, 0, 0, 0, 0, 0, 0,
+            ],
+        ),
+        (
+            by_rank(2, Event::Revoke { comm: 255 }),
+            [
+                6, 1, 2, 0, 255, 0, 0, 0, 0, 0, 0, 0, 0, 0, 0, 0, 0, 0, 0, 0, 0, 0, 0, 0,
+            ],
+        ),
+        (
+            by_rank(4, spawn(2, 1, 3)),
+            [
+                7, 1, 4, 0, 2, 0, 3, 0, 1, 0, 0, 0, 0, 0, 0, 0, 0, 0, 0, 0, 0, 0, 0, 0,
+            ],
+        ),
+    ];
+    for (entry, bytes) in rows {
+        assert!(rt; bytes_of(&entry) == bytes);
+        assert!(rt; entry_of(&bytes) == Some(entry));
+    }
 }
 
 #[test]
@@ -166,19 +168,11 @@ fn other_bytes_are_no_entrys(rt: HostRuntime) {
     }
 }
 
+/// What a rank offers in the world's first round, as context ids.
 fn offers(rank: u16, bits: u64) -> Entry<FlagAnd> {
     by_rank(
         rank,
-        Event::Settle {
-            comm: 0,
-            round: 0,
-            rank,
-            given: Contribution {
-                offer: Offer::Ctx(CtxMask { bits }),
-                known: Known { count: 0 },
-                acked: Acked { count: 0 },
-            },
-        },
+        settle((0, 0, rank), Offer::Ctx(CtxMask { bits }), 0, 0),
     )
 }
 
@@ -195,37 +189,10 @@ fn feed_all(rt: &impl Abort, alloc: Global) -> Result<(), Fail> {
     };
     let mut pass: PlainPass<FlagAnd> = PlainPass::new(alloc, limits)?;
     let mut numbers: Numbers<FlagAnd, Global> = Numbers::new(alloc, limits.ranks)?;
-    let failure = Entry {
-        by: Caller::Outside,
-        event: Event::Fail { rank: 2 },
-    };
-    let mark = by_rank(
-        0,
-        Event::Mark {
-            comm: 0,
-            round: 0,
-            rank: 2,
-            known: MarkCount {
-                known: Known { count: 1 },
-            },
-        },
-    );
-    let spawn = by_rank(
-        1,
-        Event::Spawn {
-            comm: 1,
-            parent: 0,
-            round: 0,
-        },
-    );
-    let arrival = by_rank(
-        1,
-        Event::Arrive {
-            comm: 1,
-            round: 1,
-            rank: 1,
-        },
-    );
+    let failure = failure(2);
+    let mark = by_rank(0, mark((0, 0, 2), 1));
+    let spawn = by_rank(1, spawn(1, 0, 0));
+    let arrival = by_rank(1, arrive(1, 1, 1));
     let revocation = by_rank(0, Event::Revoke { comm: 1 });
     let log = [
         (offers(0, 0xff00_0000_0000_0006), true),

@@ -3,8 +3,8 @@ use crate::tests::reasons::{TAKEN_PLACES, TWO_RANKS};
 use crate::tests::second_check::plain_check;
 use crate::tests::tested::check;
 use crate::tests::traces::{
-    CONTRIBUTION_IN_FLIGHT, DECISION_OF_NOBODY, LATE_ARRIVAL, MARK_COMES_FIRST, MARK_ENDS,
-    REVOKED_BETWEEN_LOADS, SHRINK, spliced, text_of,
+    CONTRIBUTION_IN_FLIGHT, DECISION_OF_NOBODY, LATE_ARRIVAL, REVOKED_BETWEEN_LOADS, SHRINK,
+    mark_comes_first, text_of,
 };
 use crate::tests::variations::{Change, changed};
 use std::test::Fail;
@@ -22,7 +22,7 @@ const CHANGES: [Change; 5] = [
 fn trace(rt: &HostRuntime, number: usize) -> Result<Vec<u8>, Fail> {
     let text = match number {
         0 => text_of(rt.alloc(), &CONTRIBUTION_IN_FLIGHT)?,
-        1 => spliced(rt.alloc(), &MARK_COMES_FIRST, 21, &[MARK_ENDS], 21)?,
+        1 => mark_comes_first(rt.alloc())?,
         2 => text_of(rt.alloc(), &DECISION_OF_NOBODY)?,
         3 => text_of(rt.alloc(), &REVOKED_BETWEEN_LOADS)?,
         4 => text_of(rt.alloc(), &LATE_ARRIVAL)?,

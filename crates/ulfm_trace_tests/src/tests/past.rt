@@ -34,39 +34,33 @@ pub(crate) fn those<A: Allocator>(
     Ok(some)
 }
 
-/// The place of an agreement round that an event settles.
-pub(crate) fn place_of(event: Event<FlagAnd>) -> Option<(u16, u16, u16)> {
-    match event {
+/// The place of an agreement round that an event settles, and what stands there from then on.
+pub(crate) fn settled(event: Event<FlagAnd>) -> Option<((u16, u16, u16), Slot<FlagAnd>)> {
+    let settled = match event {
         Event::Settle {
             comm,
             round,
             rank,
-            ..
-        } => Some((comm, round, rank)),
+            given,
+        } => ((comm, round, rank), Slot::Given(given)),
         Event::Mark {
             comm,
             round,
             rank,
-            ..
-        } => Some((comm, round, rank)),
-        _ => None,
-    }
-}
-
-/// What an event settles at its place of an agreement round.
-pub(crate) fn slot_of(event: Event<FlagAnd>) -> Option<Slot<FlagAnd>> {
-    match event {
-        Event::Settle { given, .. } => Some(Slot::Given(given)),
-        Event::Mark { known, .. } => Some(Slot::Mark(known)),
-        _ => None,
-    }
+            known,
+        } => ((comm, round, rank), Slot::Mark(known)),
+        _ => return None,
+    };
+    Some(settled)
 }
 
 /// What was settled at a place of an agreement round.
 pub(crate) fn slot_at(past: &[Entry<FlagAnd>], place: (u16, u16, u16)) -> Option<Slot<FlagAnd>> {
     for entry in past {
-        if place_of(entry.event) == Some(place) {
-            return slot_of(entry.event);
+        if let Some((at, slot)) = settled(entry.event) {
+            if at == place {
+                return Some(slot);
+            }
         }
     }
     None

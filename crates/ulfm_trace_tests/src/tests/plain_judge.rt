@@ -4,8 +4,7 @@ ghost use Rattle.std.specs.Prelude.{◌<◌, length, IfSome};
 use crate::tests::answers::{Asking, is_answer, is_fail_answer};
 use crate::tests::holder::{Holder, caller_of, may_own};
 use crate::tests::past::{
-    Comm, comm_at, decided, failures, first, has_arrived, is_revoked, made_of, place_of, slot_at,
-    slot_of,
+    Comm, comm_at, decided, failures, first, has_arrived, is_revoked, made_of, settled, slot_at,
 };
 use std::alloc::{AllocError, Allocator};
 use ulfm_laws::FlagAnd;
@@ -125,16 +124,16 @@ impl<A: Allocator + Copy> PlainJudge<A> {
 
     /// Whether an event may come next, in anybody's name.
     fn may_follow(&self, event: Event<FlagAnd>) -> Result<bool, AllocError> {
-        match (place_of(event), slot_of(event)) {
-            (Some(place), Some(Slot::Given(given))) => {
+        match settled(event) {
+            Some((place, Slot::Given(given))) => {
                 let of = self.comm(place.0)?;
                 let known = usize::from(given.known.count) <= of.failed.len();
                 Ok(known && self.is_open(&of, place))
             }
-            (Some(place), Some(Slot::Mark(mark))) => {
+            Some((place, Slot::Mark(mark))) => {
                 self.may_mark(place, usize::from(mark.known.count))
             }
-            _ => self.may_come(event),
+            None => self.may_come(event),
         }
     }
 

@@ -10,6 +10,159 @@ use ulfm_model::Why;
 /// The header of the world that the bad traces are of.
 const HEADER: &str = "ulfm-trace 1 2 1 2";
 
+/// Last lines that aren't of the grammar.
+const NO_LINE: [&[&str]; 26] = [
+    &[""],
+    &["ulfm-trace 1 2 1 2"],
+    &["look 0 0 "],
+    &[" look 0 0"],
+    &["look  0 0"],
+    &["look 0 0\r"],
+    &["look 00 0"],
+    &["look 1024 0"],
+    &["look - 0"],
+    &["call"],
+    &["call fail 1024"],
+    &["call get 0 256"],
+    &["call agree 0 0 0000000F"],
+    &["call agree 0 0 00000000f"],
+    &["event - fail"],
+    &["event 0 settle 0 0 0 flag 0000000f known 0"],
+    &["event 0 settle 0 0 0 mask fffffffffffffffe known 0 acked 0"],
+    &["event 0 settle 0 0 0 flag 000000000000000f known 0 acked 0"],
+    &["event 0 settle 0 0 0 ctx 00000000fffffffe known 0 acked 0"],
+    &["event 0 mark 256 0 0 known 1"],
+    &["reply 0 10000000 started"],
+    &["reply 0 0 failed"],
+    &["reply 0 0 agreed 000000000000000f failed 0 clean"],
+    &["reply 0 0 shrunk 1 context 1 members"],
+    &["reply 0 0 refused 1 busy"],
+    &[
+        "call get 0 0",
+        "look 0 0",
+        "reply 0 0 refused 14 out-of-memory",
+    ],
+];
+
+/// Calls of who has one open, and lines of who has none.
+const NO_CALL: [&[&str]; 6] = [
+    &["call get 0 0", "call get 0 0"],
+    &["call fail 0", "call fail 1"],
+    &["look 0 0"],
+    &["reply 0 0 started"],
+    &["reply - 0 declared"],
+    &["call get 0 0", "reply 1 0 shrunk 1 context 300 members 0"],
+];
+
+/// Looks that find too much, come twice or aren't due.
+const NO_LOOK: [&[&str]; 4] = [
+    &["call get 0 0", "look 0 1"],
+    &["call get 0 0", "look 0 0", "look 0 0"],
+    &["call get 5 0", "look 5 0"],
+    &[
+        "event - fail 0",
+        "call get 0 0",
+        "look 0 1",
+        "reply 0 1 refused 1 self-failed",
+        "call get 0 0",
+        "look 0 1",
+    ],
+];
+
+/// Events that can't come next.
+const NO_EVENT: [&[&str]; 17] = [
+    &["event - fail 2"],
+    &["event - fail 0", "event - fail 0"],
+    &["event 0 fail 5"],
+    &["event - settle 1 0 0 flag 00000001 known 0 acked 0"],
+    &["event - settle 0 2 0 flag 00000001 known 0 acked 0"],
+    &["event - settle 0 0 2 flag 00000001 known 0 acked 0"],
+    &["event - settle 0 0 0 flag 00000001 known 1 acked 0"],
+    &["event - settle 0 0 0 flag 00000001 known 0 acked 1"],
+    &["event - fail 0", "event - mark 0 0 0 known 0"],
+    &["event - mark 0 0 0 known 1"],
+    &["event - mark 0 0 0 known 1025"],
+    &["event - arrive 0 0 0", "event - arrive 0 0 0"],
+    &["event - arrive 0 2 0"],
+    &["event - revoke 0", "event - revoke 0"],
+    &["event - revoke 1"],
+    &["event - spawn 1 0 0"],
+    &["event 0 settle 0 0 0 flag 00000001 known 2000 acked 0"],
+];
+
+/// Events that their caller may not add.
+const NOT_OWN: [&[&str]; 9] = [
+    &["event 0 revoke 0"],
+    &["call revoke 0 0", "event 0 revoke 0"],
+    &["call get 0 0", "look 0 0", "event 0 revoke 0"],
+    &["call agree 0 0 00000001", "look 0 0", "event 0 fail 1"],
+    &[
+        "call agree 0 0 00000001",
+        "look 0 0",
+        "event 0 arrive 0 0 0",
+    ],
+    &["call barrier 0 0", "look 0 0", "event 0 arrive 0 1 0"],
+    &["call agree 5 0 00000001", "event 5 revoke 0"],
+    &[
+        "event - fail 0",
+        "call revoke 0 0",
+        "look 0 1",
+        "event 0 revoke 0",
+    ],
+    &[
+        "call poll 0 0",
+        "look 0 0",
+        "event - fail 1",
+        "event 0 mark 0 0 1 known 1",
+    ],
+];
+
+/// Replies that don't answer.
+const NO_REPLY: [&[&str]; 14] = [
+    &["call get 0 0", "reply 0 0 failed none"],
+    &["call get 0 0", "look 0 0", "reply 0 1 failed none"],
+    &[
+        "event - fail 1",
+        "call get 0 0",
+        "look 0 1",
+        "reply 0 0 failed none",
+    ],
+    &[
+        "event - fail 1",
+        "call get 0 0",
+        "look 0 1",
+        "reply 0 1 failed none",
+    ],
+    &[
+        "event - fail 1",
+        "call get 0 0",
+        "look 0 1",
+        "reply 0 1 failed 0",
+    ],
+    &[
+        "call get 0 0",
+        "look 0 0",
+        "event - fail 1",
+        "reply 0 1 failed 1",
+    ],
+    &["call get 0 0", "look 0 0", "reply 0 0 freed"],
+    &["call ack 0 0 1", "look 0 0", "reply 0 0 acked 1"],
+    &["call agree 0 0 00000001", "look 0 0", "reply 0 0 started"],
+    &["call poll 0 0", "look 0 0", "reply 0 0 pending"],
+    &[
+        "call get 0 0",
+        "look 0 0",
+        "reply 0 0 shrunk 1 context 300 members 0",
+    ],
+    &[
+        "call get 0 0",
+        "look 0 0",
+        "reply 0 0 refused 1 self-failed",
+    ],
+    &["call get 5 0", "reply 5 0 refused 2 no-such-comm"],
+    &["call fail 0", "reply - 0 declared"],
+];
+
 /// Each of some traces is legal up to its last line, and bad there for this reason.
 fn are_wrong<R: AllocGlobal + Abort>(rt: &R, why: Why, traces: &[&[&str]]) -> Result<(), Fail> {
     for (index, lines) in traces.iter().enumerate() {
@@ -50,41 +203,15 @@ fn no_header(rt: HostRuntime) -> Result<(), Fail> {
     Ok(())
 }
 
+/// Each trace is bad at its last line, for its table's reason.
 #[test]
-fn not_of_the_grammar(rt: HostRuntime) -> Result<(), Fail> {
-    let traces: [&[&str]; 26] = [
-        &[""],
-        &["ulfm-trace 1 2 1 2"],
-        &["look 0 0 "],
-        &[" look 0 0"],
-        &["look  0 0"],
-        &["look 0 0\r"],
-        &["look 00 0"],
-        &["look 1024 0"],
-        &["look - 0"],
-        &["call"],
-        &["call fail 1024"],
-        &["call get 0 256"],
-        &["call agree 0 0 0000000F"],
-        &["call agree 0 0 00000000f"],
-        &["event - fail"],
-        &["event 0 settle 0 0 0 flag 0000000f known 0"],
-        &["event 0 settle 0 0 0 mask fffffffffffffffe known 0 acked 0"],
-        &["event 0 settle 0 0 0 flag 000000000000000f known 0 acked 0"],
-        &["event 0 settle 0 0 0 ctx 00000000fffffffe known 0 acked 0"],
-        &["event 0 mark 256 0 0 known 1"],
-        &["reply 0 10000000 started"],
-        &["reply 0 0 failed"],
-        &["reply 0 0 agreed 000000000000000f failed 0 clean"],
-        &["reply 0 0 shrunk 1 context 1 members"],
-        &["reply 0 0 refused 1 busy"],
-        &[
-            "call get 0 0",
-            "look 0 0",
-            "reply 0 0 refused 14 out-of-memory",
-        ],
-    ];
-    are_wrong(&rt, Why::Text, &traces)
+fn bad_last_lines(rt: HostRuntime) -> Result<(), Fail> {
+    are_wrong(&rt, Why::Text, &NO_LINE)?;
+    are_wrong(&rt, Why::Call, &NO_CALL)?;
+    are_wrong(&rt, Why::Look, &NO_LOOK)?;
+    are_wrong(&rt, Why::Event, &NO_EVENT)?;
+    are_wrong(&rt, Why::Own, &NOT_OWN)?;
+    are_wrong(&rt, Why::Reply, &NO_REPLY)
 }
 
 /// A line of twenty thousand bytes, and one whose first 8192 bytes would be a line.
@@ -100,132 +227,6 @@ fn long_lines(rt: HostRuntime) -> Result<(), Fail> {
         assert_eq!(rt; check(&rt, &text), illegal(3, Why::Text));
     }
     Ok(())
-}
-
-#[test]
-fn bad_calls_and_looks(rt: HostRuntime) -> Result<(), Fail> {
-    let calls: [&[&str]; 6] = [
-        &["call get 0 0", "call get 0 0"],
-        &["call fail 0", "call fail 1"],
-        &["look 0 0"],
-        &["reply 0 0 started"],
-        &["reply - 0 declared"],
-        &["call get 0 0", "reply 1 0 shrunk 1 context 300 members 0"],
-    ];
-    are_wrong(&rt, Why::Call, &calls)?;
-    let looks: [&[&str]; 4] = [
-        &["call get 0 0", "look 0 1"],
-        &["call get 0 0", "look 0 0", "look 0 0"],
-        &["call get 5 0", "look 5 0"],
-        &[
-            "event - fail 0",
-            "call get 0 0",
-            "look 0 1",
-            "reply 0 1 refused 1 self-failed",
-            "call get 0 0",
-            "look 0 1",
-        ],
-    ];
-    are_wrong(&rt, Why::Look, &looks)
-}
-
-#[test]
-fn bad_events(rt: HostRuntime) -> Result<(), Fail> {
-    let events: [&[&str]; 17] = [
-        &["event - fail 2"],
-        &["event - fail 0", "event - fail 0"],
-        &["event 0 fail 5"],
-        &["event - settle 1 0 0 flag 00000001 known 0 acked 0"],
-        &["event - settle 0 2 0 flag 00000001 known 0 acked 0"],
-        &["event - settle 0 0 2 flag 00000001 known 0 acked 0"],
-        &["event - settle 0 0 0 flag 00000001 known 1 acked 0"],
-        &["event - settle 0 0 0 flag 00000001 known 0 acked 1"],
-        &["event - fail 0", "event - mark 0 0 0 known 0"],
-        &["event - mark 0 0 0 known 1"],
-        &["event - mark 0 0 0 known 1025"],
-        &["event - arrive 0 0 0", "event - arrive 0 0 0"],
-        &["event - arrive 0 2 0"],
-        &["event - revoke 0", "event - revoke 0"],
-        &["event - revoke 1"],
-        &["event - spawn 1 0 0"],
-        &["event 0 settle 0 0 0 flag 00000001 known 2000 acked 0"],
-    ];
-    are_wrong(&rt, Why::Event, &events)?;
-    let own: [&[&str]; 9] = [
-        &["event 0 revoke 0"],
-        &["call revoke 0 0", "event 0 revoke 0"],
-        &["call get 0 0", "look 0 0", "event 0 revoke 0"],
-        &["call agree 0 0 00000001", "look 0 0", "event 0 fail 1"],
-        &[
-            "call agree 0 0 00000001",
-            "look 0 0",
-            "event 0 arrive 0 0 0",
-        ],
-        &["call barrier 0 0", "look 0 0", "event 0 arrive 0 1 0"],
-        &["call agree 5 0 00000001", "event 5 revoke 0"],
-        &[
-            "event - fail 0",
-            "call revoke 0 0",
-            "look 0 1",
-            "event 0 revoke 0",
-        ],
-        &[
-            "call poll 0 0",
-            "look 0 0",
-            "event - fail 1",
-            "event 0 mark 0 0 1 known 1",
-        ],
-    ];
-    are_wrong(&rt, Why::Own, &own)
-}
-
-#[test]
-fn bad_replies(rt: HostRuntime) -> Result<(), Fail> {
-    let replies: [&[&str]; 14] = [
-        &["call get 0 0", "reply 0 0 failed none"],
-        &["call get 0 0", "look 0 0", "reply 0 1 failed none"],
-        &[
-            "event - fail 1",
-            "call get 0 0",
-            "look 0 1",
-            "reply 0 0 failed none",
-        ],
-        &[
-            "event - fail 1",
-            "call get 0 0",
-            "look 0 1",
-            "reply 0 1 failed none",
-        ],
-        &[
-            "event - fail 1",
-            "call get 0 0",
-            "look 0 1",
-            "reply 0 1 failed 0",
-        ],
-        &[
-            "call get 0 0",
-            "look 0 0",
-            "event - fail 1",
-            "reply 0 1 failed 1",
-        ],
-        &["call get 0 0", "look 0 0", "reply 0 0 freed"],
-        &["call ack 0 0 1", "look 0 0", "reply 0 0 acked 1"],
-        &["call agree 0 0 00000001", "look 0 0", "reply 0 0 started"],
-        &["call poll 0 0", "look 0 0", "reply 0 0 pending"],
-        &[
-            "call get 0 0",
-            "look 0 0",
-            "reply 0 0 shrunk 1 context 300 members 0",
-        ],
-        &[
-            "call get 0 0",
-            "look 0 0",
-            "reply 0 0 refused 1 self-failed",
-        ],
-        &["call get 5 0", "reply 5 0 refused 2 no-such-comm"],
-        &["call fail 0", "reply - 0 declared"],
-    ];
-    are_wrong(&rt, Why::Reply, &replies)
 }
 
 /// Two ranks, one more communicator, two rounds: refusals, an agree, a revocation, two shrinks, and ranks that are declared.

@@ -1,8 +1,8 @@
 //! Traces that were worked out by hand, and what changes of them give.
 use crate::tests::tested::{check, is_legal};
 use crate::tests::traces::{
-    CONTRIBUTION_IN_FLIGHT, DECISION_OF_NOBODY, LATE_ARRIVAL, MARK_COMES_FIRST, MARK_ENDS,
-    MARKS_ALONE, REVOKED_BETWEEN_LOADS, SHRINK, SIXTEEN_DIGITS, THIRTY_TWO_IDS, spliced, text_of,
+    CONTRIBUTION_IN_FLIGHT, DECISION_OF_NOBODY, LATE_ARRIVAL, MARKS_ALONE, REVOKED_BETWEEN_LOADS,
+    SHRINK, SIXTEEN_DIGITS, THIRTY_TWO_IDS, mark_comes_first, spliced, text_of,
 };
 use std::alloc::AllocError;
 use std::test::Fail;
@@ -37,10 +37,7 @@ fn traces_of_steps_are_legal(rt: HostRuntime) -> Result<(), Fail> {
     for lines in all {
         is_legal(&rt, &text_of(rt.alloc(), lines)?)?;
     }
-    is_legal(
-        &rt,
-        &spliced(rt.alloc(), &MARK_COMES_FIRST, 21, &[MARK_ENDS], 21)?,
-    )
+    is_legal(&rt, &mark_comes_first(rt.alloc())?)
 }
 
 /// A shrink offers all 64 context ids that its rank doesn't hold.

@@ -27,14 +27,8 @@ pub(crate) const CONTRIBUTION_IN_FLIGHT: [&str; 22] = [
     "reply 2 4 refused 1 self-failed",
 ];
 
-/// The declared rank is left out before it contributes.
-pub(crate) const MARK_COMES_FIRST: [&str; 21] = [
-    "ulfm-trace 1 3 2 4",
-    "call agree 2 0 00000005",
-    "look 2 0",
-    "call fail 2",
-    "event - fail 2",
-    "reply - 1 declared",
+/// The declared rank is left out before it contributes: what comes behind the first six lines of [`CONTRIBUTION_IN_FLIGHT`].
+const MARK_COMES_FIRST: [&str; 16] = [
     "call agree 0 0 0000000f",
     "look 0 1",
     "event 0 settle 0 0 0 flag 0000000f known 1 acked 0",
@@ -50,10 +44,8 @@ pub(crate) const MARK_COMES_FIRST: [&str; 21] = [
     "reply 1 4 started",
     "call poll 1 0",
     "look 1 1",
+    "reply 1 4 agreed 00000007 failed 1 raised",
 ];
-
-/// The last line of [`MARK_COMES_FIRST`].
-pub(crate) const MARK_ENDS: &str = "reply 1 4 agreed 00000007 failed 1 raised";
 
 /// All ranks are declared, with one contribution in flight.
 pub(crate) const DECISION_OF_NOBODY: [&str; 17] = [
@@ -195,7 +187,12 @@ pub(crate) fn text_of(alloc: Global, lines: &[&str]) -> Result<Vec<u8>, AllocErr
     Ok(text)
 }
 
-/// The first so many lines, then one more, and then the lines from a place on.
+/// The whole trace in which the declared rank is left out.
+pub(crate) fn mark_comes_first(alloc: Global) -> Result<Vec<u8>, AllocError> {
+    spliced(alloc, &CONTRIBUTION_IN_FLIGHT, 6, &MARK_COMES_FIRST, 22)
+}
+
+/// The first so many lines, then others, and then the lines from a place on.
 pub(crate) fn spliced(
     alloc: Global,
     lines: &[&str],
