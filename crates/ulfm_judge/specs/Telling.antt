@@ -10,7 +10,8 @@ use Rattle.ulfm_judge.specs.declared.calls.OpenCall.{OpenCall}
 use Rattle.ulfm_judge.specs.Kept.{AreCalls, MayLeave, traced_of}
 
 -- what is kept goes on to a state that passes: there is a history that the tables tell, and what is said with it does
-abbrev pub TellsSome : {P A W : Type 0} {g : _} {k : _} → Limits → Numbers P A g k → List (RankRecord A) → List (OpenCall P A) → (Traced P → W → Type 0) → W → Type 0
+abbrev pub TellsSome : {P A W : Type 0} {g : _} {k : _}
+    → Limits → Numbers P A g k → List (RankRecord A) → List (OpenCall P A) → (Traced P → W → Type 0) → W → Type 0
 TellsSome {P} limits numbers records calls Taken why =
     (h : History P) × (us : List (Under P)) × TablesTell limits.ranks numbers h × AreCalls calls us × Taken (traced_of limits h records us) why
 
