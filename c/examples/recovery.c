@@ -4,11 +4,7 @@
  * waits for the ends of threads, declares it. That agree raises an error at all three alike. They ask who has failed, acknowledge it,
  * and agree again, without an error. They revoke the communicator, shrink it, go on with the new one, and give that back. What is
  * printed is the same however the threads are scheduled. */
-#include "ulfm.h"
-
-#include <pthread.h>
-#include <stdio.h>
-#include <stdlib.h>
+#include "ranks.h"
 
 enum { RANKS = 4, DIES = 3 };
 
@@ -21,17 +17,7 @@ struct seen {
     bool is_revoked;
 };
 
-/* A rank with its thread, which alone calls by its handle until it is joined. */
-struct rank {
-    ulfm_handle *handle;
-    pthread_t thread;
-    uint16_t number;
-    bool is_done; /* all its work; written by its thread, read once that is joined */
-    struct seen seen;
-};
-
-static struct rank ranks[RANKS];
-static ulfm_handle outside = ULFM_HANDLE_NULL;
+static struct seen seen_by[RANKS];
 
 /* The four lowest bits without that of its number. */
 static ulfm_flag flag_of(const struct rank *rank)
@@ -48,7 +34,7 @@ static int agree(struct rank *rank, uint16_t comm, ulfm_flag *flag)
 /* From the agree that meets the failure to the new communicator. Whether to go on is decided by agrees, and by nothing else. */
 static void recover(struct rank *rank)
 {
-    struct seen *seen = &rank->seen;
+    struct seen *seen = &seen_by[rank->number];
     seen->met_code = agree(rank, ULFM_COMM_WORLD, &seen->met);
     seen->failed_code = ulfm_get_failed(rank->handle, ULFM_COMM_WORLD, seen->failed, RANKS, &seen->failed_count);
     seen->ack_code = ulfm_ack_failed(rank->handle, ULFM_COMM_WORLD, (uint16_t)seen->failed_count, &seen->acknowledged);
@@ -62,7 +48,7 @@ static void recover(struct rank *rank)
 
 static void go_on(struct rank *rank)
 {
-    struct seen *seen = &rank->seen;
+    struct seen *seen = &seen_by[rank->number];
     seen->barrier_code = ulfm_barrier(rank->handle, seen->comm);
     seen->last_code = agree(rank, seen->comm, &seen->last);
     seen->free_code = ulfm_free(rank->handle, seen->comm);
@@ -71,26 +57,13 @@ static void go_on(struct rank *rank)
 static void *work(void *argument)
 {
     struct rank *rank = argument;
-    rank->seen.first_code = agree(rank, ULFM_COMM_WORLD, &rank->seen.first);
+    struct seen *seen = &seen_by[rank->number];
+    seen->first_code = agree(rank, ULFM_COMM_WORLD, &seen->first);
     if (rank->number == DIES)
         return NULL;
     recover(rank);
     go_on(rank);
     rank->is_done = true;
-    return NULL;
-}
-
-/* Waits for the thread of each rank in turn, rank 3's first, and declares those whose work isn't done. (A detector that waits for
- * whoever ends first would look at all of them again and again.) */
-static void *detect(void *unused)
-{
-    (void)unused;
-    for (int at = RANKS - 1; at >= 0; at--) {
-        bool is_first;
-        pthread_join(ranks[at].thread, NULL);
-        if (!ranks[at].is_done && ulfm_fail(&outside, ranks[at].number, &is_first) != ULFM_SUCCESS)
-            abort();
-    }
     return NULL;
 }
 
@@ -101,7 +74,7 @@ static void print(const char *what, int code)
 
 static void report(const struct rank *rank)
 {
-    const struct seen *seen = &rank->seen;
+    const struct seen *seen = &seen_by[rank->number];
     printf("rank %u\n", rank->number);
     printf("  agreed %x; %x; %x; %x\n", (unsigned)seen->first, (unsigned)seen->met, (unsigned)seen->settled, (unsigned)seen->last);
     print("the first agree", seen->first_code);
@@ -120,26 +93,11 @@ static void report(const struct rank *rank)
 
 int main(void)
 {
-    static ulfm_handle handles[RANKS]; /* null, all of them */
     /* one communicator to be made; rounds for three agrees and a shrink */
-    int code = ulfm_open(RANKS, 2, 4, &outside, handles, RANKS);
-    if (code != ULFM_SUCCESS)
-        return fprintf(stderr, "open: %s\n", ulfm_strerror(code)), 1;
-    for (uint16_t at = 0; at < RANKS; at++) {
-        ranks[at].number = at;
-        ranks[at].handle = &handles[at];
-    }
-    for (int at = 0; at < RANKS; at++)
-        if (pthread_create(&ranks[at].thread, NULL, work, &ranks[at]) != 0)
-            abort();
-    pthread_t detector;
-    if (pthread_create(&detector, NULL, detect, NULL) != 0)
-        abort();
-    pthread_join(detector, NULL);
+    if (run_ranks(RANKS, 2, 4, work) != ULFM_SUCCESS)
+        return 1;
     for (int at = 0; at < RANKS; at++)
         if (ranks[at].is_done)
             report(&ranks[at]);
-    for (int at = 0; at < RANKS; at++)
-        ulfm_close(ranks[at].handle);
-    return ulfm_close(&outside);
+    return close_ranks();
 }

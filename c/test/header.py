@@ -136,7 +136,7 @@ def main():
 
     # what pages and examples call is there: the exports, and the header's own functions in C
     there = set(prototypes) | set(re.findall(r"static inline \w+ (ulfm_\w+)\(", code))
-    examples = [f"c/examples/{it}" for it in ("first.c", "recovery.c", "loop.c", "processes.c", "store.c", "ulfm.rs")]
+    examples = [f"c/examples/{it}" for it in ("first.c", "ranks.h", "recovery.c", "loop.c", "processes.c", "store.c", "ulfm.rs")]
     drivers = [f"c/drivers/{it}" for it in sorted(os.listdir(os.path.join(C, "drivers")))]
     for page in ("docs/C.md", "docs/STORE.md", "c/ulfm.3", *examples, *drivers):
         same(f"calls of {page}", sorted(set(re.findall(r"\b(ulfm_\w+)\(", read(TOP, page))) - there), [])

@@ -1,7 +1,7 @@
 // Calls of ranks on threads, over words that they share. No function here may wait.
 ghost use Rattle.std.specs.Prelude.{◌≡◌};
 
-use crate::tests::member::{Member, Members, Outside, declare_all, failed_group, open};
+use crate::tests::member::{Member, Members, Outside, declare_all, failed_group, often, open};
 use std::alloc::{AllocError, Global};
 use std::process::Abort;
 use std::test::Fail;
@@ -154,10 +154,7 @@ fn spawn_once<R: Threads + Sync + Abort>(rt: &R, alloc: Global) -> Result<(), Fa
 
 #[test]
 fn one_spawn(rt: HostRuntime) -> Result<(), Fail> {
-    for _ in 0..16 {
-        spawn_once(&rt, rt.alloc())?;
-    }
-    Ok(())
+    often(&|| spawn_once(&rt, rt.alloc()))
 }
 
 #[test]

@@ -3,6 +3,7 @@ ghost use Rattle.std.specs.Prelude.{◌≡◌, IfOk};
 ghost use Rattle.std.specs.List.{AllByRecursion};
 
 use std::alloc::Global;
+use std::test::Fail;
 use ulfm_book::BookWords;
 use ulfm_laws::{FlagAnd, Packed};
 use ulfm_model::{Limits, OpenFault, Refusal};
@@ -31,6 +32,16 @@ pub(crate) fn open<P: Packed>(
     let words = BookWords::open(alloc, limits)?;
     let (outside, members) = ulfm_wait::open(alloc, words)?;
     Ok((outside, members))
+}
+
+/// Plays a scene sixteen times, since its threads may come in another order each time.
+pub(crate) fn often<F: Fn() -> Result<(), Fail>>(scene: &F) -> Result<(), Fail>
+    requires { F.IsAlwaysCallable scene.now }
+{
+    for _ in 0..16 {
+        scene()?;
+    }
+    Ok(())
 }
 
 /// The failed group of all ranks.

@@ -2,7 +2,7 @@
 ghost use Rattle.std.specs.Prelude.{◌≡◌, IfOk};
 ghost use Rattle.std.specs.List.{AllByRecursion};
 
-use crate::tests::member::{Member, Members, Outside, open};
+use crate::tests::member::{Member, Members, Outside, often, open};
 use std::alloc::{AllocError, Global};
 use std::cmp::Ordering;
 use std::process::Abort;
@@ -136,8 +136,5 @@ fn revoke_while_polled<R: Threads + Sync + Abort>(rt: &R, alloc: Global) -> Resu
 
 #[test]
 fn revoked_while_polled(rt: HostRuntime) -> Result<(), Fail> {
-    for _ in 0..16 {
-        revoke_while_polled(&rt, rt.alloc())?;
-    }
-    Ok(())
+    often(&|| revoke_while_polled(&rt, rt.alloc()))
 }

@@ -57,9 +57,9 @@ pub(crate) fn settled(event: Event<FlagAnd>) -> Option<((u16, u16, u16), Slot<Fl
 /// What was settled at a place of an agreement round.
 pub(crate) fn slot_at(past: &[Entry<FlagAnd>], place: (u16, u16, u16)) -> Option<Slot<FlagAnd>> {
     for entry in past {
-        if let Some((at, slot)) = settled(entry.event) {
-            if at == place {
-                return Some(slot);
+        if let Some(found) = settled(entry.event) {
+            if found.0 == place {
+                return Some(found.1);
             }
         }
     }
