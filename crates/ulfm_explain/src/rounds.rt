@@ -31,6 +31,7 @@ pub(crate) fn note_matters<A: Allocator + Copy>(
 }
 
 /// The round of a communicator that a request is about, and the events that matter to it.
+#[derive(Drop)]
 struct AskedRound<'a> {
     /// How many ranks the world has.
     ranks: u16,

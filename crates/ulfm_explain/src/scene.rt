@@ -217,6 +217,7 @@ impl<A: Allocator + Copy> Scene<A> {
 }
 
 /// A line before a bad one.
+#[derive(Drop)]
 struct Told<'a> {
     /// Its number.
     number: u32,
