@@ -20,7 +20,7 @@ abbrev pub call_of : {P : Type 0} → Limits → AtPoint P → Record → CallAt
 call_of limits view old = record { limits = limits; caller = old; look = view.look; seen = seen_of limits.ranks view.history; own = view.own }
 
 -- and by the tables
-abbrev pub call_at : {P A : Type 0} {g : _} → Tabled P A g → CallAt P
+abbrev pub call_at : {P A : Type 0} {g : _} {k : _} → Tabled P A g k → CallAt P
 call_at view = record {
   limits = view.limits;
   caller = record_of view.limits view.caller.now;
