@@ -1,6 +1,10 @@
 -- What stands in a program of ranks, and what a rank does by itself between its calls.
 use Rattle.std.specs.Prelude.{ℕ, ◌+◌, min, Bool, false, if◌then◌else◌, List, [], length, Option, Some, None, option_and_then, option_map, slice_get, unwrap_or}
-use Rattle.ulfm_schedules.specs.declared.program.{May.{May}, Op.{Op}, Program.{Program}}
+use Rattle.ulfm_laws.specs.declared.flag_and.FlagAnd.{FlagAnd}
+use Rattle.ulfm_model.specs.declared.call.Call.{Call}
+use Rattle.ulfm_model.specs.declared.call.Call.TheVariants as call
+use Rattle.ulfm_schedules.specs.declared.program.{Ask.{Ask}, May.{May}, Op.{Op}, Program.{Program}}
+use Rattle.ulfm_schedules.specs.declared.program.Ask.TheVariants as ask
 use Rattle.ulfm_schedules.specs.declared.program.Op.TheVariants as op
 use Rattle.ulfm_schedules.specs.declared.program.May.TheVariants.{Stay}
 use Rattle.ulfm_schedules.specs.declared.moves.Move.{Move}
@@ -18,6 +22,23 @@ may_at program rank = unwrap_or (slice_get program.may.items rank) Stay
 -- the text of a number; an empty one where there is none
 abbrev pub text_at : {A : Type 0} → Program A → ℕ → List ℕ
 text_at program number = unwrap_or (option_map (λ text. text.items) (slice_get program.texts.items number)) []
+
+-- the call by which a rank asks for what it has begun
+abbrev pub poll_of : ℕ → ℕ → Call FlagAnd
+poll_of rank comm = call.Poll rank comm
+
+-- the call of a rank on a communicator that asks for this
+abbrev pub call_of : Ask → ℕ → ℕ → Call FlagAnd
+call_of ask.GetFailed rank comm = call.GetFailed rank comm
+call_of (ask.Ack count) rank comm = call.Ack rank comm count
+call_of (ask.Agree value) rank comm = call.Agree rank comm value
+call_of ask.Shrink rank comm = call.Shrink rank comm
+call_of ask.Barrier rank comm = call.Barrier rank comm
+call_of ask.Poll rank comm = poll_of rank comm
+call_of ask.Wait rank comm = poll_of rank comm
+call_of ask.Revoke rank comm = call.Revoke rank comm
+call_of ask.IsRevoked rank comm = call.IsRevoked rank comm
+call_of ask.Free rank comm = call.Free rank comm
 
 -- the place behind one
 abbrev pub next_of : ℕ → ℕ

@@ -103,9 +103,8 @@ pub(crate) fn take_act<A: Allocator + Copy + Drop>(
 
 /// Whether a barrier's reply is pending for good: somebody is missing who isn't declared, and nobody who is.
 fn barrier_waits<A: Allocator + Copy + Drop>(state: &State<A>, turn: Turn, round: u8) -> bool {
-    let comm = state.comm(turn.comm);
     let here = state.arrivals(turn.comm, round);
-    if comm.revoked || here == comm.members {
+    if state.is_revoked(turn.comm) || here == state.members(turn.comm) {
         return false;
     }
     let failed = failed_members(state, state.failures(), turn.comm);
@@ -114,7 +113,7 @@ fn barrier_waits<A: Allocator + Copy + Drop>(state: &State<A>, turn: Turn, round
 
 /// Whether the reply to an agree or a shrink is: a member's place is empty that isn't declared, and none of one that is.
 fn round_waits<A: Allocator + Copy + Drop>(state: &State<A>, turn: Turn, round: u8) -> bool {
-    let members = Few::of_set(state.comm(turn.comm).members);
+    let members = Few::of_set(state.members(turn.comm));
     let declared = state.declared_to(state.failures()).set();
     let mut waits = false;
     for place in 0..members.count() {
@@ -139,11 +138,14 @@ fn waits<A: Allocator + Copy + Drop>(engine: &Engine<A>, state: &State<A>, rank:
     if turn.ask != Ask::Wait || !idle || state.is_declared(rank) {
         return false;
     }
-    let held = state.held(rank, turn.comm);
-    match held.open {
+    if !state.holds(rank, turn.comm) {
+        return false;
+    }
+    let round = state.round(rank, turn.comm);
+    match state.open(rank, turn.comm) {
         Open::Nothing => false,
-        Open::Barrier => held.holds && barrier_waits(state, turn, held.round),
-        Open::Agree | Open::Shrink => held.holds && round_waits(state, turn, held.round),
+        Open::Barrier => barrier_waits(state, turn, round),
+        Open::Agree | Open::Shrink => round_waits(state, turn, round),
     }
 }
 

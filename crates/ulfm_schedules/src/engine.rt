@@ -4,7 +4,7 @@ use crate::few::{Few, has_bit, with_bit, without_bit};
 use crate::rounds::{
     Offer, Word, barrier_order, blocks_of, failed_members, member_of, silent, together,
 };
-use crate::state::{Comm, Open, Phase, Seat, State, fresh};
+use crate::state::{Open, Phase, Seat, State};
 use crate::{Ask, Fate, May, Move, Op, Place, Program, most_moves, move_at};
 use std::alloc::{AllocError, Allocator};
 use ulfm_laws::FlagAnd;
@@ -19,6 +19,13 @@ pub(crate) struct Turn {
     pub(crate) comm: u8,
     /// What it asks for.
     pub(crate) ask: Ask,
+}
+
+impl Turn {
+    /// The call, as a script has it.
+    pub(crate) fn call(self) -> Call<FlagAnd> {
+        self.ask.call(u16::from(self.rank), u16::from(self.comm))
+    }
 }
 
 /// What a call does behind a step.
@@ -108,7 +115,7 @@ impl<'a, A: Allocator + Copy + Drop> Engine<'a, A> {
 
     /// What the words of a round say together.
     fn decision(&self, state: &State<A>, comm: u8, round: u8) -> Word {
-        let members = Few::of_set(state.comm(comm).members);
+        let members = Few::of_set(state.members(comm));
         let mut word = silent();
         for place in 0..members.count() {
             if let Some(rank) = members.get(place) {
@@ -199,9 +206,7 @@ impl<'a, A: Allocator + Copy + Drop> Engine<'a, A> {
         };
         let mut seat = state.seat(rank);
         if seat.phase == Phase::Idle {
-            seat.phase = Phase::Look;
-            seat.at = 0;
-            seat.known = 0;
+            seat.begin(Phase::Look);
             state.put_seat(rank, seat);
         }
         let mut next = self.step_phase(state, turn)?;
@@ -226,27 +231,22 @@ impl<'a, A: Allocator + Copy + Drop> Engine<'a, A> {
             self.declare(state, whom);
             Reply::Declared
         };
-        if state.seat(rank).fate != Fate::Runs {
+        let mut seat = state.seat(rank);
+        if seat.fate != Fate::Runs {
             return Ok(());
         }
-        self.note_reply(state, rank, plain(reply))?;
+        self.take_in(rank, &mut seat, plain(reply))?;
+        state.put_seat(rank, seat);
         self.go_on(state, rank)
     }
 
-    /// A reply is the last one, and is noted, and the rank stands behind its operation.
-    fn note_reply(
-        &mut self,
-        state: &mut State<A>,
-        rank: u8,
-        answer: Answer,
-    ) -> Result<(), AllocError> {
-        let mut seat = state.seat(rank);
+    /// A reply is a rank's last one, and is noted where it isn't quiet, and the rank stands behind its operation.
+    fn take_in(&mut self, rank: u8, seat: &mut Seat, answer: Answer) -> Result<(), AllocError> {
         seat.last = self.answers.number(answer)?;
         if !self.is_quiet(rank, seat.place) {
             seat.notes = self.notes.add(seat.notes, Note::Reply(seat.last))?;
         }
         seat.place = seat.place.saturating_add(1);
-        state.put_seat(rank, seat);
         Ok(())
     }
 
@@ -258,20 +258,17 @@ impl<'a, A: Allocator + Copy + Drop> Engine<'a, A> {
         answer: Answer,
     ) -> Result<(), AllocError> {
         let mut seat = state.seat(turn.rank);
-        seat.phase = Phase::Idle;
-        seat.at = 0;
-        seat.known = 0;
+        seat.begin(Phase::Idle);
         if answer.reply == Reply::Pending && turn.ask == Ask::Wait {
             state.put_seat(turn.rank, seat);
             return Ok(());
         }
         if answer.reply == Reply::Started {
             seat.place = seat.place.saturating_add(1);
-            state.put_seat(turn.rank, seat);
-            return self.go_on(state, turn.rank);
+        } else {
+            self.take_in(turn.rank, &mut seat, answer)?;
         }
         state.put_seat(turn.rank, seat);
-        self.note_reply(state, turn.rank, answer)?;
         if answer.reply == Reply::Refused(Refusal::SelfFailed) {
             state.retire(turn.rank, Fate::Out);
             return Ok(());
@@ -306,20 +303,28 @@ impl<'a, A: Allocator + Copy + Drop> Engine<'a, A> {
     /// What a call does once its phase has come so far.
     fn settle(&mut self, state: &mut State<A>, turn: Turn) -> Next {
         let seat = state.seat(turn.rank);
+        if seat.at < places_of(state, turn, seat) {
+            return Next::Step;
+        }
         match seat.phase {
             Phase::Look => crate::looking::after_look(state, turn, seat),
             Phase::Block => self.after_blocks(state, turn, seat),
-            Phase::Mark => after_marks(state, turn, seat),
+            Phase::Mark => {
+                state.put_seat(turn.rank, Seat { at: 0, ..seat });
+                stand_before(state, turn, Phase::Slot)
+            }
             Phase::ReadOn => self.after_reading(state, turn, seat),
-            Phase::Comm => after_comms(state, turn, seat),
-            Phase::Arrival => after_arrivals(state, turn, seat),
+            Phase::Comm => after_comms(state, turn),
+            Phase::Arrival => {
+                state.put_seat(turn.rank, Seat { known: 0, ..seat });
+                stand_before(state, turn, Phase::Ending)
+            }
             _ => Next::Step,
         }
     }
 
     /// The word that a rank contributes.
     fn own_word(&self, state: &State<A>, turn: Turn) -> Word {
-        let held = state.held(turn.rank, turn.comm);
         let seen = state.seat(turn.rank).seen;
         let offer = match turn.ask {
             Ask::Agree(flag) => Offer::Flag(flag.bits),
@@ -328,13 +333,16 @@ impl<'a, A: Allocator + Copy + Drop> Engine<'a, A> {
         Word {
             offer,
             known: failed_members(state, seen, turn.comm).count(),
-            acked: held.acked,
+            acked: state.acked(turn.rank, turn.comm),
         }
     }
 
     fn step_settle(&mut self, state: &mut State<A>, turn: Turn) -> Result<Next, AllocError> {
-        let mut held = state.held(turn.rank, turn.comm);
-        let round = held.agrees;
+        let open = match turn.ask {
+            Ask::Agree(_) => Open::Agree,
+            _ => Open::Shrink,
+        };
+        let round = state.next_round(turn.rank, turn.comm, open);
         let taken = state.slot(turn.comm, round, turn.rank);
         if taken != 0 {
             let marked = self.word(taken).offer == Offer::Nothing;
@@ -346,19 +354,13 @@ impl<'a, A: Allocator + Copy + Drop> Engine<'a, A> {
         }
         let word = self.word_number(self.own_word(state, turn))?;
         state.set_slot(turn.comm, round, turn.rank, word);
-        held.open = match turn.ask {
-            Ask::Agree(_) => Open::Agree,
-            _ => Open::Shrink,
-        };
-        held.round = round;
-        held.agrees = round.saturating_add(1);
-        state.put_held(turn.rank, turn.comm, held);
+        state.begin(turn.rank, turn.comm, open);
         Ok(Next::Answer(plain(Reply::Started)))
     }
 
     fn step_mark(&mut self, state: &mut State<A>, turn: Turn) -> Result<Next, AllocError> {
         let mut seat = state.seat(turn.rank);
-        let round = state.held(turn.rank, turn.comm).round;
+        let round = state.round(turn.rank, turn.comm);
         let failed = failed_members(state, seat.seen, turn.comm);
         let known = seat.at.saturating_add(1);
         if let Some(rank) = failed.get(seat.at) {
@@ -378,8 +380,8 @@ impl<'a, A: Allocator + Copy + Drop> Engine<'a, A> {
 
     fn step_slot(&self, state: &mut State<A>, turn: Turn) -> Next {
         let at = place_in_blocks(state.seat(turn.rank));
-        let round = state.held(turn.rank, turn.comm).round;
-        let members = state.comm(turn.comm).members;
+        let round = state.round(turn.rank, turn.comm);
+        let members = state.members(turn.comm);
         let word = match member_of(members, at >> 4, at & 15) {
             Some(rank) => state.slot(turn.comm, round, rank),
             None => 0,
@@ -395,11 +397,11 @@ impl<'a, A: Allocator + Copy + Drop> Engine<'a, A> {
 
     fn step_cache(&mut self, state: &mut State<A>, turn: Turn) -> Next {
         let mut seat = state.seat(turn.rank);
-        let round = state.held(turn.rank, turn.comm).round;
+        let round = state.round(turn.rank, turn.comm);
         let block = seat.at;
         state.cache(turn.comm, round, block);
         seat.known = with_bit(seat.known, block);
-        let (count, _) = blocks_of(state.comm(turn.comm).members);
+        let (count, _) = blocks_of(state.members(turn.comm));
         let whole = seat.known == if count == 1 { 1 } else { 3 };
         if whole {
             state.put_seat(turn.rank, seat);
@@ -427,22 +429,17 @@ impl<'a, A: Allocator + Copy + Drop> Engine<'a, A> {
 
     fn step_spawn(&mut self, state: &mut State<A>, turn: Turn) -> Next {
         let mut seat = state.seat(turn.rank);
-        let round = state.held(turn.rank, turn.comm).round;
+        let round = state.round(turn.rank, turn.comm);
         if seat.at >= state.comms() {
             let known = self.decision(state, turn.comm, round).known;
             let failed = failed_members(state, state.failures(), turn.comm);
-            let mut members = state.comm(turn.comm).members;
+            let mut members = state.members(turn.comm);
             for place in 0..known {
                 if let Some(rank) = failed.get(place) {
                     members = without_bit(members, rank);
                 }
             }
-            state.add_comm(Comm {
-                parent: turn.comm,
-                round,
-                members,
-                revoked: false,
-            });
+            state.add_comm(turn.comm, round, members);
         }
         if is_child(state, turn, seat.at) {
             return self.shrunk(state, turn, seat.at);
@@ -456,10 +453,7 @@ impl<'a, A: Allocator + Copy + Drop> Engine<'a, A> {
     /// All blocks were looked at.
     fn after_blocks(&mut self, state: &mut State<A>, turn: Turn, seat: Seat) -> Next {
         let mut seat = seat;
-        let (count, _) = blocks_of(state.comm(turn.comm).members);
-        if seat.at < count {
-            return Next::Step;
-        }
+        let (count, _) = blocks_of(state.members(turn.comm));
         seat.at = 0;
         if seat.known == if count == 1 { 1 } else { 3 } {
             state.put_seat(turn.rank, seat);
@@ -472,42 +466,32 @@ impl<'a, A: Allocator + Copy + Drop> Engine<'a, A> {
 
     /// The round is decided.
     fn decided(&mut self, state: &mut State<A>, turn: Turn) -> Next {
-        let mut held = state.held(turn.rank, turn.comm);
-        let word = self.decision(state, turn.comm, held.round);
-        let shrinks = held.open == Open::Shrink;
-        held.open = Open::Nothing;
-        match word.offer {
-            Offer::Both => {
-                state.put_held(turn.rank, turn.comm, held);
-                Next::Answer(refused(Refusal::Mismatch))
-            }
+        let round = state.round(turn.rank, turn.comm);
+        let word = self.decision(state, turn.comm, round);
+        let shrinks = state.open(turn.rank, turn.comm) == Open::Shrink;
+        let answer = match word.offer {
+            Offer::Both => refused(Refusal::Mismatch),
             Offer::Contexts(bits) if shrinks && bits != 0 => {
                 let mut seat = state.seat(turn.rank);
-                seat.phase = Phase::ReadOn;
-                seat.at = 0;
-                seat.known = 0;
+                seat.begin(Phase::ReadOn);
                 state.put_seat(turn.rank, seat);
-                Next::Again
+                return Next::Again;
             }
-            Offer::Flag(bits) if !shrinks => {
-                state.put_held(turn.rank, turn.comm, held);
-                Next::Answer(plain(Reply::Agreed {
-                    value: flag_of(bits),
-                    failed: u16::from(word.known),
-                    raised: word.acked < word.known,
-                }))
-            }
-            _ => {
-                state.put_held(turn.rank, turn.comm, held);
-                Next::Answer(refused(Refusal::NoContext))
-            }
-        }
+            Offer::Flag(bits) if !shrinks => plain(Reply::Agreed {
+                value: flag_of(bits),
+                failed: u16::from(word.known),
+                raised: word.acked < word.known,
+            }),
+            _ => refused(Refusal::NoContext),
+        };
+        state.close(turn.rank, turn.comm);
+        Next::Answer(answer)
     }
 
     /// The failures that the round's decision names are read on.
     fn after_reading(&self, state: &mut State<A>, turn: Turn, seat: Seat) -> Next {
         let mut seat = seat;
-        let round = state.held(turn.rank, turn.comm).round;
+        let round = state.round(turn.rank, turn.comm);
         let known = self.decision(state, turn.comm, round).known;
         let failed = failed_members(state, seat.seen, turn.comm);
         if failed.count() < known {
@@ -524,18 +508,17 @@ impl<'a, A: Allocator + Copy + Drop> Engine<'a, A> {
 
     /// A shrink's communicator is found or made.
     fn shrunk(&mut self, state: &mut State<A>, turn: Turn, made: u8) -> Next {
-        let mut held = state.held(turn.rank, turn.comm);
-        let context = match self.decision(state, turn.comm, held.round).offer {
+        let round = state.round(turn.rank, turn.comm);
+        let context = match self.decision(state, turn.comm, round).offer {
             Offer::Contexts(bits) => least(bits),
             _ => 0,
         };
-        held.open = Open::Nothing;
-        state.put_held(turn.rank, turn.comm, held);
-        state.put_held(turn.rank, made, fresh(context));
+        state.close(turn.rank, turn.comm);
+        state.take(turn.rank, made, context);
         let mut seat = state.seat(turn.rank);
         seat.current = made;
         state.put_seat(turn.rank, seat);
-        let group = Few::of_set(state.comm(made).members);
+        let group = Few::of_set(state.members(made));
         Next::Answer(Answer {
             reply: Reply::Shrunk {
                 comm: u16::from(made),
@@ -545,32 +528,14 @@ impl<'a, A: Allocator + Copy + Drop> Engine<'a, A> {
             group,
         })
     }
-
-    /// The name of the call that a rank begins, as a script has it.
-    pub(crate) fn call_of(&self, turn: Turn) -> Call<FlagAnd> {
-        let rank = u16::from(turn.rank);
-        let comm = u16::from(turn.comm);
-        match turn.ask {
-            Ask::GetFailed => Call::GetFailed { rank, comm },
-            Ask::Ack(count) => Call::Ack { rank, comm, count },
-            Ask::Agree(value) => Call::Agree { rank, comm, value },
-            Ask::Shrink => Call::Shrink { rank, comm },
-            Ask::Barrier => Call::Barrier { rank, comm },
-            Ask::Poll | Ask::Wait => Call::Poll { rank, comm },
-            Ask::Revoke => Call::Revoke { rank, comm },
-            Ask::IsRevoked => Call::IsRevoked { rank, comm },
-            Ask::Free => Call::Free { rank, comm },
-        }
-    }
 }
 
 /// The context ids of none of a rank's communicators.
 fn free_contexts<A: Allocator + Copy + Drop>(state: &State<A>, rank: u8) -> u64 {
     let mut free = u64::MAX;
     for comm in 0..state.layout.comms {
-        let held = state.held(rank, comm);
-        if held.holds {
-            free = without_context(free, held.context);
+        if let Some(context) = state.context(rank, comm) {
+            free = without_context(free, context);
         }
     }
     free
@@ -589,21 +554,14 @@ fn step_look<A: Allocator + Copy + Drop>(state: &mut State<A>, turn: Turn) -> Ne
 }
 
 fn step_arrive<A: Allocator + Copy + Drop>(state: &mut State<A>, turn: Turn) -> Next {
-    let mut held = state.held(turn.rank, turn.comm);
-    let round = held.barriers;
-    held.open = Open::Barrier;
-    held.round = round;
-    held.barriers = round.saturating_add(1);
-    state.put_held(turn.rank, turn.comm, held);
+    let round = state.begin(turn.rank, turn.comm, Open::Barrier);
     state.arrive(turn.comm, round, turn.rank);
     Next::Answer(plain(Reply::Started))
 }
 
 fn step_revoke<A: Allocator + Copy + Drop>(state: &mut State<A>, turn: Turn) -> Next {
-    let mut comm = state.comm(turn.comm);
-    let before = comm.revoked;
-    comm.revoked = true;
-    state.put_comm(turn.comm, comm);
+    let before = state.is_revoked(turn.comm);
+    state.revoke(turn.comm);
     Next::Answer(plain(if before {
         Reply::AlreadyRevoked
     } else {
@@ -612,13 +570,13 @@ fn step_revoke<A: Allocator + Copy + Drop>(state: &mut State<A>, turn: Turn) -> 
 }
 
 fn step_revocation<A: Allocator + Copy + Drop>(state: &mut State<A>, turn: Turn) -> Next {
-    let revoked = state.comm(turn.comm).revoked;
+    let revoked = state.is_revoked(turn.comm);
     Next::Answer(plain(Reply::Standing { revoked }))
 }
 
 fn step_block<A: Allocator + Copy + Drop>(state: &mut State<A>, turn: Turn) -> Next {
     let mut seat = state.seat(turn.rank);
-    let round = state.held(turn.rank, turn.comm).round;
+    let round = state.round(turn.rank, turn.comm);
     if state.is_cached(turn.comm, round, seat.at) {
         return stand_before(state, turn, Phase::BlockWing);
     }
@@ -637,7 +595,7 @@ fn step_block_wing<A: Allocator + Copy + Drop>(state: &mut State<A>, turn: Turn)
 }
 
 /// A call of which nothing changes but what is next stands before a step of this phase.
-fn stand_before<A: Allocator + Copy + Drop>(
+pub(crate) fn stand_before<A: Allocator + Copy + Drop>(
     state: &mut State<A>,
     turn: Turn,
     phase: Phase,
@@ -660,7 +618,7 @@ fn place_in_blocks(seat: Seat) -> u8 {
 /// A member's place was read: the next member's comes, or the block.
 fn go_past_slot<A: Allocator + Copy + Drop>(state: &mut State<A>, turn: Turn) -> Next {
     let mut seat = state.seat(turn.rank);
-    let (_, size) = blocks_of(state.comm(turn.comm).members);
+    let (_, size) = blocks_of(state.members(turn.comm));
     let at = place_in_blocks(seat);
     if (at & 15).saturating_add(1) == size {
         seat.phase = Phase::CacheWing;
@@ -675,16 +633,15 @@ fn go_past_slot<A: Allocator + Copy + Drop>(state: &mut State<A>, turn: Turn) ->
 
 /// Whether the communicator of a number is that of this shrink.
 fn is_child<A: Allocator + Copy + Drop>(state: &State<A>, turn: Turn, number: u8) -> bool {
-    let comm = state.comm(number);
-    let round = state.held(turn.rank, turn.comm).round;
-    number < state.comms() && comm.parent == turn.comm && comm.round == round
+    let round = state.round(turn.rank, turn.comm);
+    number < state.comms() && state.origin(number) == (turn.comm, round)
 }
 
 fn step_arrival<A: Allocator + Copy + Drop>(state: &mut State<A>, turn: Turn) -> Next {
     let mut seat = state.seat(turn.rank);
-    let round = state.held(turn.rank, turn.comm).round;
+    let round = state.round(turn.rank, turn.comm);
     let failed = failed_members(state, seat.seen, turn.comm);
-    let order = barrier_order(state.comm(turn.comm).members, &failed);
+    let order = barrier_order(state.members(turn.comm), &failed);
     let here = match order.get(seat.at) {
         Some(rank) => has_bit(state.arrivals(turn.comm, round), rank),
         None => true,
@@ -701,8 +658,7 @@ fn step_arrival<A: Allocator + Copy + Drop>(state: &mut State<A>, turn: Turn) ->
 
 fn step_ending<A: Allocator + Copy + Drop>(state: &mut State<A>, turn: Turn) -> Next {
     let known = state.seat(turn.rank).known;
-    let mut held = state.held(turn.rank, turn.comm);
-    let answer = if state.comm(turn.comm).revoked {
+    let answer = if state.is_revoked(turn.comm) {
         refused(Refusal::IsRevoked)
     } else if known == 0 {
         plain(Reply::Done)
@@ -711,48 +667,24 @@ fn step_ending<A: Allocator + Copy + Drop>(state: &mut State<A>, turn: Turn) -> 
     } else {
         return Next::Answer(plain(Reply::Pending));
     };
-    held.open = Open::Nothing;
-    state.put_held(turn.rank, turn.comm, held);
+    state.close(turn.rank, turn.comm);
     Next::Answer(answer)
 }
 
-/// All known failures were marked.
-fn after_marks<A: Allocator + Copy + Drop>(state: &mut State<A>, turn: Turn, seat: Seat) -> Next {
-    let mut seat = seat;
-    let failed = failed_members(state, seat.seen, turn.comm);
-    if seat.at < failed.count() {
-        return Next::Step;
+/// So many places a phase goes through, one behind another, before the call goes on; none where it doesn't go from place to place.
+fn places_of<A: Allocator + Copy + Drop>(state: &State<A>, turn: Turn, seat: Seat) -> u8 {
+    let members = state.members(turn.comm);
+    match seat.phase {
+        Phase::Block => blocks_of(members).0,
+        Phase::Mark => failed_members(state, seat.seen, turn.comm).count(),
+        Phase::Comm => state.layout.comms,
+        Phase::Arrival => Few::of_set(members).count(),
+        _ => 0,
     }
-    seat.phase = Phase::Slot;
-    seat.at = 0;
-    state.put_seat(turn.rank, seat);
-    Next::Step
 }
 
 /// No communicator is left to look at.
-fn after_comms<A: Allocator + Copy + Drop>(state: &mut State<A>, turn: Turn, seat: Seat) -> Next {
-    if seat.at < state.layout.comms {
-        return Next::Step;
-    }
-    let mut held = state.held(turn.rank, turn.comm);
-    held.open = Open::Nothing;
-    state.put_held(turn.rank, turn.comm, held);
+fn after_comms<A: Allocator + Copy + Drop>(state: &mut State<A>, turn: Turn) -> Next {
+    state.close(turn.rank, turn.comm);
     Next::Answer(refused(Refusal::NoRoom))
-}
-
-/// All members have arrived.
-fn after_arrivals<A: Allocator + Copy + Drop>(
-    state: &mut State<A>,
-    turn: Turn,
-    seat: Seat,
-) -> Next {
-    let mut seat = seat;
-    let members = Few::of_set(state.comm(turn.comm).members);
-    if seat.at < members.count() {
-        return Next::Step;
-    }
-    seat.phase = Phase::Ending;
-    seat.known = 0;
-    state.put_seat(turn.rank, seat);
-    Next::Step
 }

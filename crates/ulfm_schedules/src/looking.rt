@@ -1,7 +1,7 @@
 //! What a call does once its look has ended.
 use crate::Ask;
 use crate::answers::{Answer, plain, refused};
-use crate::engine::{Next, Turn};
+use crate::engine::{Next, Turn, stand_before};
 use crate::rounds::failed_members;
 use crate::state::{Open, Phase, Seat, State};
 use std::alloc::Allocator;
@@ -22,32 +22,19 @@ pub(crate) fn after_look<A: Allocator + Copy + Drop>(
     if state.declared_to(seat.seen).has(turn.rank) {
         return Next::Answer(refused(Refusal::SelfFailed));
     }
-    if !state.held(turn.rank, turn.comm).holds {
+    if !state.holds(turn.rank, turn.comm) {
         return Next::Answer(refused(Refusal::NoSuchComm));
     }
     match turn.ask {
         Ask::GetFailed => tell_failed(state, turn, seat),
         Ask::Ack(count) => acknowledge(state, turn, seat, count),
-        Ask::Agree(_) | Ask::Shrink => begin_round(state, turn, seat),
-        Ask::Barrier => begin_barrier(state, turn, seat),
-        Ask::Revoke => stand_at(state, turn, seat, Phase::Revoke),
-        Ask::IsRevoked => stand_at(state, turn, seat, Phase::Revocation),
+        Ask::Agree(_) | Ask::Shrink => begin_round(state, turn),
+        Ask::Barrier => begin_barrier(state, turn),
+        Ask::Revoke => stand_before(state, turn, Phase::Revoke),
+        Ask::IsRevoked => stand_before(state, turn, Phase::Revocation),
         Ask::Free => free(state, turn),
         Ask::Poll | Ask::Wait => ask_for(state, turn, seat),
     }
-}
-
-/// The call stands before a step of this phase.
-fn stand_at<A: Allocator + Copy + Drop>(
-    state: &mut State<A>,
-    turn: Turn,
-    seat: Seat,
-    phase: Phase,
-) -> Next {
-    let mut seat = seat;
-    seat.phase = phase;
-    state.put_seat(turn.rank, seat);
-    Next::Step
 }
 
 /// The failed group that is known.
@@ -68,13 +55,11 @@ fn acknowledge<A: Allocator + Copy + Drop>(
     seat: Seat,
     count: u16,
 ) -> Next {
-    let mut held = state.held(turn.rank, turn.comm);
     let known = failed_members(state, seat.seen, turn.comm).count();
     let wanted = u8::try_from(count).unwrap_or(u8::MAX).min(known);
-    held.acked = held.acked.max(wanted);
-    state.put_held(turn.rank, turn.comm, held);
+    let acked = state.acknowledge(turn.rank, turn.comm, wanted);
     Next::Answer(plain(Reply::Acked {
-        count: u16::from(held.acked),
+        count: u16::from(acked),
     }))
 }
 
@@ -82,42 +67,41 @@ fn acknowledge<A: Allocator + Copy + Drop>(
 fn has_open_shrink<A: Allocator + Copy + Drop>(state: &State<A>, rank: u8) -> bool {
     let mut found = false;
     for comm in 0..state.layout.comms {
-        found = found || state.held(rank, comm).open == Open::Shrink;
+        found = found || state.open(rank, comm) == Open::Shrink;
     }
     found
 }
 
 /// An agree or a shrink goes on to its contribution, of which the wing comes first.
-fn begin_round<A: Allocator + Copy + Drop>(state: &mut State<A>, turn: Turn, seat: Seat) -> Next {
-    let held = state.held(turn.rank, turn.comm);
+fn begin_round<A: Allocator + Copy + Drop>(state: &mut State<A>, turn: Turn) -> Next {
     let shrinks = turn.ask == Ask::Shrink;
-    if held.open != Open::Nothing {
+    if state.open(turn.rank, turn.comm) != Open::Nothing {
         return Next::Answer(refused(Refusal::Busy));
     }
     if shrinks && has_open_shrink(state, turn.rank) {
         return Next::Answer(refused(Refusal::ShrinkOpen));
     }
+    let next = state.next_round(turn.rank, turn.comm, Open::Agree);
     let needed = if shrinks {
-        held.agrees
+        next
     } else {
-        held.agrees.saturating_add(1)
+        next.saturating_add(1)
     };
     if needed >= state.layout.rounds {
         return Next::Answer(refused(Refusal::RoundsUsedUp));
     }
-    stand_at(state, turn, seat, Phase::Spread)
+    stand_before(state, turn, Phase::Spread)
 }
 
 /// A barrier goes on to its arrival.
-fn begin_barrier<A: Allocator + Copy + Drop>(state: &mut State<A>, turn: Turn, seat: Seat) -> Next {
-    let held = state.held(turn.rank, turn.comm);
-    if held.open != Open::Nothing {
+fn begin_barrier<A: Allocator + Copy + Drop>(state: &mut State<A>, turn: Turn) -> Next {
+    if state.open(turn.rank, turn.comm) != Open::Nothing {
         return Next::Answer(refused(Refusal::Busy));
     }
-    if held.barriers >= state.layout.rounds {
+    if state.next_round(turn.rank, turn.comm, Open::Barrier) >= state.layout.rounds {
         return Next::Answer(refused(Refusal::RoundsUsedUp));
     }
-    stand_at(state, turn, seat, Phase::Arrive)
+    stand_before(state, turn, Phase::Arrive)
 }
 
 /// A communicator is given back.
@@ -125,7 +109,7 @@ fn free<A: Allocator + Copy + Drop>(state: &mut State<A>, turn: Turn) -> Next {
     if turn.comm == 0 {
         return Next::Answer(refused(Refusal::WorldKept));
     }
-    if state.held(turn.rank, turn.comm).open != Open::Nothing {
+    if state.open(turn.rank, turn.comm) != Open::Nothing {
         return Next::Answer(refused(Refusal::Busy));
     }
     state.let_go(turn.rank, turn.comm);
@@ -136,7 +120,7 @@ fn free<A: Allocator + Copy + Drop>(state: &mut State<A>, turn: Turn) -> Next {
 fn ask_for<A: Allocator + Copy + Drop>(state: &mut State<A>, turn: Turn, seat: Seat) -> Next {
     let mut seat = seat;
     seat.known = 0;
-    match state.held(turn.rank, turn.comm).open {
+    match state.open(turn.rank, turn.comm) {
         Open::Nothing => return Next::Answer(refused(Refusal::Idle)),
         Open::Barrier => seat.phase = Phase::Arrival,
         Open::Agree | Open::Shrink => seat.phase = Phase::Block,

@@ -5,8 +5,8 @@ use crate::finding::{Found, Part, parts_of};
 use crate::state::{Phase, State};
 use std::alloc::{AllocError, Allocator};
 use ulfm_laws::FlagAnd;
+use ulfm_model::StepLine;
 use ulfm_model::step_name::StepName;
-use ulfm_model::{Call, StepLine};
 
 /// The outside, as the caller of a declaration.
 pub(crate) const OUTSIDE: u8 = 255;
@@ -94,17 +94,24 @@ pub(crate) struct Taken<A: Allocator> {
     pub(crate) parts: Option<Vec<Part, A>>,
 }
 
-/// The steps of a script as far as it is written.
+/// Acts that are taken again from the first state on, and the steps of their script as far as it is written.
 #[derive(Drop)]
-struct Writing<A: Allocator> {
+struct Writing<'a, 'b, A: Allocator> {
+    engine: &'a mut Engine<'b, A>,
+    state: State<A>,
     lines: Vec<StepLine<FlagAnd>, A>,
     callers: Vec<u8, A>,
     walk: Option<Walk>,
 }
 
-impl<A: Allocator + Copy + Drop> Writing<A> {
-    /// Ends the steps of a rank, whose call isn't answered yet, with this step next.
-    fn break_off(&mut self, next: StepName) -> Result<(), AllocError> {
+impl<'a, 'b, A: Allocator + Copy + Drop> Writing<'a, 'b, A> {
+    /// The name of the step that a rank makes next.
+    fn next_name(&self, rank: u8) -> StepName {
+        step_name(self.state.seat(rank).phase)
+    }
+
+    /// Ends the steps of a rank, whose call isn't answered yet.
+    fn break_off(&mut self) -> Result<(), AllocError> {
         let Some(walk) = self.walk.take() else {
             return Ok(());
         };
@@ -112,6 +119,7 @@ impl<A: Allocator + Copy + Drop> Writing<A> {
         if walk.count == 0 {
             return Ok(());
         }
+        let next = self.next_name(walk.rank);
         let line = if walk.made & name_bit(next) != 0 {
             StepLine::Stepped {
                 rank,
@@ -124,8 +132,9 @@ impl<A: Allocator + Copy + Drop> Writing<A> {
         Ok(())
     }
 
-    /// A rank makes a step of this name.
-    fn step(&mut self, rank: u8, name: StepName) {
+    /// A rank is to make its next step.
+    fn note_step(&mut self, rank: u8) {
+        let name = self.next_name(rank);
         let walk = match self.walk {
             Some(walk) => walk,
             None => Walk {
@@ -141,104 +150,111 @@ impl<A: Allocator + Copy + Drop> Writing<A> {
         });
     }
 
-    /// A line, behind whatever steps there were.
-    fn add(&mut self, line: StepLine<FlagAnd>) -> Result<(), AllocError> {
-        self.lines.push(line)?;
+    /// A rank is declared by this caller.
+    fn note_declared(&mut self, rank: u8, caller: u8) -> Result<(), AllocError> {
+        self.lines.push(StepLine::Failed {
+            rank: u16::from(rank),
+        })?;
+        self.callers.push(caller)?;
         Ok(())
     }
-}
 
-/// Takes a rank's step, with those that go along with it, and writes its lines.
-fn write_step<A: Allocator + Copy + Drop>(
-    engine: &mut Engine<A>,
-    state: &mut State<A>,
-    writing: &mut Writing<A>,
-    rank: u8,
-) -> Result<(), AllocError> {
-    if let Some(whom) = engine.declares(state, rank) {
-        writing.add(StepLine::Failed {
-            rank: u16::from(whom),
-        })?;
-        writing.callers.push(rank)?;
-        engine.step(state, rank)?;
-        return Ok(());
-    }
-    if state.seat(rank).phase == Phase::Idle {
-        if let Some(turn) = engine.turn(state, rank) {
-            let call: Call<FlagAnd> = engine.call_of(turn);
-            writing.add(StepLine::Called {
-                call,
+    /// A rank's call begins, where none is under way.
+    fn note_call(&mut self, rank: u8) -> Result<(), AllocError> {
+        if self.state.seat(rank).phase != Phase::Idle {
+            return Ok(());
+        }
+        if let Some(turn) = self.engine.turn(&self.state, rank) {
+            self.lines.push(StepLine::Called {
+                call: turn.call(),
                 padded: false,
             })?;
         }
+        Ok(())
     }
-    for number in 0..MOST_STEPS {
-        if number != 0 && !goes_along(state, rank) {
-            break;
-        }
-        writing.step(rank, step_name(state.seat(rank).phase));
-        if engine.step(state, rank)? {
-            writing.walk = None;
-            return writing.add(StepLine::Finished {
-                rank: u16::from(rank),
-            });
-        }
-    }
-    Ok(())
-}
 
-/// Takes an act, and writes its lines; false where it can't come.
-fn write_act<A: Allocator + Copy + Drop>(
-    engine: &mut Engine<A>,
-    state: &mut State<A>,
-    writing: &mut Writing<A>,
-    act: Act,
-) -> Result<bool, AllocError> {
-    if !can_act(engine, state, act) {
-        return Ok(false);
-    }
-    if let Some(walk) = writing.walk {
-        if act != Act::Step(walk.rank) {
-            writing.break_off(step_name(state.seat(walk.rank).phase))?;
+    /// Takes a rank's step, with those that go along with it, and writes its lines.
+    fn take_step(&mut self, rank: u8) -> Result<(), AllocError> {
+        if let Some(whom) = self.engine.declares(&self.state, rank) {
+            self.note_declared(whom, rank)?;
+            self.engine.step(&mut self.state, rank)?;
+            return Ok(());
         }
-    }
-    match act {
-        Act::Step(rank) => write_step(engine, state, writing, rank)?,
-        Act::Declare(rank) => {
-            take_act(engine, state, act)?;
-            writing.add(StepLine::Failed {
-                rank: u16::from(rank),
-            })?;
-            writing.callers.push(OUTSIDE)?;
+        self.note_call(rank)?;
+        for number in 0..MOST_STEPS {
+            if number != 0 && !goes_along(&self.state, rank) {
+                break;
+            }
+            self.note_step(rank);
+            if self.engine.step(&mut self.state, rank)? {
+                self.walk = None;
+                self.lines.push(StepLine::Finished {
+                    rank: u16::from(rank),
+                })?;
+                return Ok(());
+            }
         }
+        Ok(())
     }
-    Ok(true)
+
+    /// Takes an act, and writes its lines; false where it can't come.
+    fn take(&mut self, act: Act) -> Result<bool, AllocError> {
+        if !can_act(self.engine, &self.state, act) {
+            return Ok(false);
+        }
+        if let Some(walk) = self.walk {
+            if act != Act::Step(walk.rank) {
+                self.break_off()?;
+            }
+        }
+        match act {
+            Act::Step(rank) => self.take_step(rank)?,
+            Act::Declare(rank) => {
+                take_act(self.engine, &mut self.state, act)?;
+                self.note_declared(rank, OUTSIDE)?;
+            }
+        }
+        Ok(true)
+    }
+
+    /// Takes acts, one behind another, and writes their lines; false where one of them can't come.
+    fn take_all(&mut self, acts: &[Act]) -> Result<bool, AllocError> {
+        for act in acts {
+            if !self.take(*act)? {
+                return Ok(false);
+            }
+        }
+        self.break_off()?;
+        Ok(true)
+    }
+
+    /// The outcome, where the state has one.
+    fn outcome(&self, alloc: A) -> Result<Option<Vec<Part, A>>, AllocError> {
+        if !is_settled(self.engine, &self.state) {
+            return Ok(None);
+        }
+        Ok(Some(parts_of(alloc, &self.state)?))
+    }
 }
 
 /// Takes acts from the first state on; none where one of them can't come.
-pub(crate) fn take_path<A: Allocator + Copy + Drop>(
+pub(crate) fn take_path<'a, 'b, A: Allocator + Copy + Drop>(
     alloc: A,
-    engine: &mut Engine<A>,
+    engine: &'a mut Engine<'b, A>,
     acts: &[Act],
 ) -> Result<Option<Taken<A>>, AllocError> {
-    let mut state = engine.first(alloc)?;
+    let state = engine.first(alloc)?;
     let mut writing = Writing {
+        engine,
+        state,
         lines: Vec::new(alloc),
         callers: Vec::new(alloc),
         walk: None,
     };
-    for act in acts {
-        if !write_act(engine, &mut state, &mut writing, *act)? {
-            return Ok(None);
-        }
+    if !writing.take_all(acts)? {
+        return Ok(None);
     }
-    if let Some(walk) = writing.walk {
-        writing.break_off(step_name(state.seat(walk.rank).phase))?;
-    }
-    let mut parts = None;
-    if is_settled(engine, &state) {
-        parts = Some(parts_of(alloc, &state)?);
-    }
+    let parts = writing.outcome(alloc)?;
     Ok(Some(Taken {
         lines: writing.lines,
         callers: writing.callers,

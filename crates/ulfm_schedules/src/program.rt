@@ -1,12 +1,12 @@
 //! What stands in a program of ranks.
 ghost use Rattle.std.specs.Prelude.{◌≡◌};
 ghost use Rattle.ulfm_script.specs.Words.{rest_at};
-ghost use Rattle.ulfm_schedules.specs.Programs.{may_at, op_at, text_at};
+ghost use Rattle.ulfm_schedules.specs.Programs.{call_of, may_at, op_at, text_at};
 ghost use Rattle.ulfm_schedules.specs.Words.{begin_with, has_words, have, words_in, words_of};
 
 use std::alloc::Allocator;
 use ulfm_laws::FlagAnd;
-use ulfm_model::Limits;
+use ulfm_model::{Call, Limits};
 use ulfm_script::words::split_word;
 
 /// Whether, and how, a rank may be declared failed from outside.
@@ -36,6 +36,25 @@ pub enum Ask {
     Revoke,
     IsRevoked,
     Free,
+}
+
+impl Ask {
+    /// The call of a rank on a communicator that asks for this; a wait asks by a poll.
+    pub fn call(self, rank: u16, comm: u16) -> Call<FlagAnd>
+        ensures { result ≡ call_of self rank comm }
+    {
+        match self {
+            Ask::GetFailed => Call::GetFailed { rank, comm },
+            Ask::Ack(count) => Call::Ack { rank, comm, count },
+            Ask::Agree(value) => Call::Agree { rank, comm, value },
+            Ask::Shrink => Call::Shrink { rank, comm },
+            Ask::Barrier => Call::Barrier { rank, comm },
+            Ask::Poll | Ask::Wait => Call::Poll { rank, comm },
+            Ask::Revoke => Call::Revoke { rank, comm },
+            Ask::IsRevoked => Call::IsRevoked { rank, comm },
+            Ask::Free => Call::Free { rank, comm },
+        }
+    }
 }
 
 /// Which communicator a call is on.

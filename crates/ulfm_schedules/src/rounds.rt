@@ -91,7 +91,7 @@ pub(crate) fn failed_members<A: Allocator + Copy + Drop>(
     seen: u8,
     comm: u8,
 ) -> Few {
-    let members = state.comm(comm).members;
+    let members = state.members(comm);
     let declared = state.declared_to(seen);
     let mut failed = Few::none();
     for place in 0..declared.count() {

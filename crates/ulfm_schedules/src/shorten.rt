@@ -71,112 +71,102 @@ fn moved<A: Allocator + Copy>(
     Ok(path)
 }
 
-/// What a path is made shorter for.
+/// A path that is made shorter.
 #[derive(Drop)]
-struct Best<A: Allocator> {
+struct Shortening<'a, 'b, 'c, A: Allocator> {
+    alloc: A,
+    engine: &'a mut Engine<'b, A>,
+    // The outcome, which stays.
+    parts: &'c [Part],
+    // The best path, and what it comes to.
     acts: Vec<Act, A>,
     taken: Taken<A>,
 }
 
-/// Whether a path's script is shorter than another's: it has fewer lines, or as many and the path has fewer acts.
-fn is_shorter<A: Allocator>(best: &Best<A>, lines: usize, acts: usize) -> bool {
-    lines < best.taken.lines.len() || (lines == best.taken.lines.len() && acts < best.acts.len())
-}
+impl<'a, 'b, 'c, A: Allocator + Copy + Drop> Shortening<'a, 'b, 'c, A> {
+    /// Whether a path's script is shorter than the best one's: it has fewer lines, or as many and the path has fewer acts.
+    fn is_shorter(&self, lines: usize, acts: usize) -> bool {
+        let most = self.taken.lines.len();
+        lines < most || (lines == most && acts < self.acts.len())
+    }
 
-/// Takes a path in place of the best one, where it comes to the same outcome and is shorter.
-fn try_path<A: Allocator + Copy + Drop>(
-    alloc: A,
-    engine: &mut Engine<A>,
-    best: &mut Best<A>,
-    acts: Vec<Act, A>,
-    parts: &[Part],
-) -> Result<bool, AllocError> {
-    let Some(taken) = take_path(alloc, engine, &acts)? else {
-        return Ok(false);
-    };
-    let same = match &taken.parts {
-        Some(found) => found.as_slice() == parts,
-        None => false,
-    };
-    if !same || !is_shorter(best, taken.lines.len(), acts.len()) {
-        return Ok(false);
+    /// Takes a path in place of the best one, where it comes to the same outcome and is shorter.
+    fn try_path(&mut self, acts: Vec<Act, A>) -> Result<bool, AllocError> {
+        let Some(taken) = take_path(self.alloc, self.engine, &acts)? else {
+            return Ok(false);
+        };
+        let same = match &taken.parts {
+            Some(found) => found.as_slice() == self.parts,
+            None => false,
+        };
+        if !same || !self.is_shorter(taken.lines.len(), acts.len()) {
+            return Ok(false);
+        }
+        self.acts = acts;
+        self.taken = taken;
+        Ok(true)
     }
-    *best = Best { acts, taken };
-    Ok(true)
-}
 
-/// Tries to put a block beside another of the same rank.
-fn try_beside<A: Allocator + Copy + Drop>(
-    alloc: A,
-    engine: &mut Engine<A>,
-    best: &mut Best<A>,
-    block: Block,
-    other: Block,
-    parts: &[Part],
-) -> Result<bool, AllocError> {
-    if other.act != block.act || other.start == block.start {
-        return Ok(false);
-    }
-    let before = moved(alloc, &best.acts, block, other.start)?;
-    if try_path(alloc, engine, best, before, parts)? {
-        return Ok(true);
-    }
-    let behind = moved(alloc, &best.acts, block, other.end)?;
-    try_path(alloc, engine, best, behind, parts)
-}
-
-/// Tries to leave out a block, or to put it beside another.
-fn try_block<A: Allocator + Copy + Drop>(
-    alloc: A,
-    engine: &mut Engine<A>,
-    best: &mut Best<A>,
-    blocks: &[Block],
-    block: Block,
-    parts: &[Part],
-) -> Result<bool, AllocError> {
-    let rest = without(alloc, &best.acts, block)?;
-    if try_path(alloc, engine, best, rest, parts)? {
-        return Ok(true);
-    }
-    for other in blocks {
-        if try_beside(alloc, engine, best, block, *other, parts)? {
+    /// Tries to put a block beside another of the same rank.
+    fn try_beside(&mut self, block: Block, other: Block) -> Result<bool, AllocError> {
+        if other.act != block.act || other.start == block.start {
+            return Ok(false);
+        }
+        let before = moved(self.alloc, &self.acts, block, other.start)?;
+        if self.try_path(before)? {
             return Ok(true);
         }
+        let behind = moved(self.alloc, &self.acts, block, other.end)?;
+        self.try_path(behind)
     }
-    Ok(false)
-}
 
-/// Makes the best path shorter once, and says whether it could.
-fn shorten_once<A: Allocator + Copy + Drop>(
-    alloc: A,
-    engine: &mut Engine<A>,
-    best: &mut Best<A>,
-    parts: &[Part],
-) -> Result<bool, AllocError> {
-    let blocks = blocks_of(alloc, &best.acts)?;
-    for block in &blocks {
-        if try_block(alloc, engine, best, &blocks, *block, parts)? {
+    /// Tries to leave out a block, or to put it beside another.
+    fn try_block(&mut self, blocks: &[Block], block: Block) -> Result<bool, AllocError> {
+        let rest = without(self.alloc, &self.acts, block)?;
+        if self.try_path(rest)? {
             return Ok(true);
         }
+        for other in blocks {
+            if self.try_beside(block, *other)? {
+                return Ok(true);
+            }
+        }
+        Ok(false)
     }
-    Ok(false)
+
+    /// Makes the best path shorter once, and says whether it could.
+    fn try_once(&mut self) -> Result<bool, AllocError> {
+        let blocks = blocks_of(self.alloc, &self.acts)?;
+        for block in &blocks {
+            if self.try_block(&blocks, *block)? {
+                return Ok(true);
+            }
+        }
+        Ok(false)
+    }
 }
 
 /// What a path with this outcome comes to once it is made short; none where it doesn't come to the outcome.
-pub(crate) fn shortest<A: Allocator + Copy + Drop>(
+pub(crate) fn shortest<'a, 'b, A: Allocator + Copy + Drop>(
     alloc: A,
-    engine: &mut Engine<A>,
+    engine: &'a mut Engine<'b, A>,
     acts: Vec<Act, A>,
     parts: &[Part],
 ) -> Result<Option<Taken<A>>, AllocError> {
     let Some(taken) = take_path(alloc, engine, &acts)? else {
         return Ok(None);
     };
-    let mut best = Best { acts, taken };
+    let mut shortening = Shortening {
+        alloc,
+        engine,
+        parts,
+        acts,
+        taken,
+    };
     for _ in 0..MOST_TIMES {
-        if !shorten_once(alloc, engine, &mut best, parts)? {
+        if !shortening.try_once()? {
             break;
         }
     }
-    Ok(Some(best.taken))
+    Ok(Some(shortening.taken))
 }

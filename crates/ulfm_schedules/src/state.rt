@@ -71,6 +71,15 @@ pub(crate) struct Seat {
     pub(crate) current: u8,
 }
 
+impl Seat {
+    /// A phase begins, in which nothing is found yet.
+    pub(crate) fn begin(&mut self, phase: Phase) {
+        self.phase = phase;
+        self.at = 0;
+        self.known = 0;
+    }
+}
+
 /// The request that is open on a communicator.
 #[derive(Clone, Copy, Debug, PartialEq, Eq)]
 pub(crate) enum Open {
@@ -82,34 +91,21 @@ pub(crate) enum Open {
 
 /// What a rank holds of a communicator. All counts are at most 15.
 #[derive(Clone, Copy)]
-pub(crate) struct Held {
+struct Held {
     /// Whether the rank holds it.
-    pub(crate) holds: bool,
+    holds: bool,
     /// The request that the rank has open on it.
-    pub(crate) open: Open,
+    open: Open,
     /// So many failures are acknowledged.
-    pub(crate) acked: u8,
-    /// The next round of agreements, and of barriers.
-    pub(crate) agrees: u8,
+    acked: u8,
+    /// The next round of agreements.
+    agrees: u8,
     /// The next round of barriers.
-    pub(crate) barriers: u8,
+    barriers: u8,
     /// The round of the open request.
-    pub(crate) round: u8,
+    round: u8,
     /// Its context id.
-    pub(crate) context: u8,
-}
-
-/// A communicator.
-#[derive(Clone, Copy)]
-pub(crate) struct Comm {
-    /// The communicator that it was made of; 0 for the world's own.
-    pub(crate) parent: u8,
-    /// The round of its parent that it was made of, counted from 0.
-    pub(crate) round: u8,
-    /// Its members, as a set.
-    pub(crate) members: u8,
-    /// Whether it is revoked, for all ranks.
-    pub(crate) revoked: bool,
+    context: u8,
 }
 
 /// A state.
@@ -228,7 +224,7 @@ fn joined(low: u8, high: u8) -> u8 {
 }
 
 /// What a rank holds of a communicator that it has just got.
-pub(crate) fn fresh(context: u8) -> Held {
+fn fresh(context: u8) -> Held {
     Held {
         holds: true,
         open: Open::Nothing,
@@ -246,19 +242,12 @@ impl<A: Allocator + Copy + Drop> State<A> {
         let layout = Layout::new(limits);
         let bytes = vec![in alloc; 0; layout.width]?;
         let mut state = State { layout, bytes };
-        state.set(layout.made(), 1);
         let mut members = 0;
         for rank in 0..layout.ranks {
             members = with_bit(members, rank);
-            state.put_held(rank, 0, fresh(0));
+            state.take(rank, 0, 0);
         }
-        let world = Comm {
-            parent: 0,
-            round: 0,
-            members,
-            revoked: false,
-        };
-        state.put_comm(0, world);
+        state.add_comm(0, 0, members);
         Ok(state)
     }
 
@@ -319,32 +308,35 @@ impl<A: Allocator + Copy + Drop> State<A> {
         self.byte(self.layout.made())
     }
 
-    /// The communicator of a number.
-    pub(crate) fn comm(&self, comm: u8) -> Comm {
-        let at = self.layout.comm(comm);
-        let (parent, round) = self.bytes_at(at);
-        let (members, revoked) = self.bytes_at(at.saturating_add(2));
-        Comm {
-            parent,
-            round,
-            members,
-            revoked: revoked != 0,
-        }
+    /// The communicator that one was made of, and the round of that, counted from 0; both 0 of the world's own.
+    pub(crate) fn origin(&self, comm: u8) -> (u8, u8) {
+        self.bytes_at(self.layout.comm(comm))
     }
 
-    /// Writes the communicator of a number.
-    pub(crate) fn put_comm(&mut self, number: u8, comm: Comm) {
-        let at = self.layout.comm(number);
-        self.set(at, comm.parent);
-        self.set(at.saturating_add(1), comm.round);
-        self.set(at.saturating_add(2), comm.members);
-        self.set(at.saturating_add(3), u8::from(comm.revoked));
+    /// The members of a communicator, as a set.
+    pub(crate) fn members(&self, comm: u8) -> u8 {
+        self.byte(self.layout.comm(comm).saturating_add(2))
     }
 
-    /// One more communicator.
-    pub(crate) fn add_comm(&mut self, comm: Comm) {
+    /// Whether a communicator is revoked, for all ranks.
+    pub(crate) fn is_revoked(&self, comm: u8) -> bool {
+        self.byte(self.layout.comm(comm).saturating_add(3)) != 0
+    }
+
+    /// Revokes a communicator.
+    pub(crate) fn revoke(&mut self, comm: u8) {
+        let at = self.layout.comm(comm).saturating_add(3);
+        self.set(at, 1);
+    }
+
+    /// One more communicator, made of another in a round of that.
+    pub(crate) fn add_comm(&mut self, parent: u8, round: u8, members: u8) {
         let number = self.comms();
-        self.put_comm(number, comm);
+        let at = self.layout.comm(number);
+        self.set(at, parent);
+        self.set(at.saturating_add(1), round);
+        self.set(at.saturating_add(2), members);
+        self.set(at.saturating_add(3), 0);
         let at = self.layout.made();
         self.set(at, number.saturating_add(1));
     }
@@ -421,7 +413,7 @@ impl<A: Allocator + Copy + Drop> State<A> {
     }
 
     /// What a rank holds of a communicator.
-    pub(crate) fn held(&self, rank: u8, comm: u8) -> Held {
+    fn held(&self, rank: u8, comm: u8) -> Held {
         let at = self.layout.held(rank, comm);
         let (flags, counts) = self.bytes_at(at);
         let (kind, acked) = halves(flags);
@@ -444,7 +436,7 @@ impl<A: Allocator + Copy + Drop> State<A> {
     }
 
     /// Writes what a rank holds of a communicator, which is in the world.
-    pub(crate) fn put_held(&mut self, rank: u8, comm: u8, held: Held) {
+    fn put_held(&mut self, rank: u8, comm: u8, held: Held) {
         if comm >= self.layout.comms {
             return;
         }
@@ -453,6 +445,78 @@ impl<A: Allocator + Copy + Drop> State<A> {
         self.set(at, joined(kind, held.acked));
         self.set(at.saturating_add(1), joined(held.agrees, held.barriers));
         self.set(at.saturating_add(2), joined(held.round, held.context));
+    }
+
+    /// Whether a rank holds a communicator.
+    pub(crate) fn holds(&self, rank: u8, comm: u8) -> bool {
+        self.held(rank, comm).holds
+    }
+
+    /// The context id of a communicator that a rank holds; none of another.
+    pub(crate) fn context(&self, rank: u8, comm: u8) -> Option<u8> {
+        let held = self.held(rank, comm);
+        if held.holds { Some(held.context) } else { None }
+    }
+
+    /// The request that a rank has open on a communicator.
+    pub(crate) fn open(&self, rank: u8, comm: u8) -> Open {
+        self.held(rank, comm).open
+    }
+
+    /// The round of that request.
+    pub(crate) fn round(&self, rank: u8, comm: u8) -> u8 {
+        self.held(rank, comm).round
+    }
+
+    /// The round that a rank's next request of this sort takes: barriers have rounds of their own.
+    pub(crate) fn next_round(&self, rank: u8, comm: u8, open: Open) -> u8 {
+        let held = self.held(rank, comm);
+        if open == Open::Barrier {
+            held.barriers
+        } else {
+            held.agrees
+        }
+    }
+
+    /// So many failures a rank has acknowledged on a communicator.
+    pub(crate) fn acked(&self, rank: u8, comm: u8) -> u8 {
+        self.held(rank, comm).acked
+    }
+
+    /// A rank acknowledges so many failures, and no fewer than before; how many it has acknowledged then.
+    pub(crate) fn acknowledge(&mut self, rank: u8, comm: u8, count: u8) -> u8 {
+        let mut held = self.held(rank, comm);
+        held.acked = held.acked.max(count);
+        self.put_held(rank, comm, held);
+        held.acked
+    }
+
+    /// A rank's request of this sort begins; the round that it takes.
+    pub(crate) fn begin(&mut self, rank: u8, comm: u8, open: Open) -> u8 {
+        let mut held = self.held(rank, comm);
+        let round = self.next_round(rank, comm, open);
+        let next = round.saturating_add(1);
+        if open == Open::Barrier {
+            held.barriers = next;
+        } else {
+            held.agrees = next;
+        }
+        held.open = open;
+        held.round = round;
+        self.put_held(rank, comm, held);
+        round
+    }
+
+    /// The rank gets a communicator, of this context id.
+    pub(crate) fn take(&mut self, rank: u8, comm: u8, context: u8) {
+        self.put_held(rank, comm, fresh(context));
+    }
+
+    /// The request that a rank has open on a communicator is over.
+    pub(crate) fn close(&mut self, rank: u8, comm: u8) {
+        let mut held = self.held(rank, comm);
+        held.open = Open::Nothing;
+        self.put_held(rank, comm, held);
     }
 
     /// The rank holds nothing of a communicator any more.

@@ -5,18 +5,30 @@ use std::alloc::{AllocError, Allocator};
 /// No state.
 const NOBODY: u32 = u32::MAX;
 
-/// The states, in the order in which they were found, each with the state and the act that led to it.
+/// Rows, one behind another.
 ///
 /// A row is kept in groups of eight bytes: a byte of bits that says which of them aren't 0, and those.
+#[derive(Drop)]
+struct Rows<A: Allocator> {
+    packed: Vec<u8, A>,
+    /// Where each row ends in `packed`.
+    ends: Vec<u64, A>,
+}
+
+/// By state, the state and the act that led to it.
+#[derive(Drop)]
+struct Origins<A: Allocator> {
+    parents: Vec<u32, A>,
+    acts: Vec<u8, A>,
+}
+
+/// The states, in the order in which they were found, each with the state and the act that led to it.
 #[derive(Drop)]
 pub(crate) struct Table<A: Allocator> {
     alloc: A,
     width: usize,
-    packed: Vec<u8, A>,
-    /// Where each row ends in `packed`.
-    ends: Vec<u64, A>,
-    parents: Vec<u32, A>,
-    acts: Vec<u8, A>,
+    rows: Rows<A>,
+    origins: Origins<A>,
     /// The numbers of states by their sums; a power of two.
     places: Vec<u32, A>,
     row: Vec<u8, A>,
@@ -98,35 +110,13 @@ fn unpack<A: Allocator>(
     Ok(())
 }
 
-impl<A: Allocator + Copy + Drop> Table<A> {
-    /// No state is known, and rows have so many bytes.
-    pub(crate) fn new(alloc: A, width: usize) -> Result<Table<A>, AllocError> {
-        Ok(Table {
-            alloc,
-            width,
-            packed: Vec::new(alloc),
-            ends: Vec::new(alloc),
-            parents: Vec::new(alloc),
-            acts: Vec::new(alloc),
-            places: vec![in alloc; NOBODY; 4096]?,
-            row: Vec::new(alloc),
-        })
-    }
-
-    /// How many states there are.
-    pub(crate) fn count(&self) -> u32 {
+impl<A: Allocator> Rows<A> {
+    /// How many rows there are.
+    fn count(&self) -> u32 {
         u32::try_from(self.ends.len()).unwrap_or(u32::MAX)
     }
 
-    /// How many bytes they take, with what leads to them and the places.
-    pub(crate) fn bytes(&self) -> u64 {
-        let rows = self.packed.len() as u64;
-        let each = (self.ends.len() as u64).saturating_mul(13);
-        let places = (self.places.len() as u64).saturating_mul(4);
-        rows.saturating_add(each).saturating_add(places)
-    }
-
-    /// The bytes that are kept of a state.
+    /// The bytes that are kept of a row.
     fn kept(&self, number: u32) -> &[u8] {
         let at = number as usize;
         let start = match at.checked_sub(1) {
@@ -140,13 +130,17 @@ impl<A: Allocator + Copy + Drop> Table<A> {
         }
     }
 
-    /// Reads the row of a state, in place of what the vector held.
-    pub(crate) fn load(&self, number: u32, row: &mut Vec<u8, A>) -> Result<(), AllocError> {
-        unpack(self.kept(number), self.width, row)
+    /// Adds what is kept of a row.
+    fn push(&mut self, bytes: &[u8]) -> Result<(), AllocError> {
+        self.packed.extend_from_slice(bytes)?;
+        self.ends.push(self.packed.len() as u64)?;
+        Ok(())
     }
+}
 
-    /// The state and the act that led to a state.
-    pub(crate) fn origin(&self, number: u32) -> Option<(u32, Act)> {
+impl<A: Allocator> Origins<A> {
+    /// The state and the act that led to a state; none of the first one.
+    fn get(&self, number: u32) -> Option<(u32, Act)> {
         let parent = self.parents.get(number as usize).copied()?;
         let act = self.acts.get(number as usize).copied()?;
         if parent == NOBODY {
@@ -156,13 +150,67 @@ impl<A: Allocator + Copy + Drop> Table<A> {
         }
     }
 
+    /// Adds what led to the next state.
+    fn push(&mut self, from: Option<(u32, Act)>) -> Result<(), AllocError> {
+        let (parent, act) = match from {
+            Some((parent, act)) => (parent, act_number(act)),
+            None => (NOBODY, 0),
+        };
+        self.parents.push(parent)?;
+        self.acts.push(act)?;
+        Ok(())
+    }
+}
+
+impl<A: Allocator + Copy + Drop> Table<A> {
+    /// No state is known, and rows have so many bytes.
+    pub(crate) fn new(alloc: A, width: usize) -> Result<Table<A>, AllocError> {
+        Ok(Table {
+            alloc,
+            width,
+            rows: Rows {
+                packed: Vec::new(alloc),
+                ends: Vec::new(alloc),
+            },
+            origins: Origins {
+                parents: Vec::new(alloc),
+                acts: Vec::new(alloc),
+            },
+            places: vec![in alloc; NOBODY; 4096]?,
+            row: Vec::new(alloc),
+        })
+    }
+
+    /// How many states there are.
+    pub(crate) fn count(&self) -> u32 {
+        self.rows.count()
+    }
+
+    /// How many bytes they take, with what leads to them and the places.
+    pub(crate) fn bytes(&self) -> u64 {
+        let rows = self.rows.packed.len() as u64;
+        let each = (self.rows.ends.len() as u64).saturating_mul(13);
+        let places = (self.places.len() as u64).saturating_mul(4);
+        rows.saturating_add(each).saturating_add(places)
+    }
+
+    /// Reads the row of a state, in place of what the vector held.
+    pub(crate) fn load(&self, number: u32, row: &mut Vec<u8, A>) -> Result<(), AllocError> {
+        unpack(self.rows.kept(number), self.width, row)
+    }
+
+    /// The state and the act that led to a state.
+    pub(crate) fn origin(&self, number: u32) -> Option<(u32, Act)> {
+        self.origins.get(number)
+    }
+
     /// The place of a row that has this sum: where its state's number stands, or would stand.
     fn place_of(&self, bytes: &[u8], sum: u64) -> (usize, u32) {
         let last = self.places.len().saturating_sub(1);
         let mut place = sum as usize & last;
         for _ in 0..self.places.len() {
             let number = self.places.get(place).copied().unwrap_or(NOBODY);
-            if number == NOBODY || self.kept(number) == bytes {
+            if number == NOBODY || self.rows.kept(number) == bytes {
                 return (place, number);
             }
             place = place.wrapping_add(1) & last;
@@ -189,18 +237,12 @@ impl<A: Allocator + Copy + Drop> Table<A> {
             return Ok(false);
         }
         let number = self.count();
-        self.packed.extend_from_slice(bytes)?;
-        self.ends.push(self.packed.len() as u64)?;
-        let (parent, act) = match from {
-            Some((parent, act)) => (parent, act_number(act)),
-            None => (NOBODY, 0),
-        };
-        self.parents.push(parent)?;
-        self.acts.push(act)?;
+        self.rows.push(bytes)?;
+        self.origins.push(from)?;
         if let Some(at) = self.places.get_mut(place) {
             *at = number;
         }
-        if self.ends.len() > self.places.len() >> 1 {
+        if self.rows.ends.len() > self.places.len() >> 1 {
             self.grow()?;
         }
         Ok(true)
@@ -212,7 +254,7 @@ impl<A: Allocator + Copy + Drop> Table<A> {
         self.places = vec![in self.alloc; NOBODY; size]?;
         let last = size.saturating_sub(1);
         for number in 0..self.count() {
-            let start = sum_of(self.kept(number)) as usize & last;
+            let start = sum_of(self.rows.kept(number)) as usize & last;
             let place = self.free_place(start);
             if let Some(at) = self.places.get_mut(place) {
                 *at = number;

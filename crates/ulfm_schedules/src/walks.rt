@@ -52,7 +52,7 @@ fn add_step<A: Allocator + Copy + Drop>(
     if state.seat(rank).phase == Phase::Idle {
         if let Some(turn) = engine.turn(state, rank) {
             lines.push(StepLine::Called {
-                call: engine.call_of(turn),
+                call: turn.call(),
                 padded: false,
             })?;
         }
