@@ -3,10 +3,9 @@ use Rattle.std.specs.Prelude.{◌≡◌, ℕ, zero, suc, Bool, true, false, ◌=
 use Rattle.std.specs.Str.{bytes_eq}
 use Rattle.ulfm_laws.specs.declared.flag_and.FlagAnd.{FlagAnd}
 use Rattle.ulfm_model.specs.declared.call.Call.{Call}
-use Rattle.ulfm_model.specs.declared.call.Call.TheVariants as call
 use Rattle.ulfm_script.specs.{Digits.{read_number}, Scripts.{lines_from}, Spelling.{call_text}, Words.{first_word}}
 use Rattle.ulfm_script.specs.declared.line_kind.LineKind.{LineKind}
-use Rattle.ulfm_schedules.specs.Programs.{may_at, most_moves, move_at, next_of, op_at, text_at}
+use Rattle.ulfm_schedules.specs.Programs.{call_of, may_at, most_moves, move_at, next_of, op_at, text_at}
 use Rattle.ulfm_schedules.specs.declared.moves.{Fate.{Fate}, Move.{Move}}
 use Rattle.ulfm_schedules.specs.declared.moves.Fate.TheVariants.{Runs, Ended, Out, Died}
 use Rattle.ulfm_schedules.specs.declared.moves.Move.TheVariants as move
@@ -85,19 +84,6 @@ gone_on program rank it = goes_on program rank (most_moves program rank) it
 abbrev pub comm_at : ℕ → Place → ℕ
 comm_at current (place.Given comm) = comm
 comm_at current place.Current = current
-
--- the call that a rank makes
-abbrev pub call_of : Ask → ℕ → ℕ → Call FlagAnd
-call_of ask.GetFailed rank comm = call.GetFailed rank comm
-call_of (ask.Ack count) rank comm = call.Ack rank comm count
-call_of (ask.Agree value) rank comm = call.Agree rank comm value
-call_of ask.Shrink rank comm = call.Shrink rank comm
-call_of ask.Barrier rank comm = call.Barrier rank comm
-call_of ask.Poll rank comm = call.Poll rank comm
-call_of ask.Wait rank comm = call.Poll rank comm
-call_of ask.Revoke rank comm = call.Revoke rank comm
-call_of ask.IsRevoked rank comm = call.IsRevoked rank comm
-call_of ask.Free rank comm = call.Free rank comm
 
 -- the call that an operation makes, if it makes one
 abbrev pub asked_by : ℕ → ℕ → Option Op → Option (Call FlagAnd)

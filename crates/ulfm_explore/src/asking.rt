@@ -1,7 +1,7 @@
 //! What an operation of a rank's program asks for, and the words of a trace's lines.
 ghost use Rattle.std.specs.Prelude.{◌≡◌};
 ghost use Rattle.ulfm_script.specs.Words.{rest_at};
-ghost use Rattle.ulfm_explore.specs.Readings.{asked_by, call_of, calls_nobody, comm_at, declares, dies, is_caller, is_declarable, is_number, is_of_ranks, is_on, is_quiet, is_wait, made_in, runs, text_behind, waits_by};
+ghost use Rattle.ulfm_explore.specs.Readings.{asked_by, calls_nobody, comm_at, declares, dies, is_caller, is_declarable, is_number, is_of_ranks, is_on, is_quiet, is_wait, made_in, runs, text_behind, waits_by};
 
 use ulfm_laws::FlagAnd;
 use ulfm_model::Call;
@@ -48,30 +48,12 @@ fn comm_at(current: u16, on: Place) -> u16
     }
 }
 
-/// The call that a rank makes.
-fn call_of(ask: Ask, rank: u16, comm: u16) -> Call<FlagAnd>
-    ensures { result ≡ call_of ask rank comm }
-{
-    match ask {
-        Ask::GetFailed => Call::GetFailed { rank, comm },
-        Ask::Ack(count) => Call::Ack { rank, comm, count },
-        Ask::Agree(value) => Call::Agree { rank, comm, value },
-        Ask::Shrink => Call::Shrink { rank, comm },
-        Ask::Barrier => Call::Barrier { rank, comm },
-        Ask::Poll => Call::Poll { rank, comm },
-        Ask::Wait => Call::Poll { rank, comm },
-        Ask::Revoke => Call::Revoke { rank, comm },
-        Ask::IsRevoked => Call::IsRevoked { rank, comm },
-        Ask::Free => Call::Free { rank, comm },
-    }
-}
-
 /// The call that an operation makes, if it makes one.
 pub(crate) fn asked_by(rank: u16, current: u16, here: Option<Op>) -> Option<Call<FlagAnd>>
     ensures { result ≡ asked_by rank current here }
 {
     match here {
-        Some(Op::Call { ask, on, .. }) => Some(call_of(ask, rank, comm_at(current, on))),
+        Some(Op::Call { ask, on, .. }) => Some(ask.call(rank, comm_at(current, on))),
         _ => None,
     }
 }
