@@ -252,34 +252,6 @@ impl<A: Allocator + Copy + Drop> Reading<A> {
         }
     }
 
-    /// A declaration is called.
-    fn declare(&mut self, program: &Program<A>, callers: &[u8], rank: u16, whom: &[u8])
-        ensures { reached self.new ≡ declared program.now callers.now rank whom.now (reached self.old) }
-    {
-        let caller = callers.get(usize::from(self.called)).copied();
-        if !self.may_declare(program, rank, caller, whom) {
-            self.fits = false;
-        }
-    }
-
-    /// A declaration is answered: that of this rank, where it is the one who declared.
-    fn answer_declaration(
-        &mut self,
-        program: &Program<A>,
-        callers: &[u8],
-        rank: u16,
-        reply: &[u8],
-    ) -> Result<(), AllocError>
-        ensures { OnOk result (reached self.new ≡ declaration_answered program.now callers.now rank reply.now (reached self.old)) }
-    {
-        let caller = callers.get(usize::from(self.called)).copied();
-        self.called = self.called.saturating_add(1);
-        if is_caller(rank, caller) && runs(self.fate) {
-            return self.answer(program, rank, reply);
-        }
-        Ok(())
-    }
-
     /// Somebody is declared: a rank that dies makes no further step.
     fn fail(&mut self, program: &Program<A>, rank: u16, whom: &[u8])
         ensures { reached self.new ≡ failed program.now rank whom.now (reached self.old) }
@@ -288,106 +260,6 @@ impl<A: Allocator + Copy + Drop> Reading<A> {
         if is_number(whom, rank) && dies(program.may_be_declared(rank)) && runs(self.fate) {
             self.fate = Fate::Died;
         }
-    }
-
-    /// Takes the line of a call, behind its first word.
-    fn take_call(
-        &mut self,
-        alloc: A,
-        program: &Program<A>,
-        callers: &[u8],
-        rank: u16,
-        text: &[u8],
-    ) -> Result<(), AllocError>
-        ensures { OnOk result (reached self.new ≡ takes_call program.now callers.now rank text.now (reached self.old)) }
-    {
-        let (verb, rest) = split_word(text);
-        let fields = text_behind(rest);
-        if verb == b"fail".as_slice() {
-            self.declare(program, callers, rank, fields);
-            return Ok(());
-        }
-        if is_number(split_word(fields).0, rank) {
-            return self.begin(alloc, program, rank, text);
-        }
-        Ok(())
-    }
-
-    /// Takes the line of a reply, behind its first word.
-    fn take_reply(
-        &mut self,
-        program: &Program<A>,
-        callers: &[u8],
-        rank: u16,
-        fields: &[u8],
-    ) -> Result<(), AllocError>
-        ensures { OnOk result (reached self.new ≡ takes_reply program.now callers.now rank fields.now (reached self.old)) }
-    {
-        let (by, rest) = split_word(fields);
-        let (_, rest) = split_word(text_behind(rest));
-        let reply = text_behind(rest);
-        if by == b"-".as_slice() {
-            return self.answer_declaration(program, callers, rank, reply);
-        }
-        if is_number(by, rank) {
-            return self.answer(program, rank, reply);
-        }
-        Ok(())
-    }
-
-    /// Takes the line of an event, behind its first word.
-    fn take_event(&mut self, program: &Program<A>, rank: u16, fields: &[u8])
-        ensures { reached self.new ≡ takes_event program.now rank fields.now (reached self.old) }
-    {
-        let (_, rest) = split_word(fields);
-        let (verb, rest) = split_word(text_behind(rest));
-        if verb == b"fail".as_slice() {
-            self.fail(program, rank, text_behind(rest));
-        }
-    }
-
-    /// Takes a line of the trace.
-    fn take(
-        &mut self,
-        alloc: A,
-        program: &Program<A>,
-        callers: &[u8],
-        rank: u16,
-        line: &[u8],
-    ) -> Result<(), AllocError>
-        ensures { OnOk result (reached self.new ≡ takes program.now callers.now rank line.now (reached self.old)) }
-    {
-        let (word, rest) = split_word(line);
-        let fields = text_behind(rest);
-        if word == b"call".as_slice() {
-            return self.take_call(alloc, program, callers, rank, fields);
-        }
-        if word == b"reply".as_slice() {
-            return self.take_reply(program, callers, rank, fields);
-        }
-        if word == b"event".as_slice() {
-            self.take_event(program, rank, fields);
-        }
-        Ok(())
-    }
-
-    /// Takes the lines of a trace.
-    fn take_all(
-        &mut self,
-        alloc: A,
-        program: &Program<A>,
-        callers: &[u8],
-        rank: u16,
-        trace: &[u8],
-    ) -> Result<(), AllocError>
-        ensures { OnOk result (reached self.new ≡ takes_all program.now callers.now rank (lines_from [] trace.now) (reached self.old)) }
-    {
-        let mut left = trace;
-        'lines: while let Some((line, rest)) = split_line(left) {
-            self.take(alloc, program, callers, rank, line)?;
-            left = rest;
-        }
-        Ok(())
     }
 
     /// Whether the rank is at rest: its program is over, or stands before a wait, or goes round without a call.
@@ -399,6 +271,118 @@ impl<A: Allocator + Copy + Drop> Reading<A> {
         }
         let here = program.op(rank, self.place);
         !self.is_calling && (is_wait(here) || calls_nobody(here))
+    }
+}
+
+/// What the lines of a trace are read by.
+#[derive(Drop)]
+struct Reader<'a, A: Allocator> {
+    alloc: A,
+    program: &'a Program<A>,
+    // Who called each declaration, in order.
+    callers: &'a [u8],
+    // Whose reading it is.
+    rank: u16,
+}
+
+impl<'a, A: Allocator + Copy + Drop> Reader<'a, A> {
+    /// A declaration is called.
+    fn declare(&self, reading: &mut Reading<A>, whom: &[u8])
+        ensures { reached reading.new ≡ declared self.now.program.now self.now.callers.now self.now.rank whom.now (reached reading.old) }
+    {
+        let caller = self.callers.get(usize::from(reading.called)).copied();
+        if !reading.may_declare(self.program, self.rank, caller, whom) {
+            reading.fits = false;
+        }
+    }
+
+    /// A declaration is answered: that of this rank, where it is the one who declared.
+    fn answer_declaration(&self, reading: &mut Reading<A>, reply: &[u8]) -> Result<(), AllocError>
+        ensures { OnOk result (reached reading.new
+            ≡ declaration_answered self.now.program.now self.now.callers.now self.now.rank reply.now (reached reading.old)) }
+    {
+        let caller = self.callers.get(usize::from(reading.called)).copied();
+        reading.called = reading.called.saturating_add(1);
+        if is_caller(self.rank, caller) && runs(reading.fate) {
+            return reading.answer(self.program, self.rank, reply);
+        }
+        Ok(())
+    }
+
+    /// Takes the line of a call, behind its first word.
+    fn take_call(&self, reading: &mut Reading<A>, text: &[u8]) -> Result<(), AllocError>
+        ensures { OnOk result (reached reading.new
+            ≡ takes_call self.now.program.now self.now.callers.now self.now.rank text.now (reached reading.old)) }
+    {
+        let (verb, rest) = split_word(text);
+        let fields = text_behind(rest);
+        if verb == b"fail".as_slice() {
+            self.declare(reading, fields);
+            return Ok(());
+        }
+        if is_number(split_word(fields).0, self.rank) {
+            return reading.begin(self.alloc, self.program, self.rank, text);
+        }
+        Ok(())
+    }
+
+    /// Takes the line of a reply, behind its first word.
+    fn take_reply(&self, reading: &mut Reading<A>, fields: &[u8]) -> Result<(), AllocError>
+        ensures { OnOk result (reached reading.new
+            ≡ takes_reply self.now.program.now self.now.callers.now self.now.rank fields.now (reached reading.old)) }
+    {
+        let (by, rest) = split_word(fields);
+        let (_, rest) = split_word(text_behind(rest));
+        let reply = text_behind(rest);
+        if by == b"-".as_slice() {
+            return self.answer_declaration(reading, reply);
+        }
+        if is_number(by, self.rank) {
+            return reading.answer(self.program, self.rank, reply);
+        }
+        Ok(())
+    }
+
+    /// Takes the line of an event, behind its first word.
+    fn take_event(&self, reading: &mut Reading<A>, fields: &[u8])
+        ensures { reached reading.new ≡ takes_event self.now.program.now self.now.rank fields.now (reached reading.old) }
+    {
+        let (_, rest) = split_word(fields);
+        let (verb, rest) = split_word(text_behind(rest));
+        if verb == b"fail".as_slice() {
+            reading.fail(self.program, self.rank, text_behind(rest));
+        }
+    }
+
+    /// Takes a line of the trace.
+    fn take(&self, reading: &mut Reading<A>, line: &[u8]) -> Result<(), AllocError>
+        ensures { OnOk result (reached reading.new ≡ takes self.now.program.now self.now.callers.now self.now.rank line.now (reached reading.old)) }
+    {
+        let (word, rest) = split_word(line);
+        let fields = text_behind(rest);
+        if word == b"call".as_slice() {
+            return self.take_call(reading, fields);
+        }
+        if word == b"reply".as_slice() {
+            return self.take_reply(reading, fields);
+        }
+        if word == b"event".as_slice() {
+            self.take_event(reading, fields);
+        }
+        Ok(())
+    }
+
+    /// Takes the lines of a trace.
+    fn take_all(&self, reading: &mut Reading<A>, trace: &[u8]) -> Result<(), AllocError>
+        ensures { OnOk result (reached reading.new
+            ≡ takes_all self.now.program.now self.now.callers.now self.now.rank (lines_from [] trace.now) (reached reading.old)) }
+    {
+        let mut left = trace;
+        'lines: while let Some((line, rest)) = split_line(left) {
+            self.take(reading, line)?;
+            left = rest;
+        }
+        Ok(())
     }
 }
 
@@ -429,7 +413,13 @@ pub(crate) fn read_row<A: Allocator + Copy + Drop>(
 {
     let mut reading = Reading::new(alloc);
     reading.go_on(program, rank)?;
-    reading.take_all(alloc, program, callers, rank, trace)?;
+    let reader = Reader {
+        alloc,
+        program,
+        callers,
+        rank,
+    };
+    reader.take_all(&mut reading, trace)?;
     if !reading.fits || (at_rest && !reading.rests(program, rank)) {
         return Ok(None);
     }
