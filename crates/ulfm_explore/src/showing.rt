@@ -4,7 +4,7 @@ ghost use Rattle.std.specs.List.{All};
 ghost use Rattle.ulfm_explore.specs.{Shows.{IsOutcome, IsShown, Shows, Tells}, Views.{row_of, told_of}};
 
 use crate::confirm::{Shown, are_same, show};
-use crate::telling::{is_first_answer, tell};
+use crate::telling::{Outcomes, is_first_answer};
 use std::alloc::{AllocError, AllocFailed, Allocator};
 use thiserror::Error;
 use ulfm_schedules::{Program, Searched, search};
@@ -129,21 +129,6 @@ fn one_script<A: Allocator + Copy + Drop>(
     Ok(shown.script)
 }
 
-/// What is told of all outcomes of a search, of which this many states came up.
-fn all_outcomes<A: Allocator + Copy + Drop>(
-    alloc: A,
-    program: &Program<A>,
-    searched: &mut Searched<A>,
-    is_whole: bool,
-    states: u32,
-) -> Result<Vec<u8, A>, ExploreFault>
-    ensures { IfOk result (λ text. Tells program.now is_whole states text.items) }
-{
-    let shown = confirm_all(alloc, program, searched)?;
-    let text = tell(alloc, program, &shown, is_whole, states)?;
-    Ok(text)
-}
-
 /// What is told of a search that has ended: the script of one outcome, or all of them.
 fn text_of<A: Allocator + Copy + Drop>(
     alloc: A,
@@ -158,7 +143,16 @@ fn text_of<A: Allocator + Copy + Drop>(
 {
     match outcome {
         Some(number) => one_script(alloc, program, searched, number),
-        None => all_outcomes(alloc, program, searched, is_whole, states),
+        None => {
+            let shown = confirm_all(alloc, program, searched)?;
+            let outcomes = Outcomes {
+                program,
+                shown: shown.as_slice(),
+                is_whole,
+            };
+            let text = outcomes.tell(alloc, states)?;
+            Ok(text)
+        }
     }
 }
 

@@ -1,5 +1,5 @@
 //! What is told of outcomes: each once, the questions' answers, and how many states there are.
-ghost use Rattle.std.specs.Prelude.{◌≡◌, OnOk, IfOk, codes, false, map, option_map, slice_get, true, ◌∷◌, [], ◌++◌};
+ghost use Rattle.std.specs.Prelude.{◌≡◌, OnOk, IfOk, codes, false, length, map, option_map, slice_get, true, ◌∷◌, [], ◌++◌};
 ghost use Rattle.std.specs.Fmt.{decimal};
 ghost use Rattle.ulfm_script.specs.Scripts.{lines_from};
 ghost use Rattle.ulfm_explore.specs.{Tellings.{answer_to, count_text, counts_to, differ, ended_otherwise, fate_text, found_to, has_all, has_noted, is_answer, is_asked_for, is_stuck, is_stuck_one, is_unlike, next_number, none_text, notes_to, number_to, outcome_to, outcomes_to, question_text, question_to, questions_to, row_to, rows_to, short, some, some_note, told_text}, Views.{row_of, told_of}};
@@ -10,11 +10,11 @@ use std::alloc::{AllocError, Allocator};
 use ulfm_schedules::{Fate, Find, Program, Row, has_words};
 use ulfm_script::print_point;
 
-/// The word of a fate.
-fn fate_word(fate: Fate) -> &'static [u8]
-    ensures { result.now ≡ fate_text fate }
+/// The word of what became of a rank.
+fn fate_word<A: Allocator>(row: &Row<A>) -> &'static [u8]
+    ensures { result.now ≡ fate_text row.now.fate }
 {
-    match fate {
+    match row.fate {
         Fate::Runs => b"stuck",
         Fate::Ended => b"ended",
         Fate::Out => b"out",
@@ -48,7 +48,7 @@ fn print_row<A: Allocator>(
     text.extend_from_slice(b"rank ")?;
     print_point(text, number)?;
     text.push(b' ')?;
-    text.extend_from_slice(fate_word(row.fate))?;
+    text.extend_from_slice(fate_word(row))?;
     print_noted(text, &row.noted)?;
     text.push(b'\n')?;
     Ok(())
@@ -200,7 +200,7 @@ fn has_noted<A: Allocator>(words: &[u8], row: Option<&Row<A>>) -> bool
     ensures { result ≡ has_noted words.now (option_map (λ row. row_of row.now) row.entry) }
 {
     match row {
-        Some(row) => fate_word(row.fate) == words || some_note(&row.noted, words),
+        Some(row) => fate_word(row) == words || some_note(&row.noted, words),
         None => false,
     }
 }
@@ -225,14 +225,16 @@ enum Question {
     Find,
 }
 
-/// The word of a question.
-fn question_word(question: Question) -> &'static [u8]
-    ensures { result.now ≡ question_text question }
-{
-    match question {
-        Question::Alike => b"alike ",
-        Question::Ended => b"ended ",
-        Question::Find => b"find ",
+impl Question {
+    /// Its word.
+    fn word(self) -> &'static [u8]
+        ensures { result.now ≡ question_text self }
+    {
+        match self {
+            Question::Alike => b"alike ",
+            Question::Ended => b"ended ",
+            Question::Find => b"find ",
+        }
     }
 }
 
@@ -291,24 +293,6 @@ pub(crate) fn is_first_answer<A: Allocator>(
         || answers_first(program, Question::Find, earlier, rows)
 }
 
-/// That no outcome answers a question: of those that came up, where not all schedules were tried.
-fn none_word(is_whole: bool) -> &'static [u8]
-    ensures { result.now ≡ none_text is_whole }
-{
-    if is_whole {
-        b"none\n"
-    } else {
-        b"none so far\n"
-    }
-}
-
-/// How many outcomes there are: all, or some, where not all schedules were tried.
-fn count_word(is_whole: bool) -> &'static [u8]
-    ensures { result.now ≡ count_text is_whole }
-{
-    if is_whole { b"all" } else { b"some" }
-}
-
 /// The outcome that answers a question, with its script.
 fn print_found<A: Allocator>(
     text: &mut Vec<u8, A>,
@@ -322,89 +306,96 @@ fn print_found<A: Allocator>(
     text.extend_from_slice(b"end\n")
 }
 
-/// The answer to a question: the first outcome, with its script; or that there is none.
-fn print_answer<A: Allocator>(
-    text: &mut Vec<u8, A>,
-    program: &Program<A>,
-    question: Question,
-    is_whole: bool,
-    shown: &[Shown<A>],
-) -> Result<(), AllocError>
-    ensures { OnOk result (text.new.items ≡ answer_to text.old.items program.now question is_whole 1 (map told_of shown.now)) }
-{
-    let mut number = 1u32;
-    for outcome in shown {
-        if is_answer(program, question, &outcome.rows) {
-            return print_found(text, number, &outcome.script);
+/// The outcomes of a program that came up.
+#[derive(Drop)]
+pub(crate) struct Outcomes<'a, A: Allocator> {
+    /// The program.
+    pub(crate) program: &'a Program<A>,
+    /// The outcomes.
+    pub(crate) shown: &'a [Shown<A>],
+    /// Whether all schedules were tried.
+    pub(crate) is_whole: bool,
+}
+
+impl<'a, A: Allocator> Outcomes<'a, A> {
+    /// That none of them answers a question.
+    fn none_word(&self) -> &'static [u8]
+        ensures { result.now ≡ none_text self.now.is_whole }
+    {
+        if self.is_whole {
+            b"none\n"
+        } else {
+            b"none so far\n"
         }
-        number = number.saturating_add(1);
     }
-    text.extend_from_slice(none_word(is_whole))
-}
 
-/// The answer to a question, where it is asked.
-fn print_question<A: Allocator>(
-    text: &mut Vec<u8, A>,
-    program: &Program<A>,
-    question: Question,
-    is_whole: bool,
-    shown: &[Shown<A>],
-) -> Result<(), AllocError>
-    ensures { OnOk result (text.new.items ≡ question_to text.old.items program.now question is_whole (map told_of shown.now)) }
-{
-    if !is_asked(program, question) {
-        return Ok(());
+    /// How many there are: all, or some.
+    fn count_word(&self) -> &'static [u8]
+        ensures { result.now ≡ count_text self.now.is_whole }
+    {
+        if self.is_whole { b"all" } else { b"some" }
     }
-    text.extend_from_slice(question_word(question))?;
-    print_answer(text, program, question, is_whole, shown)
-}
 
-/// The answers to all questions.
-fn print_questions<A: Allocator>(
-    text: &mut Vec<u8, A>,
-    program: &Program<A>,
-    is_whole: bool,
-    shown: &[Shown<A>],
-) -> Result<(), AllocError>
-    ensures { OnOk result (text.new.items ≡ questions_to text.old.items program.now is_whole (map told_of shown.now)) }
-{
-    print_question(text, program, Question::Alike, is_whole, shown)?;
-    print_question(text, program, Question::Ended, is_whole, shown)?;
-    print_question(text, program, Question::Find, is_whole, shown)
-}
+    /// The answer to a question: the first outcome, with its script; or that there is none.
+    fn print_answer(&self, text: &mut Vec<u8, A>, question: Question) -> Result<(), AllocError>
+        ensures { OnOk result (text.new.items
+            ≡ answer_to text.old.items self.now.program.now question self.now.is_whole 1 (map told_of self.now.shown.now)) }
+    {
+        let mut number = 1u32;
+        for outcome in self.shown {
+            if is_answer(self.program, question, &outcome.rows) {
+                return print_found(text, number, &outcome.script);
+            }
+            number = number.saturating_add(1);
+        }
+        text.extend_from_slice(self.none_word())
+    }
 
-/// The last line: how many outcomes and states there are.
-fn print_counts<A: Allocator>(
-    text: &mut Vec<u8, A>,
-    is_whole: bool,
-    outcomes: u32,
-    states: u32,
-) -> Result<(), AllocError>
-    ensures { OnOk result (text.new.items ≡ counts_to text.old.items is_whole outcomes states) }
-{
-    text.extend_from_slice(count_word(is_whole))?;
-    text.extend_from_slice(b" outcomes ")?;
-    print_point(text, outcomes)?;
-    text.extend_from_slice(b" states ")?;
-    print_point(text, states)?;
-    text.push(b'\n')?;
-    Ok(())
-}
+    /// The answer to a question, where it is asked.
+    fn print_question(&self, text: &mut Vec<u8, A>, question: Question) -> Result<(), AllocError>
+        ensures { OnOk result (text.new.items
+            ≡ question_to text.old.items self.now.program.now question self.now.is_whole (map told_of self.now.shown.now)) }
+    {
+        if !is_asked(self.program, question) {
+            return Ok(());
+        }
+        text.extend_from_slice(question.word())?;
+        self.print_answer(text, question)
+    }
 
-/// What is told of a program whose outcomes are these.
-pub(crate) fn tell<A: Allocator + Copy + Drop>(
-    alloc: A,
-    program: &Program<A>,
-    shown: &[Shown<A>],
-    is_whole: bool,
-    states: u32,
-) -> Result<Vec<u8, A>, AllocError>
-    ensures { IfOk result (λ text. text.items ≡ told_text program.now (map told_of shown.now) is_whole states) }
-{
-    let mut text = Vec::new(alloc);
-    print_outcomes(&mut text, shown)?;
-    print_questions(&mut text, program, is_whole, shown)?;
-    let outcomes = u32::try_from(shown.len()).unwrap_or(u32::MAX);
-    print_counts(&mut text, is_whole, outcomes, states)?;
-    Ok(text)
+    /// The answers to all questions.
+    fn print_questions(&self, text: &mut Vec<u8, A>) -> Result<(), AllocError>
+        ensures { OnOk result (text.new.items
+            ≡ questions_to text.old.items self.now.program.now self.now.is_whole (map told_of self.now.shown.now)) }
+    {
+        self.print_question(text, Question::Alike)?;
+        self.print_question(text, Question::Ended)?;
+        self.print_question(text, Question::Find)
+    }
+
+    /// The last line: how many outcomes and states there are.
+    fn print_counts(&self, text: &mut Vec<u8, A>, states: u32) -> Result<(), AllocError>
+        ensures { OnOk result (text.new.items
+            ≡ counts_to text.old.items self.now.is_whole (short (length (map told_of self.now.shown.now))) states) }
+    {
+        let outcomes = u32::try_from(self.shown.len()).unwrap_or(u32::MAX);
+        text.extend_from_slice(self.count_word())?;
+        text.extend_from_slice(b" outcomes ")?;
+        print_point(text, outcomes)?;
+        text.extend_from_slice(b" states ")?;
+        print_point(text, states)?;
+        text.push(b'\n')?;
+        Ok(())
+    }
+
+    /// What is told of them, where so many states came up.
+    pub(crate) fn tell(&self, alloc: A, states: u32) -> Result<Vec<u8, A>, AllocError>
+        ensures { IfOk result (λ text. text.items ≡ told_text self.now.program.now (map told_of self.now.shown.now) self.now.is_whole states) }
+    {
+        let mut text = Vec::new(alloc);
+        print_outcomes(&mut text, self.shown)?;
+        self.print_questions(&mut text)?;
+        self.print_counts(&mut text, states)?;
+        Ok(text)
+    }
 }
