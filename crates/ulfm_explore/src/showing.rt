@@ -5,7 +5,11 @@ ghost use Rattle.ulfm_explore.specs.{Shows.{IsOutcome, IsShown, Shows, Tells}, V
 
 use crate::confirm::{Shown, are_same, show};
 use crate::telling::{Outcomes, is_first_answer};
+<<<<<<< HEAD
 use std::alloc::{AllocError, Allocator};
+=======
+use std::alloc::{AllocError, AllocFailed, Allocator};
+>>>>>>> acc18a391dad3072715d46fc957216708ab48da8
 use thiserror::Error;
 use ulfm_schedules::{Program, Searched, search};
 
