@@ -5,11 +5,7 @@ ghost use Rattle.ulfm_explore.specs.{Shows.{IsOutcome, IsShown, Shows, Tells}, V
 
 use crate::confirm::{Shown, are_same, show};
 use crate::telling::{Outcomes, is_first_answer};
-<<<<<<< HEAD
-use std::alloc::{AllocError, Allocator};
-=======
 use std::alloc::{AllocError, AllocFailed, Allocator};
->>>>>>> acc18a391dad3072715d46fc957216708ab48da8
 use thiserror::Error;
 use ulfm_schedules::{Program, Searched, search};
 
@@ -38,6 +34,12 @@ pub enum ExploreFault {
 
 impl From<AllocError> for ExploreFault {
     fn from(_error: AllocError) -> ExploreFault {
+        ExploreFault::Memory
+    }
+}
+
+impl<T: Drop> From<AllocFailed<T>> for ExploreFault {
+    fn from(_error: AllocFailed<T>) -> ExploreFault {
         ExploreFault::Memory
     }
 }
@@ -106,10 +108,7 @@ fn confirm_all<A: Allocator + Copy + Drop>(
     let mut shown = Vec::new(alloc);
     for number in 0..searched.count() {
         let one = confirmed_behind(alloc, program, searched, number, &shown)?;
-        match shown.push(one) {
-            Ok(()) => {}
-            Err(_) => return Err(ExploreFault::Memory),
-        }
+        shown.push(one)?;
     }
     Ok(shown)
 }
