@@ -46,20 +46,20 @@ fn parse<'a>(global: Global, words: &'a [&'a str]) -> Result<ArgMatches<'a>, Err
 fn read_command(matches: &ArgMatches<'_>) -> Asked
     ensures { IsEntered (subcommand_rows_of matches.now) result }
 {
-    let Some((name, options)) = matches.subcommand() else {
-        return Asked::Bad(Reason::NoCommand);
-    };
-    match read_task(name, options) {
+    match read_task(matches) {
         Ok(task) => Asked::Task(task),
         Err(reason) => Asked::Bad(reason),
     }
 }
 
-/// The task of this name, with its options, if there is one.
-fn read_task(name: &str, options: &ArgMatches<'_>) -> Result<Task, Reason>
-    ensures { MatchResult result (λ task. Names (Some (name.now, rows_of (found_of options.now))) task)
-        (λ reason. (task : TaskOf) → Names (Some (name.now, rows_of (found_of options.now))) task → ⊥) }
+/// The task that is named, with its options, if there is one.
+fn read_task(matches: &ArgMatches<'_>) -> Result<Task, Reason>
+    ensures { MatchResult result (λ task. Names (subcommand_rows_of matches.now) task)
+        (λ reason. (task : TaskOf) → Names (subcommand_rows_of matches.now) task → ⊥) }
 {
+    let Some((name, options)) = matches.subcommand() else {
+        return Err(Reason::NoCommand);
+    };
     if name == "run" {
         Ok(Task::Run(read_run(options)))
     } else if name == "migrate" {

@@ -6,5 +6,5 @@ use Rattle.ulfm_command.specs.Verbs.{choice_rule}
 use Rattle.ulfm_command.proofs.commands.command_of.Given as goal
 
 abbrev pub invariant-loop-choice : goal.invariant-loop-choice
-invariant-loop-choice g l =
+invariant-loop-choice l =
     IsCommand (fold (λ app choice. with_rule app (choice_rule choice)) (new_app l.verb.name.now) (take l.choice-index l.verb.choices.now)) l.command

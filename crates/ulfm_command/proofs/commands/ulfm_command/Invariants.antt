@@ -5,4 +5,4 @@ use Rattle.ulfm_command.specs.Verbs.{with_verb}
 use Rattle.ulfm_command.proofs.commands.ulfm_command.Given as goal
 
 abbrev pub invariant-loop-verb : goal.invariant-loop-verb
-invariant-loop-verb g l = IsCommand (fold with_verb bare (take l.verb-index l.verb-items)) l.ulfm
+invariant-loop-verb l = IsCommand (fold with_verb bare (take l.verb-index l.verb-items)) l.ulfm
