@@ -1,5 +1,8 @@
 //! What the lines before a bad one tell of its caller: the events, the caller's call under way, and how far the caller has come on each
 //! communicator.
+ghost use Rattle.std.specs.Prelude.{IfSome};
+ghost use Rattle.ulfm_model.specs.Words.{MayOpen};
+
 use std::alloc::{AllocError, Allocator};
 use ulfm_judge::Judge;
 use ulfm_laws::FlagAnd;
@@ -301,7 +304,9 @@ fn take_lines<A: Allocator + Copy, T: Taker>(
 }
 
 /// The limits in the first line of a trace, and the text behind it.
-fn limits_of(before: &[u8]) -> Option<(Limits, &[u8])> {
+fn limits_of(before: &[u8]) -> Option<(Limits, &[u8])>
+    ensures { IfSome result (λ both. MayOpen both.0) }
+{
     let (first, rest) = split_line(before)?;
     match read_header(HeaderKind::Trace, first) {
         Ok(limits) => Some((limits, rest)),
