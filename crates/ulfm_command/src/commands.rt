@@ -1,8 +1,9 @@
 //! The program's commands and their options, as the command line crate takes them.
 ghost use Rattle.std.specs.Prelude.{◌≡◌, IfOk, false};
-ghost use Rattle.clap.specs.Words.{rule_of};
+ghost use Rattle.std.specs.List.{fold};
+ghost use Rattle.clap.specs.Words.{App, rule_of};
 ghost use Rattle.ulfm_command.specs.CommandLines.{IsCommand, ulfm};
-ghost use Rattle.ulfm_command.specs.Verbs.{choice_rule, verb_app};
+ghost use Rattle.ulfm_command.specs.Verbs.{choice_rule, verb_app, with_verb};
 
 use crate::texts::{ULFM_HELP, VERSION};
 use crate::verbs::{Choice, VERBS, Verb};
@@ -48,18 +49,30 @@ fn command_of<'a>(global: Global, verb: &Verb) -> Result<Command<'a>, AllocError
     Ok(command)
 }
 
+/// A command with verbs.
+fn with_verbs<'a>(
+    global: Global,
+    command: Command<'a>,
+    verbs: &[Verb],
+) -> Result<Command<'a>, AllocError>
+    ensures { (app : App) → IsCommand app command.entry → IfOk result (IsCommand (fold with_verb app verbs.now)) }
+{
+    let mut command = command;
+    for verb in verbs {
+        command = command.subcommand(command_of(global, verb)?)?;
+    }
+    Ok(command)
+}
+
 /// `ulfm`, which wants a verb.
 pub(crate) fn ulfm_command<'a>(global: Global) -> Result<Command<'a>, AllocError>
     ensures { IfOk result (IsCommand ulfm) }
 {
-    let mut ulfm = Command::new(global, "ulfm")
+    let ulfm = Command::new(global, "ulfm")
         .bin_name("ulfm")?
         .about("A fault tolerant agreement core, driven by scripts and by races of threads")
         .after_help(ULFM_HELP)
         .version(VERSION)
         .subcommand_required(true);
-    for verb in &VERBS {
-        ulfm = ulfm.subcommand(command_of(global, verb)?)?;
-    }
-    Ok(ulfm)
+    with_verbs(global, ulfm, &VERBS)
 }
