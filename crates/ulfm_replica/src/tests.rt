@@ -1,4 +1,6 @@
 // The layout of entries as bytes, against bytes written by hand; and a small log that is fed.
+ghost use Rattle.std.specs.Prelude.{◌≤◌};
+
 use crate::{ENTRY_BYTES, bytes_of, entry_of, feed};
 use std::alloc::Global;
 use std::process::Abort;
@@ -22,7 +24,9 @@ fn by_rank(rank: u16, event: Event<FlagAnd>) -> Entry<FlagAnd> {
 }
 
 /// A contribution of a rank that knows of so many failures, of which so many are acknowledged.
-fn settle(of: (u16, u16, u16), offer: Offer<FlagAnd>, known: u16, acked: u16) -> Event<FlagAnd> {
+fn settle(of: (u16, u16, u16), offer: Offer<FlagAnd>, known: Known, acked: Acked) -> Event<FlagAnd>
+    requires { acked.count ≤ known.count }
+{
     let (comm, round, rank) = of;
     Event::Settle {
         comm,
@@ -30,22 +34,20 @@ fn settle(of: (u16, u16, u16), offer: Offer<FlagAnd>, known: u16, acked: u16) ->
         rank,
         given: Contribution {
             offer,
-            known: Known { count: known },
-            acked: Acked { count: acked },
+            known,
+            acked,
         },
     }
 }
 
 /// A mark by somebody who knows of so many failures.
-fn mark(of: (u16, u16, u16), known: u16) -> Event<FlagAnd> {
+fn mark(of: (u16, u16, u16), known: MarkCount) -> Event<FlagAnd> {
     let (comm, round, rank) = of;
     Event::Mark {
         comm,
         round,
         rank,
-        known: MarkCount {
-            known: Known { count: known },
-        },
+        known,
     }
 }
 
@@ -85,19 +87,38 @@ fn each_kind_has_its_bytes(rt: HostRuntime) {
             ],
         ),
         (
-            by_rank(513, settle((3, 1027, 513), flag, 1024, 260)),
+            by_rank(
+                513,
+                settle(
+                    (3, 1027, 513),
+                    flag,
+                    Known { count: 1024 },
+                    Acked { count: 260 },
+                ),
+            ),
             [
                 2, 1, 1, 2, 3, 0, 3, 4, 1, 2, 0, 4, 4, 1, 0, 0, 8, 7, 6, 5, 4, 3, 2, 1,
             ],
         ),
         (
-            by_rank(1, settle((0, 0, 1), ids, 0, 0)),
+            by_rank(
+                1,
+                settle((0, 0, 1), ids, Known { count: 0 }, Acked { count: 0 }),
+            ),
             [
                 3, 1, 1, 0, 0, 0, 0, 0, 1, 0, 0, 0, 0, 0, 0, 0, 1, 0, 0, 0, 0, 0, 0, 255,
             ],
         ),
         (
-            by_rank(0, mark((1, 2, 5), 257)),
+            by_rank(
+                0,
+                mark(
+                    (1, 2, 5),
+                    MarkCount {
+                        known: Known { count: 257 },
+                    },
+                ),
+            ),
             [
                 4, 1, 0, 0, 1, 0, 2, 0, 5, 0, 1, 1, 0, 0, 0, 0, 0, 0, 0, 0, 0, 0, 0, 0,
             ],
@@ -172,7 +193,12 @@ fn other_bytes_are_no_entrys(rt: HostRuntime) {
 fn offers(rank: u16, bits: u64) -> Entry<FlagAnd> {
     by_rank(
         rank,
-        settle((0, 0, rank), Offer::Ctx(CtxMask { bits }), 0, 0),
+        settle(
+            (0, 0, rank),
+            Offer::Ctx(CtxMask { bits }),
+            Known { count: 0 },
+            Acked { count: 0 },
+        ),
     )
 }
 
@@ -190,7 +216,15 @@ fn feed_all(rt: &impl Abort, alloc: Global) -> Result<(), Fail> {
     let mut pass: PlainPass<FlagAnd> = PlainPass::new(alloc, limits)?;
     let mut numbers: Numbers<FlagAnd, Global> = Numbers::new(alloc, limits.ranks)?;
     let failure = failure(2);
-    let mark = by_rank(0, mark((0, 0, 2), 1));
+    let mark = by_rank(
+        0,
+        mark(
+            (0, 0, 2),
+            MarkCount {
+                known: Known { count: 1 },
+            },
+        ),
+    );
     let spawn = by_rank(1, spawn(1, 0, 0));
     let arrival = by_rank(1, arrive(1, 1, 1));
     let revocation = by_rank(0, Event::Revoke { comm: 1 });
