@@ -78,11 +78,11 @@ def conv(c,name,s):
     s=s.replace('.collect(','.collect_in(')
     s=re.sub(r'(?m)^const _: \(\) = prove!\(.*\);$','',s)
     s=re.sub(r'prove!\(.*?\);','',s)
-    s=s.replace('use std::marker::Model;','').replace('fmt<W: Write>','fmt').replace('Formatter<W>','Formatter')
+    s=s.replace('use std::marker::Model;','').replace('use std::marker::{Model, PhantomData};','use std::marker::PhantomData;').replace('fmt<W: Write>','fmt').replace('Formatter<W>','Formatter')
     s=s.replace('use itoa::Buffer;','use crate::rstd::Buffer;')
     s=s.replace('use std::sync::ArcSlice;','use crate::rstd::ArcSlice;').replace('use std::ops::DerefSlice;','use std::ops::Deref;')
     s=re.sub(r'\bDerefSlice for (\S+) \{\s*type Elem = (\w+);',r'Deref for \1 { type Target = [\2];',s)
-    s=re.sub(r'impl<A: Allocator> Model for HeldComm<A> \{\s*\}','',s)
+    s=re.sub(r'impl(?:<[^{>]*>)? Model for [A-Za-z<>]+ \{\s*\}','',s)
     s=re.sub(r'(fn clone\(&self\) -> )Result<Self, AllocError>\s*\{\s*Ok\(\*self\)\s*\}',r'\1Self { *self }',s)
     if name=='lib':
         for k in SKIP.get(c,()):
