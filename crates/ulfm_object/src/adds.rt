@@ -184,16 +184,15 @@ fn added_by_shrink<P: Meld, A: Allocator + Copy + Drop>(
     Ok(events)
 }
 
-/// What the poll of a communicator adds, on which this request is open.
+/// What the poll of a communicator adds.
 fn added_by_poll<P: Meld, A: Allocator + Copy + Drop>(
     asked: &Asked<P, A>,
     x: &HeldComm<A>,
-    request: Option<Request>,
 ) -> Result<Vec<Event<P>, A>, AllocError>
     ensures { IfOk result (λ events. events.items
-        ≡ added_by_poll P.meld asked.now.limits asked.now.history.now asked.now.own.now.number x.now.comm request) }
+        ≡ added_by_poll P.meld asked.now.limits asked.now.history.now asked.now.own.now.number x.now.comm x.now.request) }
 {
-    let Some(request) = request else {
+    let Some(request) = x.request else {
         return Ok(Vec::new(asked.alloc));
     };
     match request {
@@ -246,7 +245,7 @@ pub(crate) fn added<P: Meld, A: Allocator + Copy + Drop>(
             };
             unless(alloc, arrived, event)
         }
-        Call::Poll { .. } => added_by_poll(asked, x, x.request),
+        Call::Poll { .. } => added_by_poll(asked, x),
         Call::Revoke { comm, .. } => {
             let revoked = is_revoked(history, comm);
             unless(alloc, revoked, Event::Revoke { comm })

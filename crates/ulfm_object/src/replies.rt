@@ -101,24 +101,24 @@ fn have_arrived<P: Copy>(group: &[u16], history: &[Entry<P>], comm: u16, round: 
         .all(|rank| has_arrived(history, comm, round, *rank))
 }
 
-/// The reply of a barrier's poll; its look is at the history before.
+/// The reply of a barrier's poll in this round; its look is at the history before.
 fn barrier_poll<P: Meld, A: Allocator + Copy + Drop>(
     asked: &Asked<P, A>,
+    after: &[Entry<P>],
     x: &HeldComm<A>,
-    round: &Round<P, A>,
+    round: u16,
 ) -> Result<Reply<P>, AllocError>
-    ensures { (events : List (Event P)) → let view = view_after asked.now.history.now round.now.history.now events in
-        IfOk result (λ reply. reply ≡ barrier_reply view x.now round.now.number) }
+    ensures { (events : List (Event P)) → let view = view_after asked.now.history.now after.now events in
+        IfOk result (λ reply. reply ≡ barrier_reply view x.now round) }
 {
-    let after = round.history;
     if is_revoked(after, x.comm) {
         return Ok(Reply::Refused(Refusal::IsRevoked));
     }
-    if have_arrived(&x.group, after, x.comm, round.number) {
+    if have_arrived(&x.group, after, x.comm, round) {
         return Ok(Reply::Done);
     }
     let failed = failed_among(asked.alloc, &x.group, asked.history)?;
-    if !have_arrived(&failed, after, x.comm, round.number) {
+    if !have_arrived(&failed, after, x.comm, round) {
         return Ok(Reply::Refused(Refusal::ProcFailed));
     }
     Ok(Reply::Pending)
@@ -170,7 +170,7 @@ fn open_reply<P: Meld, A: Allocator + Copy + Drop>(
     match request {
         Request::Agree { round } => agree_poll(&asked.round(after, x, round)),
         Request::Shrink { round } => shrink_poll(&asked.round(after, x, round), asked.own.number),
-        Request::Barrier { round } => barrier_poll(asked, x, &asked.round(after, x, round)),
+        Request::Barrier { round } => barrier_poll(asked, after, x, round),
     }
 }
 

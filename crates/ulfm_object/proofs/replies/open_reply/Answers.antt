@@ -7,8 +7,7 @@ use Rattle.ulfm_object.proofs.replies.open_reply.Goals as goal
 
 pub returns-in-Barrier : goal.returns-in-Barrier
 returns-in-Barrier g c = λ events.
-    let round = c.round-in-Barrier.ensures in
-    rw c.in-Barrier.is (rw (round.history, round.number) at (c.barrier_poll.ensures events))
+    rw c.in-Barrier.is (c.barrier_poll.ensures events)
 
 pub returns-in-Agree : goal.returns-in-Agree
 returns-in-Agree g c = λ events.
