@@ -1,11 +1,11 @@
 -- What the judge's steps do, over plain lists.
 use Rattle.std.proofs.Common.{◌≡◌, ◌<◌, ◌∷◌, ◌++◌, [], ℕ, Bool, true, false, cond, not, List, length, Option, Some, None, is_some, get_or, set, refl, sym, ap, ap₂, ◌∙◌, inl, inr}
-use Rattle.std.specs.Prelude.{◌&&◌, find, take, unwrap_or}
+use Rattle.std.specs.Prelude.{◌&&◌, find, if◌then◌else◌, take, unwrap_or}
 use Rattle.ulfm_model.specs.declared.{call.Call.{Call}, event.Caller.{Caller}, event.Event.{Event}, limits.Limits.{Limits}}
 use Rattle.ulfm_model.specs.{Answers.{traits_of}, History.{History, failures}, Records.{Record}}
 use Rattle.ulfm_model.specs.declared.record.RankRecord.{RankRecord}
 use Rattle.ulfm_model.specs.declared.line.{Line.{Line}, Why.{Why}}
-use Rattle.ulfm_model.specs.Traces.{Takes, Traced, Under, call_by, caller_of, change_by, found_by, is_owned, record_in, same_caller, with_event}
+use Rattle.ulfm_model.specs.Traces.{IsBad, Takes, Traced, Under, call_by, caller_of, change_by, found_by, is_owned, record_in, same_caller, with_event}
 use Rattle.ulfm_judge.specs.declared.calls.OpenCall.{OpenCall}
 use Rattle.ulfm_judge.specs.{Kept.{AreCalls, GoesWith, place_by, seat_of, traced_of, under_of}, Tests.{due_test, own_by_test, own_call_test, own_test}}
 use Rattle.ulfm_numbers.specs.{Seen.{seen_of}, Tests.{follow_test}}
@@ -45,6 +45,12 @@ module _ {P A : Type 0} (meld : P → P → P) (limits : Limits) (h : History P)
   -- where a call stands, one is open
   pub open_somewhere : (by : Caller) (i : ℕ) → place_by calls by ≡ Some i → (u : Under P) × (call_by now by ≡ Some u)
   open_somewhere by i at = let d = (stood calls by i at).call in (under_of (get_or calls i d), open_here by i d at)
+
+  -- a line that says a reply which is none: its caller has no call open, or has one that isn't answered so
+  pub unread : (by : Caller) (point : ℕ) (place : Option ℕ) → place_by calls by ≡ place
+      → IsBad meld now group (Line.Replied by point None) (if is_some place then Why.Reply else Why.Call)
+  unread by point None at = inl (refl, λ is_open. absurd (cc (ap is_some (none_open by at), is_open)))
+  unread by point (Some i) at = inr (refl, ap is_some (open_somewhere by i at).1, λ may. may)
 
   -- a call begins, where there is room for it
   pub begins : (asked : Call P) (roomy : List (OpenCall P A)) (i : ℕ) (y : OpenCall P A) → place_by calls (traits_of asked).by ≡ None → AreCalls roomy us → i ≡ seat_of (traits_of asked).by → i < length roomy

@@ -1,24 +1,23 @@
 //! The judge of traces.
-ghost use Rattle.std.specs.Prelude.{◌≡◌, ◌≤◌, IfOk, List, ℕ, length, map, max};
-ghost use Rattle.ulfm_judge.specs.Kept.{AreCalls, GoesWith, needed_by, traced_of};
+ghost use Rattle.std.specs.Prelude.{◌≡◌, ◌≤◌, IfOk, List, ℕ, if◌then◌else◌, is_some, length, map, max};
+ghost use Rattle.ulfm_judge.specs.Kept.{AreCalls, needed_by, place_by, traced_of};
 ghost use Rattle.ulfm_judge.specs.Telling.{TellsSome};
 ghost use Rattle.ulfm_numbers.specs.Telling.{TablesTell};
 ghost use Rattle.ulfm_model.specs.History.{History, first_ranks};
 ghost use Rattle.ulfm_model.specs.Words.{MayOpen};
 ghost use Rattle.ulfm_model.specs.Traces.{Takes, Traced, Under, nothing};
-ghost use Rattle.ulfm_model.specs.declared.line.Line.{Line};
+ghost use Rattle.ulfm_model.specs.declared.line.Why.{Why};
 
 use crate::calls::{OpenCall, begin, look, place_by};
 use crate::closing::take_reply;
 use crate::events::happen;
 use std::alloc::{AllocError, Allocator};
 use ulfm_laws::meld::Packed;
-use ulfm_model::event::{Caller, Event};
+use ulfm_model::event::Caller;
 use ulfm_model::fresh::new_records;
 use ulfm_model::limits::Limits;
 use ulfm_model::line::{Line, Why};
 use ulfm_model::record::RankRecord;
-use ulfm_model::reply::Reply;
 use ulfm_numbers::numbers::Numbers;
 
 /// Judges the lines of a trace one after another. Of what happened it keeps when, by what was said, and no history: what a line takes
@@ -35,58 +34,13 @@ pub struct Judge<P: Packed, A: Allocator> {
     ghost numbered: { map (λ own. own.number) records.items ≡ first_ranks limits.ranks },
 }
 
-/// Takes in an event, if the line tells one.
-#[inline(always)]
-fn happen_told<P: Packed, A: Allocator + Copy + Drop>(
-    alloc: A,
-    limits: Limits,
-    numbers: &mut Numbers<P, A>,
-    records: &[RankRecord<A>],
-    calls: &mut [OpenCall<P, A>],
-    by: Caller,
-    event: Option<Event<P>>,
-) -> Result<Option<Why>, AllocError>
-    requires { map (λ own. own.number) records.now ≡ first_ranks limits.ranks }
-    ensures { (h : History P) (us : List (Under P)) (group : List ℕ) → TablesTell limits.ranks numbers.old h → AreCalls calls.old us
-        → let old = traced_of limits h records.now us in
-        IfOk result (TellsSome limits numbers.new records.now calls.new (Takes P.meld old group (Line.Happened by event))) }
+/// Why a reply that no reply is may not come: none has begun that it could answer, or it is none of that call's.
+fn why_unread<P: Packed, A: Allocator>(calls: &[OpenCall<P, A>], by: Caller) -> Why
+    ensures { result ≡ (if is_some (place_by calls.now by) then Why.Reply else Why.Call) }
 {
-    match event {
-        Some(event) => happen(alloc, limits, numbers, records, calls, by, event),
-        None => Ok(Some(Why::Event)),
-    }
-}
-
-/// Takes in a reply, if the line tells one.
-#[inline(always)]
-fn reply_told<P: Packed, A: Allocator + Copy + Drop>(
-    alloc: A,
-    limits: Limits,
-    numbers: &Numbers<P, A>,
-    records: &mut [RankRecord<A>],
-    calls: &mut [OpenCall<P, A>],
-    by: Caller,
-    point: u32,
-    reply: Option<Reply<P>>,
-    group: &[u16],
-) -> Result<Option<Why>, AllocError>
-    requires may { MayOpen limits }
-    requires numbers { map (λ own. own.number) records.old ≡ first_ranks limits.ranks }
-    ensures numbers { map (λ own. own.number) records.new ≡ map (λ own. own.number) records.old }
-    ensures taken { (h : History P) (us : List (Under P)) → TablesTell limits.ranks numbers.now h → AreCalls calls.old us
-        → let old = traced_of limits h records.old us in
-        IfOk result (GoesWith calls.new (λ next. Takes P.meld old group.now (Line.Replied by point reply) (traced_of limits h records.new next))) }
-{
-    match reply {
-        Some(reply) => {
-            take_reply(
-                alloc, limits, numbers, records, calls, by, point, reply, group,
-            )
-        },
-        None => match place_by(calls, by) {
-            Some(_) => Ok(Some(Why::Reply)),
-            None => Ok(Some(Why::Call)),
-        },
+    match place_by(calls, by) {
+        Some(_) => Why::Reply,
+        None => Why::Call,
     }
 }
 
@@ -115,10 +69,16 @@ fn take_line<P: Packed, A: Allocator + Copy + Drop>(
             Ok(look(limits, &numbers.failures, records, calls, rank, failures))
         }
         Line::Happened { by, event } => {
-            happen_told(alloc, limits, numbers, records, calls, by, event)
+            let Some(event) = event else {
+                return Ok(Some(Why::Event));
+            };
+            happen(alloc, limits, numbers, records, calls, by, event)
         }
         Line::Replied { by, point, reply } => {
-            reply_told(
+            let Some(reply) = reply else {
+                return Ok(Some(why_unread(calls, by)));
+            };
+            take_reply(
                 alloc, limits, numbers, records, calls, by, point, reply, group,
             )
         }

@@ -1,12 +1,12 @@
 //! Whether a reply is an answer to a poll.
-ghost use Rattle.std.specs.Prelude.{◌≡◌, ◌<◌, ◌+◌, ◌-◌, ◌==◌, ◌&&◌, ℕ, IfOk, false, filter, length, nat_lt, slice_get};
+ghost use Rattle.std.specs.Prelude.{◌≡◌, ◌<◌, ◌+◌, ◌-◌, ◌==◌, ◌&&◌, ℕ, IfOk, Some, false, filter, if◌then◌else◌, length, nat_lt, slice_get};
 ghost use Rattle.std.specs.{List.{list_all}, Option.{option_map_or}};
 ghost use Rattle.ulfm_model.specs.Walked.{decision_of};
 ghost use Rattle.ulfm_model.specs.History.{has};
+ghost use Rattle.ulfm_model.specs.declared.call.Request.{Request};
 ghost use Rattle.ulfm_judge.specs.CallsAt.{call_at};
 ghost use Rattle.ulfm_judge.specs.ReplyTests.{agree_test, barrier_test, clash_test, flag_test, full_test, late_test, least_test, made_test, no_ids_test};
 ghost use Rattle.ulfm_judge.specs.ReplyTests.{pending_said, pending_test, polled_test, shrink_test, shrunk_test, unmade_test};
-ghost use Rattle.ulfm_numbers.specs.Seen.{decision_in, is_decided_in};
 ghost use Rattle.ulfm_numbers.specs.Telling.{seen_at};
 
 use crate::replies::{same_answer, same_refusal};
@@ -330,50 +330,47 @@ fn says_pending<P: Copy>(reply: &Reply<P>) -> bool
     }
 }
 
-/// Whether the poll of an agree is answered so; what the round decides is looked up only where the reply says that it did.
-fn is_agree_poll<P: Packed, A: Allocator + Copy + Drop>(
-    alloc: A,
+/// Whether the poll of a decided agree or shrink is answered so, or of one that isn't decided.
+fn is_round_reply<P: Packed, A: Allocator + Copy + Drop>(
     view: &View<P, A>,
     x: &HeldComm<A>,
     round: u16,
+    shrinks: bool,
+    decided: bool,
+    made: &Decided<P, A>,
     reply: &Reply<P>,
-) -> Result<bool, AllocError>
-    ensures { let seen = seen_at view.now.numbers.now view.now.point in
-        let late = pending_test view.now.look.now seen x.now round in let decided = is_decided_in seen x.now.comm round in
-        IfOk result (λ b. b ≡ agree_test P.pack late decided (decision_in P.meld seen x.now.comm round) reply.now) }
+) -> bool
+    ensures { result ≡ (if shrinks then shrink_test (call_at view.now) x.now.comm round false decided (decision_of made.now) reply.now
+        else agree_test P.pack false decided (decision_of made.now) reply.now) }
 {
-    if says_pending(reply) {
-        return Ok(is_pending(view, x, round));
+    if shrinks {
+        is_shrink_reply(view, x, round, false, decided, made, reply)
+    } else {
+        is_agree_reply(false, decided, made, reply)
     }
-    if let Some(made) = view.numbers.decided_at(x.comm, round, view.point) {
-        return Ok(is_agree_reply(false, true, made, reply));
-    }
-    let decided = is_decided(view.numbers, view.point, x.comm, round);
-    let made = decision(alloc, view.numbers, view.point, x.comm, round)?;
-    Ok(is_agree_reply(false, decided, &made, reply))
 }
 
-/// Whether the poll of a shrink is answered so; what the round decides is looked up only where the reply says that it did.
-fn is_shrink_poll<P: Packed, A: Allocator + Copy + Drop>(
+/// Whether the poll of an agree or a shrink is answered so; what the round decides is looked up only where the reply says that it did.
+fn is_round_poll<P: Packed, A: Allocator + Copy + Drop>(
     alloc: A,
     view: &View<P, A>,
     x: &HeldComm<A>,
     round: u16,
+    shrinks: bool,
     reply: &Reply<P>,
 ) -> Result<bool, AllocError>
-    ensures { let call = call_at view.now in
-        let late = pending_test call.look call.seen x.now round in let decided = is_decided_in call.seen x.now.comm round in
-        IfOk result (λ b. b ≡ shrink_test call x.now.comm round late decided (decision_in P.meld call.seen x.now.comm round) reply.now) }
+    ensures { let request = if shrinks then Request.Shrink round else Request.Agree round in
+        IfOk result (λ b. b ≡ polled_test P.meld P.pack (call_at view.now) x.now (Some request) reply.now) }
 {
     if says_pending(reply) {
         return Ok(is_pending(view, x, round));
     }
     if let Some(made) = view.numbers.decided_at(x.comm, round, view.point) {
-        return Ok(is_shrink_reply(view, x, round, false, true, made, reply));
+        return Ok(is_round_reply(view, x, round, shrinks, true, made, reply));
     }
     let decided = is_decided(view.numbers, view.point, x.comm, round);
     let made = decision(alloc, view.numbers, view.point, x.comm, round)?;
-    Ok(is_shrink_reply(view, x, round, false, decided, &made, reply))
+    Ok(is_round_reply(view, x, round, shrinks, decided, &made, reply))
 }
 
 /// Whom of a communicator's members a look found declared, where these are the members that a rank knows.
@@ -423,8 +420,8 @@ pub(crate) fn is_poll_reply<P: Packed, A: Allocator + Copy + Drop>(
 {
     match request {
         None => Ok(false),
-        Some(Request::Agree { round }) => { is_agree_poll(alloc, view, x, round, reply) }
-        Some(Request::Shrink { round }) => { is_shrink_poll(alloc, view, x, round, reply) }
+        Some(Request::Agree { round }) => { is_round_poll(alloc, view, x, round, false, reply) }
+        Some(Request::Shrink { round }) => { is_round_poll(alloc, view, x, round, true, reply) }
         Some(Request::Barrier { round }) => { is_barrier_poll(alloc, view, x, round, reply) }
     }
 }

@@ -76,30 +76,21 @@ fn fails<P: Copy>(rank: u16, event: &Event<P>) -> bool
 fn only_fails<P: Copy>(rank: u16, own: &[Event<P>]) -> bool
     ensures { result ≡ only_test (fails_test rank) own.now }
 {
-    match only_of(own) {
-        Some(event) => fails(rank, &event),
-        None => false,
-    }
+    only_of(own).is_some_and(|event| fails(rank, &event))
 }
 
 /// Whether a rank's own events are its arrival in a round.
 fn only_arrives<P: Copy>(comm: u16, round: u16, rank: u16, own: &[Event<P>]) -> bool
     ensures { result ≡ only_test (arrives_test comm round rank) own.now }
 {
-    match only_of(own) {
-        Some(event) => arrives(comm, round, rank, &event),
-        None => false,
-    }
+    only_of(own).is_some_and(|event| arrives(comm, round, rank, &event))
 }
 
 /// Whether a rank's own events are the revocation of a communicator.
 fn only_revokes<P: Copy>(comm: u16, own: &[Event<P>]) -> bool
     ensures { result ≡ only_test (revokes_test comm) own.now }
 {
-    match only_of(own) {
-        Some(event) => revokes(comm, &event),
-        None => false,
-    }
+    only_of(own).is_some_and(|event| revokes(comm, &event))
 }
 
 /// Whether a declaration is answered so, by whether the rank is declared.
@@ -165,10 +156,7 @@ fn gives<P: Packed>(comm: u16, round: u16, rank: u16, due: &Due<P>, event: &Even
 fn only_gives<P: Packed>(comm: u16, round: u16, rank: u16, due: &Due<P>, own: &[Event<P>]) -> bool
     ensures { result ≡ only_test (gives_test P.pack comm round rank due.now) own.now }
 {
-    match only_of(own) {
-        Some(event) => gives(comm, round, rank, due, &event),
-        None => false,
-    }
+    only_of(own).is_some_and(|event| gives(comm, round, rank, due, &event))
 }
 
 /// Whether the contribution that is due stands there.

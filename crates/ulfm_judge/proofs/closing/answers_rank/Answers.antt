@@ -1,4 +1,4 @@
-use Rattle.std.proofs.Common.{◌≡◌, ◌==◌, ◌&&◌, ℕ, Bool, List, [], Option, Some, is_some, take, if◌then◌else◌, sym, subst, ap, ap₂, ◌∙◌}
+use Rattle.std.proofs.Common.{◌≡◌, ◌==◌, ◌&&◌, ℕ, Bool, true, false, List, [], Option, Some, is_some, take, if◌then◌else◌, sym, subst, ap, ap₂, ◌∙◌}
 use Rattle.std.specs.Prelude.{IfOk, unwrap_or}
 use Rattle.ulfm_model.specs.declared.{event.Event.{Event}, refusal.Refusal.{Refusal}}
 use Rattle.ulfm_model.specs.{History.{History, failures}, Records.{Record}}
@@ -19,11 +19,21 @@ found g c h =
     find_place (record_of c.args.limits) (λ (x : Record). x.number == c.args.rank) c.args.records.now c.in-Some.j c.index-records-j.result (sym c.place_of_rank.ensures.at ∙ c.in-Some.is)
     ∙ ap (λ (x : RankRecord g.row.A.Denot). Some (record_of c.args.limits x)) (sym c.index-records-j.is)
 
+-- the test of its call, by what the call's look found
+abbrev looked : (g : _) (c : After-index-records-j g) → History g.row.P.Denot → Option ℕ → Bool
+looked g c h look =
+    let now = traced_of c.args.limits h c.args.records.now [] in
+    let u = under_of c.args.u.now in
+    let told = call_of c.args.limits (view_at now u c.args.point) (record_of c.args.limits c.index-records-j.result) in
+    is_some look && looked_test g.P.Meld.meld g.P.Packed.pack (record told { look = take (unwrap_or look 0) (failures h) }) u.asked c.args.reply.now
+
 -- so the test of its call is that of what its record tells
-tested : (g : _) (c : After-index-records-j g) (h : History g.row.P.Denot)
-    → let now = traced_of c.args.limits h c.args.records.now [] in let test = rank_test g.P.Meld.meld g.P.Packed.pack now (under_of c.args.u.now) c.args.point c.args.reply.now in
-    test (record_in now c.args.rank) ≡ test (Some (record_of c.args.limits c.index-records-j.result))
-tested g c h = ap (rank_test g.P.Meld.meld g.P.Packed.pack (traced_of c.args.limits h c.args.records.now []) (under_of c.args.u.now) c.args.point c.args.reply.now) (found g c h)
+tested : (g : _) (c : After-index-records-j g) (h : History g.row.P.Denot) (refused : Bool) → c.index-records-j.result.refused ≡ refused
+    → rank_test g.P.Meld.meld g.P.Packed.pack (traced_of c.args.limits h c.args.records.now []) (under_of c.args.u.now) c.args.point c.args.reply.now (record_in (traced_of c.args.limits h c.args.records.now []) c.args.rank)
+    ≡ (if refused then refused_test Refusal.SelfFailed c.args.reply.now else looked g c h (under_of c.args.u.now).look)
+tested g c h refused is =
+    ap (rank_test g.P.Meld.meld g.P.Packed.pack (traced_of c.args.limits h c.args.records.now []) (under_of c.args.u.now) c.args.point c.args.reply.now) (found g c h)
+    ∙ ap (λ (b : Bool). if b then refused_test Refusal.SelfFailed c.args.reply.now else looked g c h (under_of c.args.u.now).look) is
 
 pub returns-in_default-clause-told : goal.returns-in_default-clause-told
 returns-in_default-clause-told g c = λ h tells.
@@ -32,33 +42,19 @@ returns-in_default-clause-told g c = λ h tells.
     c.is_refused.ensures ∙ sym (ap (rank_test g.P.Meld.meld g.P.Packed.pack now (under_of c.args.u.now) c.args.point c.args.reply.now) none)
 
 pub returns-then-own-clause-told : goal.returns-then-own-clause-told
-returns-then-own-clause-told g c = λ h tells.
-    let now = traced_of c.args.limits h c.args.records.now [] in
-    let u = under_of c.args.u.now in
-    let old = record_of c.args.limits c.index-records-j.result in
-    let own = tested g (goal.at.returns-then-own-clause-told g c).After-index-records-j h in
-    let other = is_some u.look && looked_test g.P.Meld.meld g.P.Packed.pack (call_of c.args.limits (view_at now u c.args.point) old) u.asked c.args.reply.now in
-    c.is_refused-then-own.ensures ∙ sym (own ∙ ap (λ (b : Bool). if b then refused_test Refusal.SelfFailed c.args.reply.now else other) c.if-own.true)
+returns-then-own-clause-told g c = λ h tells. c.is_refused-then-own.ensures ∙ sym (tested g (goal.at.returns-then-own-clause-told g c).After-index-records-j h true c.if-own.true)
 
 pub returns-in_default-look-clause-told : goal.returns-in_default-look-clause-told
 returns-in_default-look-clause-told g c = λ h tells.
-    let now = traced_of c.args.limits h c.args.records.now [] in
-    let u = under_of c.args.u.now in
-    let old = record_of c.args.limits c.index-records-j.result in
-    let own = tested g (goal.at.returns-in_default-look-clause-told g c).After-index-records-j h in
-    let told = call_of c.args.limits (view_at now u c.args.point) old in
-    let looked = λ (l : Option ℕ). is_some l && looked_test g.P.Meld.meld g.P.Packed.pack (record told { look = take (unwrap_or l 0) (failures h) }) u.asked c.args.reply.now in
-    sym (own ∙ (ap (λ (b : Bool). if b then refused_test Refusal.SelfFailed c.args.reply.now else looked u.look) c.if-own.false ∙ ap looked c.in_default-look.is))
+    let at = (goal.at.returns-in_default-look-clause-told g c).After-index-records-j in
+    sym (tested g at h false c.if-own.false ∙ ap (looked g at h) c.in_default-look.is)
 
 pub returns-clause-told : goal.returns-clause-told
 returns-clause-told g c = λ h tells.
-    let now = traced_of c.args.limits h c.args.records.now [] in
+    let at = (goal.at.returns-clause-told g c).After-index-records-j in
     let u = under_of c.args.u.now in
-    let old = record_of c.args.limits c.index-records-j.result in
-    let own = tested g (goal.at.returns-clause-told g c).After-index-records-j h in
-    let told = call_of c.args.limits (view_at now u c.args.point) old in
-    let looked = λ (l : Option ℕ). is_some l && looked_test g.P.Meld.meld g.P.Packed.pack (record told { look = take (unwrap_or l 0) (failures h) }) u.asked c.args.reply.now in
-    let is = own ∙ (ap (λ (b : Bool). if b then refused_test Refusal.SelfFailed c.args.reply.now else looked u.look) c.if-own.false ∙ ap looked c.in-Some-look.is) in
+    let told = call_of c.args.limits (view_at (traced_of c.args.limits h c.args.records.now []) u c.args.point) (record_of c.args.limits c.index-records-j.result) in
+    let is = tested g at h false c.if-own.false ∙ ap (looked g at h) c.in-Some-look.is in
     let look = c.first_of-look.ensures ∙ ap (take c.in-Some-look.count) (c.deref.ensures.value ∙ tells.failures.0) in
     let asked = λ (call : CallAt g.row.P.Denot). looked_test g.P.Meld.meld g.P.Packed.pack call u.asked c.args.reply.now in
     let same =
