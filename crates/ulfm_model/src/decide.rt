@@ -1,6 +1,7 @@
 //! What an agreement round decides.
 ghost use Rattle.std.specs.Prelude.{◌≡◌, IfOk, filter_map, is_some, map};
 ghost use Rattle.std.specs.List.{list_all, list_any};
+ghost use Rattle.ulfm_laws.specs.{Bodies.{body_meld, body_unit}, Combined.{combined}};
 ghost use Rattle.ulfm_model.specs.Terms.{lacks_one};
 ghost use Rattle.ulfm_model.specs.History.{body_of, contribution_of, decided_by, decision, is_decided, slot};
 ghost use Rattle.ulfm_model.specs.Walked.{decision_of};
@@ -11,7 +12,6 @@ use crate::groups::{failed_among, first_of, members, round_among, union_of};
 use crate::reads::{has_rank, slot};
 use std::alloc::{AllocError, Allocator};
 use ulfm_laws::meld::Meld;
-use ulfm_laws::meld_all::meld_all;
 use ulfm_laws::summary::Body;
 
 /// What all who return from a round are told.
@@ -53,18 +53,17 @@ fn lacks_one<P: Copy>(failed: &[u16], group: &[u16], given: &Contribution<P>) ->
     group.iter().any(|rank| !has_rank(acked, *rank))
 }
 
-/// The contributed bodies.
-fn bodies<P: Copy, A: Allocator + Copy>(
-    alloc: A,
-    settled: &[Slot<P>],
-) -> Result<Vec<Body<P>, A>, AllocError>
-    ensures { IfOk result (λ bodies. bodies.items ≡ map (λ g. body_of g.offer) (filter_map contribution_of settled.now)) }
+/// The contributed bodies, combined.
+fn combined_body<P: Meld>(settled: &[Slot<P>]) -> Body<P>
+    ensures { result ≡ combined body_unit (body_meld P.meld) (map (λ g. body_of g.offer) (filter_map contribution_of settled.now)) }
 {
-    settled
-        .iter()
-        .filter_map(contribution_of)
-        .map(|given| body_of(&given.offer))
-        .collect(alloc)
+    let mut body = Body::Unit;
+    for slot in settled {
+        if let Some(given) = contribution_of(slot) {
+            body = body.meld(&body_of(&given.offer));
+        }
+    }
+    body
 }
 
 /// Whether some contributor had not acknowledged all of a group.
@@ -85,11 +84,10 @@ pub fn decided_by<P: Meld, A: Allocator + Copy + Drop>(
 ) -> Result<Decided<P, A>, AllocError>
     ensures { IfOk result (λ made. decision_of made ≡ decided_by P.meld failed.now settled.now) }
 {
-    let bodies = bodies(alloc, settled)?;
     let group = union_of(alloc, failed, settled)?;
     let raised = raised(failed, &group, settled);
     Ok(Decided {
-        body: meld_all(&bodies),
+        body: combined_body(settled),
         failed: group,
         raised,
     })

@@ -135,7 +135,7 @@ module _ (plan : Plan) (h longer : History FlagAnd) (begins : IsPrefix h longer)
 pub report_ended : {name : Name} {may_say : ℕ → Turn → Bool → Type 0} {plan : Plan} {r : ℕ} {report : Report} {seen : History FlagAnd} → IsReported name may_say plan r report
     → name.limits ≡ limits_of plan → IsLegal flag_meld name.limits seen → IsPrefix report.told.seen seen → IsEnded plan seen r
 report_ended {plan = plan} {r = r} {report = report} {seen = seen} kept same legal begins =
-    ended_by plan report.told.seen seen begins (subst (λ l. IsLegal flag_meld l seen) same legal) r report.rank.own (map (λ t. t.value) report.tokens.items) report.fault kept.answered kept.refused kept.declared
+    ended_by plan report.told.seen seen begins (subst (λ l. IsLegal flag_meld l seen) same legal) r report.worker.rank.own (map (λ t. t.value) report.worker.tokens.items) report.fault kept.answered kept.refused kept.declared
 
 -- nothing is gathered at first
 pub gathered_none : {V : Type 0} (items : V → List (Reply FlagAnd)) (plan : Plan) (h : History FlagAnd) (old : List V) (group : List ℕ) (fault : Option RaceFault) → old ≡ [] → group ≡ [] → IsGathered plan h 0 (map items old) group fault

@@ -74,10 +74,10 @@ HasTurnedBy plan r (Some fault) said old new = TurnsBreakOff plan r fault said o
 -- refused, and none where it was told all.
 pub record HasWorked (name : Name) (plan : Plan) (start : Membership FlagAnd) (report : Report) : Type 0 where
   pub ended : Membership FlagAnd
-  pub turns : HasTurnedBy plan start.own.number report.fault (map (λ t. t.value) report.tokens.items) start ended
-  pub own_is : report.rank.own ≡ ended.own
+  pub turns : HasTurnedBy plan start.own.number report.fault (map (λ t. t.value) report.worker.tokens.items) start ended
+  pub own_is : report.worker.rank.own ≡ ended.own
   pub after : Sight FlagAnd
-  pub refused : IsTrue (list_any is_refused (map (λ t. t.value) report.tokens.items)) → Declares name start.own.number ended.view.pass after
+  pub refused : IsTrue (list_any is_refused (map (λ t. t.value) report.worker.tokens.items)) → Declares name start.own.number ended.view.pass after
   pub faulted : (fault : RaceFault) → report.fault ≡ Some fault → Declares name start.own.number ended.view.pass after
-  pub alone : report.fault ≡ None → IsFalse (list_any is_refused (map (λ t. t.value) report.tokens.items)) → after ≡ ended.view.pass
+  pub alone : report.fault ≡ None → IsFalse (list_any is_refused (map (λ t. t.value) report.worker.tokens.items)) → after ≡ ended.view.pass
   pub told_is : report.told.seen ≡ after.seen

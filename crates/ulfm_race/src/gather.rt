@@ -233,15 +233,15 @@ fn hear_thread<'a, R: Threads, G: Gate>(
 
 // What a worker was answered, whether its shrink made a communicator, and the members of that.
 fn read_report(alloc: Global, report: &Report) -> Result<Heard, AllocError>
-    requires { AllByRecursion (Shows report.now.said) report.now.tokens.items }
-    ensures replies { IfOk result (λ x. x.replies.items ≡ map (λ t. t.value) report.now.tokens.items) }
+    requires { AllByRecursion (Shows report.now.worker.said) report.now.worker.tokens.items }
+    ensures replies { IfOk result (λ x. x.replies.items ≡ map (λ t. t.value) report.now.worker.tokens.items) }
     ensures made { IfOk result (λ x. x.made ≡ list_any is_shrunk x.replies.items) }
-    ensures group { IfOk result (λ x. x.made ≡ true → (y : Held) → held_at report.now.rank.own 1 ≡ Some y → x.group.items ≡ y.group) }
+    ensures group { IfOk result (λ x. x.made ≡ true → (y : Held) → held_at report.now.worker.rank.own 1 ≡ Some y → x.group.items ≡ y.group) }
     ensures nobody { IfOk result (λ x. x.made ≡ false → x.group.items ≡ []) }
 {
-    let replies = read(alloc, &report.said, &report.tokens)?;
+    let replies = read(alloc, &report.worker.said, &report.worker.tokens)?;
     let made = any_shrunk(&replies);
-    let group = members_made(&report.rank, made).to_vec(alloc)?;
+    let group = members_made(&report.worker.rank, made).to_vec(alloc)?;
     Ok(Heard {
         replies,
         made,

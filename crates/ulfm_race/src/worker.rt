@@ -52,14 +52,10 @@ pub(crate) struct Worker {
 /// What a worker gives back.
 #[derive(Drop)]
 pub(crate) struct Report {
-    /// The rank, as the last call left it.
-    pub rank: Own,
+    /// What it worked with, as the last call left it.
+    pub worker: Worker,
     /// All that the worker had seen.
     pub told: BookTold<FlagAnd>,
-    /// Its replies.
-    pub said: Replies,
-    /// A token for each reply, in order.
-    pub tokens: Vec<Token>,
     /// Why it stopped, if by a fault.
     pub fault: Option<RaceFault>,
 }
@@ -85,11 +81,14 @@ pub(crate) fn work<G: Gate, R: Wait>(
 {
     await_all(rt, began);
     let number = rank.number();
+    let mut tokens = Vec::new(alloc);
+    // Room for all of them from the start; where that is refused, it is made as they come.
+    let _ = tokens.reserve(usize::from(plan.rounds) + 1);
     let mut worker = Worker {
         rank,
         pass,
         said,
-        tokens: Vec::new(alloc),
+        tokens,
     };
     let ended = take_turns(rt, gate, world, plan, &mut worker);
     let fault = fault_in(&ended);
@@ -102,10 +101,8 @@ pub(crate) fn work<G: Gate, R: Wait>(
     );
     let told = world.told(&worker.pass);
     Report {
-        rank: worker.rank,
+        worker,
         told,
-        said: worker.said,
-        tokens: worker.tokens,
         fault,
     }
 }

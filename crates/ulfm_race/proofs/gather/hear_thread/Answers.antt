@@ -10,8 +10,8 @@ returns-in-Ok-clause-answered g c =
     let report = c.finish-report.result in
     let seen = c.finish-report.new.outside.seen in
     let legal = subst (λ l. IsLegal flag_meld l seen) c.requires.limits c.finish-report.ensures.of.legal in
-    let fits = subst (λ l. Fits flag_meld l report.told.seen report.rank.own) c.requires.limits c.finish-report.ensures.kept.fits in
-    heard_is plan report.told.seen seen c.finish-report.ensures.learned legal report.rank.own fits c.args.handle.promise.number (map (λ t. t.value) report.tokens.items) c.in-Ok.heard.replies.items c.in-Ok.ensures.replies
+    let fits = subst (λ l. Fits flag_meld l report.told.seen report.worker.rank.own) c.requires.limits c.finish-report.ensures.kept.fits in
+    heard_is plan report.told.seen seen c.finish-report.ensures.learned legal report.worker.rank.own fits c.args.handle.promise.number (map (λ t. t.value) report.worker.tokens.items) c.in-Ok.heard.replies.items c.in-Ok.ensures.replies
     (c.finish-report.ensures.kept.answered c.in_default.is) c.finish-report.ensures.kept.refused c.in-Ok.heard.made c.in-Ok.heard.group.items c.in-Ok.ensures.made c.in-Ok.ensures.group c.in-Ok.ensures.nobody
 
 pub returns-in-Some-clause-ended : goal.returns-in-Some-clause-ended
