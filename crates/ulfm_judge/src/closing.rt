@@ -136,7 +136,10 @@ fn seen_after<A: Allocator + Copy + Drop>(
     let mut seen = before;
     if let Some(count) = look {
         seen.clear();
-        seen.extend_from_slice(first_of(known, count))?;
+        // (most looks find nothing)
+        if count > 0 {
+            seen.extend_from_slice(first_of(known, count))?;
+        }
     }
     Ok(seen)
 }

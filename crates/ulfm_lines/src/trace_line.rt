@@ -170,17 +170,18 @@ fn list_in_reply(reply: &mut Reply<FlagAnd>, count: u16)
     }
 }
 
-/// A line, but for the ranks that it lists, which follow where there are any. It runs for each line of a trace, and so stands in line.
+/// A line, but for the ranks that it lists, which follow where there are any. It runs for each reply of a trace, which others have looked for no line of
+/// another kind in, and so stands in line and looks for a reply first.
 #[inline(always)]
 fn read_head(line: &[u8]) -> Result<(Line<FlagAnd>, Option<&[u8]>), LineKind>
     ensures { Gives at_field result (line_head line.now) }
 {
-    if let Some(text) = behind(b"call ", line) {
+    if let Some(fields) = behind(b"reply ", line) {
+        read_replied(Some(fields))
+    } else if let Some(text) = behind(b"call ", line) {
         read_called(text)
     } else if let Some(fields) = behind(b"look ", line) {
         read_looked(Some(fields))
-    } else if let Some(fields) = behind(b"reply ", line) {
-        read_replied(Some(fields))
     } else if let Some(fields) = behind(b"event ", line) {
         read_happened(Some(fields))
     } else {

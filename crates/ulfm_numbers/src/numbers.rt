@@ -188,7 +188,8 @@ fn note_arrival<A: Allocator + Copy>(
     Ok(())
 }
 
-/// Notes a number at a key, if a key is given that has none.
+/// Notes a number at a key, if a key is given that has none. Most events give none.
+#[inline(always)]
 fn note_first<K: Eq + Hash + Copy + Drop, A: Allocator + Copy>(
     table: &mut Table<K, u64, A>,
     number: u64,
@@ -241,6 +242,7 @@ fn note_failure<P: Copy, A: Allocator + Copy>(
 }
 
 /// Notes a further communicator, if one more event makes it.
+#[inline(always)]
 fn note_spawn<P: Copy, A: Allocator + Copy>(
     made: &mut Vec<(u16, u16), A>,
     numbers: &mut Vec<u64, A>,
@@ -554,7 +556,7 @@ impl<P: Packed, A: Allocator + Copy + Drop> Numbers<P, A> {
         let settled = self.settled_among(alloc, group, comm, round, since)?;
         let is_there = usize::from(comm) < self.groups.len();
         let fits = know_few(&settled, failed.len());
-        let is_full = self.are_settled(group, comm, round, since);
+        let is_full = settled.len() == group.len();
         if !is_there || !fits || !is_full {
             return Ok(None);
         }
@@ -594,15 +596,6 @@ impl<P: Packed, A: Allocator + Copy + Drop> Numbers<P, A> {
             return None;
         }
         Some(&done.made)
-    }
-
-    /// Whether each of these was settled in a round at a point.
-    fn are_settled(&self, group: &[u16], comm: u16, round: u16, point: u64) -> bool
-        ensures { result ≡ list_all (λ r. is_some ((seen_at self.now point).slots (comm, round, r))) group.now }
-    {
-        group
-            .iter()
-            .all(|rank| self.slot_at((comm, round, *rank), point).is_some())
     }
 
     /// What had settled these members of a round at a point, in their order.
