@@ -5,7 +5,7 @@ use Rattle.std.proofs.lemmas.Bool.{eqb-true}
 use Rattle.std.specs.Int.{bit_at}
 use Rattle.std.specs.List.{AllByRecursion, list_all}
 use Rattle.std.proofs.lemmas.Nat.Bits.{bit_at_and, bit_at_ones, bit_at-lt}
-use Rattle.ulfm_model.specs.History.{first_ranks, has}
+use Rattle.ulfm_model.specs.History.{first_ranks}
 use Rattle.ulfm_model.specs.Records.{Held, all_but, free_ids}
 use Rattle.ulfm_model.proofs.Lists.{all_member}
 use Rattle.ulfm_model.proofs.RankGroups.{first_has}
