@@ -7,7 +7,7 @@ use Rattle.ulfm_model.specs.{Answers.{first_refusal, traits_of}, Records.{Held, 
 use Rattle.ulfm_model.specs.Kept.{FitsNext}
 
 -- where no test of several refuses, the first doesn't, and none of the others does
-none_first_test : (test : Bool × Refusal) (tests : List (Bool × Refusal)) → first_refusal (test ∷ tests) ≡ None → (test.0 ≡ false) × (first_refusal tests ≡ None)
+pub none_first_test : (test : Bool × Refusal) (tests : List (Bool × Refusal)) → first_refusal (test ∷ tests) ≡ None → (test.0 ≡ false) × (first_refusal tests ≡ None)
 none_first_test test tests none = go test.0 refl none
   where
     go : (b : Bool) → test.0 ≡ b → (if b then Some test.1 else first_refusal tests) ≡ None → (test.0 ≡ false) × (first_refusal tests ≡ None)

@@ -22,12 +22,12 @@ take_prefix (suc m) (suc n) (x ∷ xs) less = let more = take_prefix m n xs (ome
 
 module _ {P : Type 0} (meld : P → P → P) (now : Traced P) (kept : IsKept meld now) (u : Under P) (s : Spans now.history now.records u) (point : ℕ) (since_begin : u.begun ≤ point) where
   abbrev first : History P
-  first = s.begin ++ s.later
+  first = s.course.begin ++ s.course.later
 
-  before_is : take u.begun now.history ≡ s.begin
+  before_is : take u.begun now.history ≡ s.course.begin
   before_is =
-      ap (λ n. take n now.history) s.begun
-      ∙ (ap (take (length s.begin)) (sym s.goes_on ∙ append_assoc s.begin s.later s.rest) ∙ take-append_seam s.begin (s.later ++ s.rest))
+      ap (λ n. take n now.history) s.course.begun
+      ∙ (ap (take (length s.course.begin)) (sym s.course.goes_on ∙ append_assoc s.course.begin s.course.later s.course.rest) ∙ take-append_seam s.course.begin (s.course.later ++ s.course.rest))
 
   abbrev span_of : (by : Caller) → caller_of u ≡ by → IsSpan meld now.limits false (take u.begun now.history) now.history by
   span_of by mine =
@@ -36,8 +36,8 @@ module _ {P : Type 0} (meld : P → P → P) (now : Traced P) (kept : IsKept mel
         point = take point now.history;
         own = u.own;
         spread = true;
-        looked = record { since = s.later; goes_on = ap (λ w. w ++ s.later) before_is; stands = tt; quiet = λ alone. absurd (cc alone) };
-        did = record { since = s.rest; goes_on = s.goes_on; stands = subst (λ c. StandsIn (entries_by c u.own) s.rest) mine s.stands; quiet = λ alone. absurd (cc alone) };
+        looked = record { since = s.course.later; goes_on = ap (λ w. w ++ s.course.later) before_is; stands = tt; quiet = λ alone. absurd (cc alone) };
+        did = record { since = s.course.rest; goes_on = s.course.goes_on; stands = subst (λ c. StandsIn (entries_by c u.own) s.course.rest) mine s.course.stands; quiet = λ alone. absurd (cc alone) };
         point_begins = take_prefix u.begun point now.history since_begin;
         point_ends = (drop point now.history, take-append-drop point now.history);
         legal = kept.legal;
@@ -49,7 +49,7 @@ module _ {P : Type 0} (meld : P → P → P) (now : Traced P) (kept : IsKept mel
     outside_answers mine answers = (
       record {
         span = span_of Caller.Outside mine;
-        no_look = ap (λ w. s.begin ++ w) (s.no_look mine) ∙ (append-nil s.begin ∙ sym before_is);
+        no_look = ap (λ w. s.course.begin ++ w) (s.course.no_look mine) ∙ (append-nil s.course.begin ∙ sym before_is);
         answer = answers;
       },
       refl,
@@ -68,10 +68,10 @@ module _ {P : Type 0} (meld : P → P → P) (now : Traced P) (kept : IsKept mel
 
       -- after a look
       module _ (looked : IsTrue (is_some u.look)) where
-        sees_is : s.sees ≡ failures first
-        sees_is = go s.looks
+        sees_is : s.course.sees ≡ failures first
+        sees_is = go s.course.looks
           where
-            go : ((u.look ≡ None) × (s.sees ≡ [])) ⊎ ((u.look ≡ Some (length s.sees)) × (s.sees ≡ failures first)) → s.sees ≡ failures first
+            go : ((u.look ≡ None) × (s.course.sees ≡ [])) ⊎ ((u.look ≡ Some (length s.course.sees)) × (s.course.sees ≡ failures first)) → s.course.sees ≡ failures first
             go (inl (none, nobody)) = absurd (cc (ap is_some none, looked))
             go (inr (some, is)) = is
 
@@ -94,7 +94,7 @@ module _ {P : Type 0} (meld : P → P → P) (now : Traced P) (kept : IsKept mel
         sees_left false = left_is
         sees_left true = (
           ([], append-nil (failures first) ∙ sym left_is),
-          subst (λ w. IsPrefix w (failures now.history)) (sym left_is) (failures_begin first now.history (s.rest, s.goes_on)),
+          subst (λ w. IsPrefix w (failures now.history)) (sym left_is) (failures_begin first now.history (s.course.rest, s.course.goes_on)),
         )
 
         abbrev view : List ℕ → AtPoint P

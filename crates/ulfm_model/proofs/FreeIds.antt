@@ -1,12 +1,13 @@
 -- Free context ids, bit by bit: a shrink offers those that no held communicator has.
-use Rattle.std.proofs.Common.{◌≡◌, ◌↔◌, ℕ, ◌<◌, ◌||◌, ◌==◌, Bool, true, false, List, [], ◌∷◌, refl, ap, sym, ◌∙◌, arith, if◌then◌else◌}
+use Rattle.std.proofs.Common.{◌≡◌, ◌↔◌, ℕ, ◌<◌, ◌==◌, Bool, true, false, List, [], ◌∷◌, refl, ap, sym, ◌∙◌, arith, if◌then◌else◌}
 use Rattle.ulfm_laws.specs.Ranges.{payload_bits}
-use Rattle.std.proofs.lemmas.Bool.{and_parts, eqb-true}
+use Rattle.std.proofs.lemmas.Bool.{eqb-true}
 use Rattle.std.specs.Int.{bit_at}
 use Rattle.std.specs.List.{AllByRecursion, list_all}
 use Rattle.std.proofs.lemmas.Nat.Bits.{bit_at_and, bit_at_ones, bit_at-lt}
-use Rattle.ulfm_model.specs.History.{first_ranks, has}
+use Rattle.ulfm_model.specs.History.{first_ranks}
 use Rattle.ulfm_model.specs.Records.{Held, all_but, free_ids}
+use Rattle.ulfm_model.proofs.Lists.{all_member}
 use Rattle.ulfm_model.proofs.RankGroups.{first_has}
 
 -- a bit stands in the mask where every held communicator leaves it standing
@@ -23,20 +24,11 @@ free_is (x ∷ held) i within =
 all_but_table : list_all (λ i. list_all (λ k. bit_at (all_but i).bits k == (if i == k then 0 else 1)) (first_ranks payload_bits)) (first_ranks payload_bits) ≡ true
 all_but_table = refl
 
-all_at : (p : ℕ → Bool) (xs : List ℕ) (r : ℕ) → list_all p xs ≡ true → has xs r ≡ true → p r ≡ true
-all_at p [] r all e = absurd (cc e)
-all_at p (x ∷ xs) r all e =
-    let parts = and_parts (p x) (list_all p xs) all in go (all_at p xs r parts.1) parts.0 (x == r) refl e
-  where
-    go : (has xs r ≡ true → p r ≡ true) → p x ≡ true → (b : Bool) → (x == r) ≡ b → (b || has xs r) ≡ true → p r ≡ true
-    go more here true same e = ap p (sym (eqb-true x r same)) ∙ here
-    go more here false same e = more e
-
 -- a held communicator takes away its own id and no other
 pub all_but_is : (i k : ℕ) → i < payload_bits → k < payload_bits → bit_at (all_but i).bits k ≡ (if i == k then 0 else 1)
 all_but_is i k low within =
-    let row = all_at (λ i. list_all (λ k. bit_at (all_but i).bits k == (if i == k then 0 else 1)) (first_ranks payload_bits)) (first_ranks payload_bits) i all_but_table (first_has payload_bits i low) in
-    eqb-true (bit_at (all_but i).bits k) (if i == k then 0 else 1) (all_at (λ k. bit_at (all_but i).bits k == (if i == k then 0 else 1)) (first_ranks payload_bits) k row (first_has payload_bits k within))
+    let row = all_member (λ i. list_all (λ k. bit_at (all_but i).bits k == (if i == k then 0 else 1)) (first_ranks payload_bits)) (first_ranks payload_bits) i all_but_table (first_has payload_bits i low) in
+    eqb-true (bit_at (all_but i).bits k) (if i == k then 0 else 1) (all_member (λ k. bit_at (all_but i).bits k == (if i == k then 0 else 1)) (first_ranks payload_bits) k row (first_has payload_bits k within))
 
 -- so the mask has an id exactly where no held communicator has it
 pub free_where : (held : List Held) (i : ℕ) → i < payload_bits → AllByRecursion (λ x. x.context < payload_bits) held → (bit_at (free_ids held).bits i ≡ 1) ↔ AllByRecursion (λ x. (x.context == i) ≡ false) held

@@ -11,9 +11,9 @@ use Rattle.ulfm_model.specs.declared.line.Line.{Line}
 use Rattle.ulfm_model.specs.Traces.{AreLegalAfter, MayAddBy, MayCome, Told, Traced, Under, after, after_reply, call_by, caller_of, found_by, is_owned, nothing, record_in, records_after, said_by, same_caller, taken_in, with_event}
 use Rattle.ulfm_model.proofs.Callers.{each_change, same_is}
 
--- A call under way: the history when it began, what came up to its look, or up to now where it made none, and what came since. It found
--- what had failed at its look; its own events have come since then, each as its look allowed it.
-pub record Spans {P : Type 0} (h : History P) (records : List Record) (u : Under P) : Type 0 where
+-- How a history goes along a call under way: as it was when the call began, what came up to its look, or up to now where it made none, and
+-- what came since. The call found what had failed at its look; its own events have come since then.
+pub record Course {P : Type 0} (h : History P) (u : Under P) : Type 0 where
   pub begin : History P
   pub later : History P
   pub rest : History P
@@ -24,8 +24,13 @@ pub record Spans {P : Type 0} (h : History P) (records : List Record) (u : Under
   pub no_look : caller_of u ≡ Caller.Outside → later ≡ []
   pub stands : StandsIn (entries_by (caller_of u) u.own) rest
   pub quiet : (r : ℕ) → caller_of u ≡ Caller.Rank r → u.look ≡ None → u.own ≡ []
+
+-- A call under way, beside the records of the ranks: its caller's record was in use where it looked, and each of its own events came as its
+-- look and that record allowed it.
+pub record Spans {P : Type 0} (h : History P) (records : List Record) (u : Under P) : Type 0 where
+  pub course : Course h u
   pub unused : (r : ℕ) → caller_of u ≡ Caller.Rank r → (own : Record) → find (λ x. x.number == r) records ≡ Some own → IsTrue own.refused → u.look ≡ None
-  pub owns : (r : ℕ) → caller_of u ≡ Caller.Rank r → (own : Record) → find (λ x. x.number == r) records ≡ Some own → AllByRecursion (MayOwn sees own u.asked) u.own
+  pub owns : (r : ℕ) → caller_of u ≡ Caller.Rank r → (own : Record) → find (λ x. x.number == r) records ≡ Some own → AllByRecursion (MayOwn course.sees own u.asked) u.own
 
 -- what lines say is kept
 pub record IsKept {P : Type 0} (meld : P → P → P) (now : Traced P) : Type 0 where
@@ -33,15 +38,15 @@ pub record IsKept {P : Type 0} (meld : P → P → P) (now : Traced P) : Type 0 
   pub each : AllByRecursion (Spans now.history now.records) now.calls
 
 -- what is found at a look stays found
-pub found_sees : {P : Type 0} (h : History P) (records : List Record) (u : Under P) → (s : Spans h records u) → take (unwrap_or u.look 0) (failures h) ≡ s.sees
-found_sees h records u s = go s.looks
+pub found_sees : {P : Type 0} (h : History P) (records : List Record) (u : Under P) → (s : Spans h records u) → take (unwrap_or u.look 0) (failures h) ≡ s.course.sees
+found_sees h records u s = go s.course.looks
   where
-    go : ((u.look ≡ None) × (s.sees ≡ [])) ⊎ ((u.look ≡ Some (length s.sees)) × (s.sees ≡ failures (s.begin ++ s.later))) → take (unwrap_or u.look 0) (failures h) ≡ s.sees
+    go : ((u.look ≡ None) × (s.course.sees ≡ [])) ⊎ ((u.look ≡ Some (length s.course.sees)) × (s.course.sees ≡ failures (s.course.begin ++ s.course.later))) → take (unwrap_or u.look 0) (failures h) ≡ s.course.sees
     go (inl (none, nobody)) = ap (λ n. take (unwrap_or n 0) (failures h)) none ∙ sym nobody
     go (inr (some, is)) =
-        let more = failures_begin (s.begin ++ s.later) h (s.rest, s.goes_on) in
+        let more = failures_begin (s.course.begin ++ s.course.later) h (s.course.rest, s.course.goes_on) in
         ap (λ n. take (unwrap_or n 0) (failures h)) some
-        ∙ (ap (take (length s.sees)) (sym more.1 ∙ ap (λ w. w ++ more.0) (sym is)) ∙ take-append_seam s.sees more.0)
+        ∙ (ap (take (length s.course.sees)) (sym more.1 ∙ ap (λ w. w ++ more.0) (sym is)) ∙ take-append_seam s.course.sees more.0)
 
 -- what stands in a list stands in a longer one
 stands_more : {E : Type 0} (xs ys : List E) (y : E) → StandsIn xs ys → StandsIn xs (ys ++ y ∷ [])
@@ -63,16 +68,18 @@ module _ {P : Type 0} (meld : P → P → P) where
   spans_new : (h : History P) (records : List Record) (asked : Call P) → Spans h records (record { asked = asked; begun = length h; look = None; own = [] })
   spans_new h records asked =
       record {
-        begin = h;
-        later = [];
-        rest = [];
-        goes_on = append-nil (h ++ []) ∙ append-nil h;
-        begun = refl;
-        sees = [];
-        looks = inl (refl, refl);
-        no_look = λ by. refl;
-        stands = tt;
-        quiet = λ r by none. refl;
+        course = record {
+          begin = h;
+          later = [];
+          rest = [];
+          goes_on = append-nil (h ++ []) ∙ append-nil h;
+          begun = refl;
+          sees = [];
+          looks = inl (refl, refl);
+          no_look = λ by. refl;
+          stands = tt;
+          quiet = λ r by none. refl;
+        };
         unused = λ r by own at refused. refl;
         owns = λ r by own at. tt;
       }
@@ -84,19 +91,21 @@ module _ {P : Type 0} (meld : P → P → P) where
       let due = may.0 in
       let same : due.call ≡ u = cc (due.is_open, at) in
       let none : u.look ≡ None = ap (λ (v : Under P). v.look) (sym same) ∙ due.first in
-      let nothing_own : u.own ≡ [] = s.quiet r by none in
-      let whole : s.begin ++ (s.later ++ s.rest) ≡ now.history = sym (append_assoc s.begin s.later s.rest) ∙ s.goes_on in
+      let nothing_own : u.own ≡ [] = s.course.quiet r by none in
+      let whole : s.course.begin ++ (s.course.later ++ s.course.rest) ≡ now.history = sym (append_assoc s.course.begin s.course.later s.course.rest) ∙ s.course.goes_on in
       record {
-        begin = s.begin;
-        later = s.later ++ s.rest;
-        rest = [];
-        goes_on = append-nil (s.begin ++ (s.later ++ s.rest)) ∙ whole;
-        begun = s.begun;
-        sees = failures now.history;
-        looks = inr (ap Some may.1, ap failures (sym whole));
-        no_look = λ outside. absurd (cc (outside, by));
-        stands = subst (λ es. StandsIn (entries_by (caller_of u) es) []) (sym nothing_own) tt;
-        quiet = λ other is missing. absurd (cc missing);
+        course = record {
+          begin = s.course.begin;
+          later = s.course.later ++ s.course.rest;
+          rest = [];
+          goes_on = append-nil (s.course.begin ++ (s.course.later ++ s.course.rest)) ∙ whole;
+          begun = s.course.begun;
+          sees = failures now.history;
+          looks = inr (ap Some may.1, ap failures (sym whole));
+          no_look = λ outside. absurd (cc (outside, by));
+          stands = subst (λ es. StandsIn (entries_by (caller_of u) es) []) (sym nothing_own) tt;
+          quiet = λ other is missing. absurd (cc missing);
+        };
         unused = λ other is own there refused. absurd (refuses due.own own due.has_record (subst (λ n. find (λ x. x.number == n) now.records ≡ Some own) (rank_is other is) there) due.in_use refused);
         owns = λ other is own there. subst (AllByRecursion (MayOwn (failures now.history) own u.asked)) (sym nothing_own) tt;
       }
@@ -111,16 +120,18 @@ module _ {P : Type 0} (meld : P → P → P) where
   spans_other : (h : History P) (e : Entry P) (records : List Record) (u : Under P) → Spans h records u → Spans (h ++ e ∷ []) records u
   spans_other h e records u s =
       record {
-        begin = s.begin;
-        later = s.later;
-        rest = s.rest ++ e ∷ [];
-        goes_on = sym (append_assoc (s.begin ++ s.later) s.rest (e ∷ [])) ∙ ap (λ w. w ++ e ∷ []) s.goes_on;
-        begun = s.begun;
-        sees = s.sees;
-        looks = s.looks;
-        no_look = s.no_look;
-        stands = stands_more (entries_by (caller_of u) u.own) s.rest e s.stands;
-        quiet = s.quiet;
+        course = record {
+          begin = s.course.begin;
+          later = s.course.later;
+          rest = s.course.rest ++ e ∷ [];
+          goes_on = sym (append_assoc (s.course.begin ++ s.course.later) s.course.rest (e ∷ [])) ∙ ap (λ w. w ++ e ∷ []) s.course.goes_on;
+          begun = s.course.begun;
+          sees = s.course.sees;
+          looks = s.course.looks;
+          no_look = s.course.no_look;
+          stands = stands_more (entries_by (caller_of u) u.own) s.course.rest e s.course.stands;
+          quiet = s.course.quiet;
+        };
         unused = s.unused;
         owns = s.owns;
       }
@@ -135,20 +146,22 @@ module _ {P : Type 0} (meld : P → P → P) where
       let other = spans_other h (record { by = by; event = event }) records u s in
       let one : Event P → Entry P = λ e. record { by = caller_of u; event = e } in
       record {
-        begin = s.begin;
-        later = s.later;
-        rest = s.rest ++ record { by = by; event = event } ∷ [];
-        goes_on = other.goes_on;
-        begun = s.begun;
-        sees = s.sees;
-        looks = s.looks;
-        no_look = s.no_look;
-        stands = subst (λ es. StandsIn es (s.rest ++ record { by = by; event = event } ∷ [])) (sym (map-append one u.own (event ∷ [])))
-            (subst (λ c. StandsIn (entries_by (caller_of u) u.own ++ record { by = c; event = event } ∷ []) (s.rest ++ record { by = by; event = event } ∷ [])) (sym mine)
-            (stands_push (entries_by (caller_of u) u.own) s.rest (record { by = by; event = event }) s.stands));
-        quiet = λ r is none. absurd (no_look_made u.look none (looked r (sym mine ∙ is)));
+        course = record {
+          begin = s.course.begin;
+          later = s.course.later;
+          rest = s.course.rest ++ record { by = by; event = event } ∷ [];
+          goes_on = other.course.goes_on;
+          begun = s.course.begun;
+          sees = s.course.sees;
+          looks = s.course.looks;
+          no_look = s.course.no_look;
+          stands = subst (λ es. StandsIn es (s.course.rest ++ record { by = by; event = event } ∷ [])) (sym (map-append one u.own (event ∷ [])))
+              (subst (λ c. StandsIn (entries_by (caller_of u) u.own ++ record { by = c; event = event } ∷ []) (s.course.rest ++ record { by = by; event = event } ∷ [])) (sym mine)
+              (stands_push (entries_by (caller_of u) u.own) s.course.rest (record { by = by; event = event }) s.course.stands));
+          quiet = λ r is none. absurd (no_look_made u.look none (looked r (sym mine ∙ is)));
+        };
         unused = s.unused;
-        owns = λ r is own at. each_push (MayOwn s.sees own u.asked) u.own event (s.owns r is own at)
+        owns = λ r is own at. each_push (MayOwn s.course.sees own u.asked) u.own event (s.owns r is own at)
             (subst (λ l. MayOwn l own u.asked event) (found_sees h records u s) (may r (sym mine ∙ is) own at));
       }
     where
@@ -204,16 +217,7 @@ module _ {P : Type 0} (meld : P → P → P) where
   spans_reply now Caller.Outside v point reply u differ s = s
   spans_reply now (Caller.Rank r) v point reply u differ s =
       record {
-        begin = s.begin;
-        later = s.later;
-        rest = s.rest;
-        goes_on = s.goes_on;
-        begun = s.begun;
-        sees = s.sees;
-        looks = s.looks;
-        no_look = s.no_look;
-        stands = s.stands;
-        quiet = s.quiet;
+        course = s.course;
         unused = λ n is own at. s.unused n is own (sym (same n is) ∙ at);
         owns = λ n is own at. s.owns n is own (sym (same n is) ∙ at);
       }

@@ -53,6 +53,18 @@ first_of_one {Y = Y} f (w ∷ xs) x y (suc k, within, at) is one =
       | Some z ↦ λ one. absurd (let some = in_list (filter_map f xs) 0 y (more (omega (arith, one))) in omega (arith, one, some))
     ] one
 
+-- what holds of all bodies of a round holds of each member's
+pub each_given : {P : Type 0} (f : ℕ → Option (Slot P)) (Q : Body P → Type 0) (ms : List ℕ) → AllByRecursion Q (map (λ g. body_of g.offer) (filter_map contribution_of (filter_map f ms)))
+    → AllByRecursion (λ r. (given : Contribution P) → f r ≡ Some (Given given) → Q (body_of given.offer)) ms
+each_given f Q [] all = tt
+each_given {P} f Q (r ∷ ms) all = let parts = go (f r) refl all in (parts.0, each_given f Q ms parts.1)
+  where
+    go : (o : Option (Slot P)) → f r ≡ o → AllByRecursion Q (map (λ g. body_of g.offer) (filter_map contribution_of (cons_option o (filter_map f ms))))
+        → ((given : Contribution P) → f r ≡ Some (Given given) → Q (body_of given.offer)) × AllByRecursion Q (map (λ g. body_of g.offer) (filter_map contribution_of (filter_map f ms)))
+    go None is all = (λ given e. absurd (cc (is, e)), all)
+    go (Some (Marked mark)) is all = (λ given e. absurd (cc (is, e)), all)
+    go (Some (Given here)) is all = (λ given e. let same : here ≡ given = cc (is, e) in subst (λ g. Q (body_of g.offer)) same all.0, all.1)
+
 module _ {P : Type 0} (meld : P → P → P) where
   both_leave : (i : ℕ) (x y : Body P) → LeavesFree i (body_meld meld x y) → LeavesFree i x × LeavesFree i y
   both_leave i NoBody y free = (tt, free)
@@ -76,18 +88,6 @@ module _ {P : Type 0} (meld : P → P → P) where
   all_leave : (i : ℕ) (xs : List (Body P)) → LeavesFree i (combined body_unit (body_meld meld) xs) → AllByRecursion (LeavesFree i) xs
   all_leave i [] free = tt
   all_leave i (x ∷ xs) free = let both = both_leave i x (combined body_unit (body_meld meld) xs) free in (both.0, all_leave i xs both.1)
-
-  -- what holds of all bodies of a round holds of each member's
-  each_given : (f : ℕ → Option (Slot P)) (Q : Body P → Type 0) (ms : List ℕ) → AllByRecursion Q (map (λ g. body_of g.offer) (filter_map contribution_of (filter_map f ms)))
-      → AllByRecursion (λ r. (given : Contribution P) → f r ≡ Some (Given given) → Q (body_of given.offer)) ms
-  each_given f Q [] all = tt
-  each_given f Q (r ∷ ms) all = let parts = go (f r) refl all in (parts.0, each_given f Q ms parts.1)
-    where
-      go : (o : Option (Slot P)) → f r ≡ o → AllByRecursion Q (map (λ g. body_of g.offer) (filter_map contribution_of (cons_option o (filter_map f ms))))
-          → ((given : Contribution P) → f r ≡ Some (Given given) → Q (body_of given.offer)) × AllByRecursion Q (map (λ g. body_of g.offer) (filter_map contribution_of (filter_map f ms)))
-      go None is all = (λ given e. absurd (cc (is, e)), all)
-      go (Some (Marked mark)) is all = (λ given e. absurd (cc (is, e)), all)
-      go (Some (Given here)) is all = (λ given e. let same : here ≡ given = cc (is, e) in subst (λ g. Q (body_of g.offer)) same all.0, all.1)
 
   -- an id that a round decides on is free at each member that contributed
   pub free_at_each : (ranks : ℕ) (h : History P) (c k r : ℕ) (mask own : CtxMask) (given : Contribution P) (i : ℕ) → (decision meld ranks h c k).body ≡ Ctx mask → bit_at mask.bits i ≡ 1

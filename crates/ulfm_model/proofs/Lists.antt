@@ -202,6 +202,16 @@ at_member Q (x ∷ xs) r all e = go (at_member Q xs r all.1) (x == r) refl e
     go more true same e = subst Q (eqb-true x r same) all.0
     go more false same e = more e
 
+-- what all members pass, each passes
+pub all_member : (p : ℕ → Bool) (xs : List ℕ) (r : ℕ) → list_all p xs ≡ true → has xs r ≡ true → p r ≡ true
+all_member p [] r all e = absurd (cc e)
+all_member p (x ∷ xs) r all e =
+    let parts = and_parts (p x) (list_all p xs) all in go (all_member p xs r parts.1) parts.0 (x == r) refl e
+  where
+    go : (has xs r ≡ true → p r ≡ true) → p x ≡ true → (b : Bool) → (x == r) ≡ b → (b || has xs r) ≡ true → p r ≡ true
+    go more here true same e = ap p (sym (eqb-true x r same)) ∙ here
+    go more here false same e = more e
+
 -- where a test does not hold of all, some rank fails it
 pub some_fails : (p : ℕ → Bool) (xs : List ℕ) → list_all p xs ≡ false → (r : ℕ) × (has xs r ≡ true) × (p r ≡ false)
 some_fails p [] e = absurd (cc e)

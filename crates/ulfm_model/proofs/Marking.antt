@@ -19,7 +19,7 @@ use Rattle.ulfm_model.specs.History.{History, entries_by, failures, has, same_pl
 use Rattle.ulfm_model.specs.History.{Exists, IsLegal, IsLegalAfter, MayFollow, failed, members}
 use Rattle.ulfm_model.specs.Computed.{mark_at, mark_of, marks_of}
 use Rattle.ulfm_model.specs.Terms.{settled_by}
-use Rattle.ulfm_model.proofs.OneEvent.{declared_by, made_by, put_by}
+use Rattle.ulfm_model.proofs.OneEvent.{declared_by, made_by}
 use Rattle.ulfm_model.proofs.Lists.{distinct_filter, each_always, each_push, has_at, has_passes, in_list, length-filter-le, none_of}
 use Rattle.ulfm_model.proofs.Histories.{by_events, legal_push, members_stay, slot_kept, slot_push, slot_stays}
 use Rattle.ulfm_model.proofs.Spawned.{failures_distinct}

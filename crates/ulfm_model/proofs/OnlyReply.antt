@@ -1,8 +1,8 @@
 -- The poll of a request has one reply at each point of a history.
-use Rattle.std.proofs.Common.{◌≡◌, ℕ, zero, suc, ◌+◌, ◌-◌, ◌<◌, ◌^◌, ◌==◌, ◌||◌, Bool, true, false, List, [], ◌∷◌, length, Option, Some, None, is_some, refl, ap, ap₂, sym, ◌∙◌, arith, inl, inr, if◌then◌else◌, slice_get}
+use Rattle.std.proofs.Common.{◌≡◌, ℕ, zero, suc, ◌+◌, ◌-◌, ◌<◌, ◌^◌, ◌==◌, Bool, true, false, List, [], ◌∷◌, length, Option, Some, None, is_some, refl, ap, ap₂, sym, ◌∙◌, arith, inl, inr, if◌then◌else◌, slice_get}
 use Rattle.ulfm_laws.specs.Ranges.{payload_bits}
-use Rattle.std.specs.List.{list_all, list_any, position_from}
-use Rattle.std.proofs.lemmas.Bool.{and_from, and_parts, eq-eqb, eqb-true, false_from_ne_true, ne_eqb, or_left, or_right}
+use Rattle.std.specs.List.{list_any, position_from}
+use Rattle.std.proofs.lemmas.Bool.{and_from, eq-eqb, false_from_ne_true, ne_eqb, or_left, or_right}
 use Rattle.ulfm_laws.specs.declared.summary.Body.TheVariants.{Ctx as OfIds}
 use Rattle.ulfm_laws.specs.declared.summary.CtxMask.{CtxMask}
 use Rattle.ulfm_model.specs.declared.call.Request.{Request}
@@ -16,17 +16,8 @@ use Rattle.ulfm_model.specs.History.{Decision, IsLegal, decision, is_decided, is
 use Rattle.ulfm_model.specs.Computed.{agree_reply, poll_reply, shrink_reply, shrunk_reply}
 use Rattle.ulfm_model.specs.Records.{Held}
 use Rattle.ulfm_model.specs.Answers.{AgreeReplies, IsPending, PollReplies, ShrinkReplies, SpawnReplies, AtPoint}
+pub use Rattle.ulfm_model.proofs.Lists.{all_member}
 use Rattle.ulfm_model.proofs.OnlySpawned.{is_of, lowest_is, position_none, position_of, spawns_once}
-
--- what all members pass, each passes
-pub all_member : (p : ℕ → Bool) (xs : List ℕ) (r : ℕ) → list_all p xs ≡ true → has xs r ≡ true → p r ≡ true
-all_member p [] r all e = absurd (cc e)
-all_member p (x ∷ xs) r all e =
-    let parts = and_parts (p x) (list_all p xs) all in go (all_member p xs r parts.1) parts.0 (x == r) refl e
-  where
-    go : (has xs r ≡ true → p r ≡ true) → p x ≡ true → (b : Bool) → (x == r) ≡ b → (b || has xs r) ≡ true → p r ≡ true
-    go more here true same e = ap p (sym (eqb-true x r same)) ∙ here
-    go more here false same e = more e
 
 -- the entry of a round is of that round
 pub of_itself : (c k : ℕ) → is_of c k (c, k) ≡ true

@@ -1,5 +1,5 @@
 -- What is computed for any call of a rank is an answer.
-use Rattle.std.proofs.Common.{◌≡◌, ℕ, ◌+◌, ◌<◌, ◌≤◌, Bool, true, false, not, List, [], ◌∷◌, Option, Some, None, is_some, refl, ap, sym, ◌∙◌, subst, arith, append-nil, inl, inr, if◌then◌else◌}
+use Rattle.std.proofs.Common.{◌≡◌, ℕ, ◌+◌, ◌<◌, ◌≤◌, Bool, true, false, not, [], ◌∷◌, Option, Some, None, is_some, refl, ap, sym, ◌∙◌, subst, arith, append-nil, inl, inr}
 use Rattle.std.specs.Prelude.{nat_le}
 use Rattle.std.specs.List.{list_any}
 use Rattle.std.proofs.lemmas.Bool.Decides.{nat_tests}
@@ -16,18 +16,11 @@ use Rattle.ulfm_model.specs.{Answers.{RepliesBy, first_refusal, polled_by, refus
 use Rattle.ulfm_model.specs.Computed.{held_outcome, outcome_of, rank_outcome, used_outcome}
 use Rattle.ulfm_model.specs.Terms.{comm_of, contexts_of, request_of, tests_of}
 use Rattle.ulfm_model.specs.Answers.{Replies}
+use Rattle.ulfm_model.proofs.Allowed.{none_first_test}
 use Rattle.ulfm_model.proofs.StepsAlone.{IsGood, view_with}
 use Rattle.ulfm_model.proofs.StepsPlain.{ack_good, failure_ack_good, free_good, get_acked_good, get_good, holds, revoke_good, standing_good}
 use Rattle.ulfm_model.proofs.StepsPolls.{poll_good}
 use Rattle.ulfm_model.proofs.StepsStarts.{agree_good, barrier_good, shrink_good}
-
--- where no test refuses, the first doesn't hold, and the others don't refuse
-passes_first : (test : Bool × Refusal) (tests : List (Bool × Refusal)) → first_refusal (test ∷ tests) ≡ None → (test.0 ≡ false) × (first_refusal tests ≡ None)
-passes_first test tests e = go test.0 refl e
-  where
-    go : (b : Bool) → test.0 ≡ b → (if b then Some test.1 else first_refusal tests) ≡ None → (test.0 ≡ false) × (first_refusal tests ≡ None)
-    go true is e = absurd (cc e)
-    go false is e = (is, e)
 
 module _ {P : Type 0} (meld : P → P → P) (limits : Limits) (h : History P) (legal : IsLegal meld limits h) (small : limits.ranks ≤ 1024) (some : 0 < limits.comms) (own : Record) (fits : Fits meld limits h own) where
   below_rounds : (n : ℕ) → nat_le own.limits.rounds n ≡ false → n < limits.rounds
@@ -45,18 +38,18 @@ module _ {P : Type 0} (meld : P → P → P) (limits : Limits) (h : History P) (
   held_good alive (call.Ack r c count) rank by_rank x at passed tests = ack_good meld limits h own alive x r c count at passed
   held_good alive (call.FailureAck r c) rank by_rank x at passed tests = failure_ack_good meld limits h own alive x r c at passed
   held_good alive (call.Agree r c value) rank by_rank x at passed tests =
-      let first = passes_first (is_some x.request, Busy) ((nat_le own.limits.rounds (x.next_agreement + 1), RoundsUsedUp) ∷ []) tests in
-      let second = passes_first (nat_le own.limits.rounds (x.next_agreement + 1), RoundsUsedUp) [] first.1 in
+      let first = none_first_test (is_some x.request, Busy) ((nat_le own.limits.rounds (x.next_agreement + 1), RoundsUsedUp) ∷ []) tests in
+      let second = none_first_test (nat_le own.limits.rounds (x.next_agreement + 1), RoundsUsedUp) [] first.1 in
       let round : x.next_agreement < limits.rounds = omega (arith, below_rounds (x.next_agreement + 1) second.0) in
       agree_good meld limits h legal own alive (contexts_of own.held) x (holds meld limits h own fits c x at).0 r c value at passed small round
   held_good alive (call.Shrink r c) rank by_rank x at passed tests =
-      let first = passes_first (is_some x.request, Busy) ((list_any (λ y. is_shrink y.request) own.held, ShrinkOpen) ∷ (nat_le own.limits.rounds x.next_agreement, RoundsUsedUp) ∷ []) tests in
-      let second = passes_first (list_any (λ y. is_shrink y.request) own.held, ShrinkOpen) ((nat_le own.limits.rounds x.next_agreement, RoundsUsedUp) ∷ []) first.1 in
-      let third = passes_first (nat_le own.limits.rounds x.next_agreement, RoundsUsedUp) [] second.1 in
+      let first = none_first_test (is_some x.request, Busy) ((list_any (λ y. is_shrink y.request) own.held, ShrinkOpen) ∷ (nat_le own.limits.rounds x.next_agreement, RoundsUsedUp) ∷ []) tests in
+      let second = none_first_test (list_any (λ y. is_shrink y.request) own.held, ShrinkOpen) ((nat_le own.limits.rounds x.next_agreement, RoundsUsedUp) ∷ []) first.1 in
+      let third = none_first_test (nat_le own.limits.rounds x.next_agreement, RoundsUsedUp) [] second.1 in
       shrink_good meld limits h legal own alive (contexts_of own.held) x (holds meld limits h own fits c x at).0 r c at passed small (below_rounds x.next_agreement third.0)
   held_good alive (call.Barrier r c) rank by_rank x at passed tests =
-      let first = passes_first (is_some x.request, Busy) ((nat_le own.limits.rounds x.next_barrier, RoundsUsedUp) ∷ []) tests in
-      let second = passes_first (nat_le own.limits.rounds x.next_barrier, RoundsUsedUp) [] first.1 in
+      let first = none_first_test (is_some x.request, Busy) ((nat_le own.limits.rounds x.next_barrier, RoundsUsedUp) ∷ []) tests in
+      let second = none_first_test (nat_le own.limits.rounds x.next_barrier, RoundsUsedUp) [] first.1 in
       barrier_good meld limits h legal own alive (contexts_of own.held) x (holds meld limits h own fits c x at).0 r c at passed (below_rounds x.next_barrier second.0)
   held_good alive (call.Poll r c) rank by_rank x at passed tests =
       let held = holds meld limits h own fits c x at in poll_good meld limits h legal own alive small some (contexts_of own.held) x held.0 r c at passed held.1

@@ -45,42 +45,38 @@ pub enum Request {
     Barrier { round: u16 },
 }
 
+/// The rank that a call names, and its communicator. A declaration has none, and 0 here.
+#[inline]
+fn named_by<P: Copy>(asked: &Call<P>) -> (u16, u16)
+    ensures rank { result.0 ≡ rank_of asked.now }
+    ensures comm { result.1 ≡ (traits_of asked.now).comm }
+{
+    match *asked {
+        Call::Fail { rank } => (rank, 0),
+        Call::GetFailed { rank, comm }
+        | Call::Ack { rank, comm, .. }
+        | Call::FailureAck { rank, comm }
+        | Call::FailureGetAcked { rank, comm }
+        | Call::Agree { rank, comm, .. }
+        | Call::Shrink { rank, comm }
+        | Call::Barrier { rank, comm }
+        | Call::Poll { rank, comm }
+        | Call::Revoke { rank, comm }
+        | Call::IsRevoked { rank, comm }
+        | Call::Free { rank, comm } => (rank, comm),
+    }
+}
+
 /// The rank that a call names: its caller, or whom the outside declares failed.
 pub fn rank_of<P: Copy>(asked: &Call<P>) -> u16
     ensures { result ≡ rank_of asked.now }
 {
-    match *asked {
-        Call::Fail { rank }
-        | Call::GetFailed { rank, .. }
-        | Call::Ack { rank, .. }
-        | Call::FailureAck { rank, .. }
-        | Call::FailureGetAcked { rank, .. }
-        | Call::Agree { rank, .. }
-        | Call::Shrink { rank, .. }
-        | Call::Barrier { rank, .. }
-        | Call::Poll { rank, .. }
-        | Call::Revoke { rank, .. }
-        | Call::IsRevoked { rank, .. }
-        | Call::Free { rank, .. } => rank,
-    }
+    named_by(asked).0
 }
 
 /// The communicator of a call of a rank. A declaration has none, and 0 here.
 pub fn comm_of<P: Copy>(asked: &Call<P>) -> u16
     ensures { result ≡ (traits_of asked.now).comm }
 {
-    match *asked {
-        Call::Fail { .. } => 0,
-        Call::GetFailed { comm, .. }
-        | Call::Ack { comm, .. }
-        | Call::FailureAck { comm, .. }
-        | Call::FailureGetAcked { comm, .. }
-        | Call::Agree { comm, .. }
-        | Call::Shrink { comm, .. }
-        | Call::Barrier { comm, .. }
-        | Call::Poll { comm, .. }
-        | Call::Revoke { comm, .. }
-        | Call::IsRevoked { comm, .. }
-        | Call::Free { comm, .. } => comm,
-    }
+    named_by(asked).1
 }

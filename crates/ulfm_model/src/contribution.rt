@@ -14,7 +14,7 @@ pub enum Offer<P> {
 }
 
 /// What a rank contributes to an agreement round. Both counts are lengths of beginnings of the communicator's failed group.
-#[derive(Debug, PartialEq, Eq)]
+#[derive(Copy, Debug, PartialEq, Eq)]
 pub struct Contribution<P> {
     /// The flag or the context ids that the rank gives.
     pub offer: Offer<P>,
@@ -24,8 +24,6 @@ pub struct Contribution<P> {
     pub acked: Acked,
     ghost within: { acked.count ≤ known.count },
 }
-
-impl<P: Copy> Copy for Contribution<P> {}
 
 impl<P: Copy> Clone for Contribution<P> {
     fn clone(&self) -> Result<Self, AllocError>
@@ -44,15 +42,13 @@ pub struct MarkCount {
 }
 
 /// What stands at a member's place in an agreement round, once it is settled.
-#[derive(Debug, PartialEq, Eq)]
+#[derive(Copy, Debug, PartialEq, Eq)]
 pub enum Slot<P> {
     /// The member is left out: it was declared before it contributed.
     Mark(MarkCount),
     /// The member's contribution.
     Given(Contribution<P>),
 }
-
-impl<P: Copy> Copy for Slot<P> {}
 
 impl<P: Copy> Clone for Slot<P> {
     fn clone(&self) -> Result<Self, AllocError>

@@ -14,7 +14,7 @@ pub enum Caller {
 }
 
 /// What happens to the object. Each event is one atomic step.
-#[derive(Debug, PartialEq, Eq)]
+#[derive(Copy, Debug, PartialEq, Eq)]
 pub enum Event<P> {
     /// A rank is declared failed.
     Fail {
@@ -68,8 +68,6 @@ pub enum Event<P> {
     },
 }
 
-impl<P: Copy> Copy for Event<P> {}
-
 impl<P: Copy> Clone for Event<P> {
     fn clone(&self) -> Result<Self, AllocError>
         ensures { result ≡ Ok self.now }
@@ -79,15 +77,13 @@ impl<P: Copy> Clone for Event<P> {
 }
 
 /// An event with its caller's name.
-#[derive(Debug, PartialEq, Eq)]
+#[derive(Copy, Debug, PartialEq, Eq)]
 pub struct Entry<P> {
     /// In whose name it came.
     pub by: Caller,
     /// What happened.
     pub event: Event<P>,
 }
-
-impl<P: Copy> Copy for Entry<P> {}
 
 impl<P: Copy> Clone for Entry<P> {
     fn clone(&self) -> Result<Self, AllocError>

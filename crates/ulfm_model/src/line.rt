@@ -7,6 +7,7 @@ use crate::reply::Reply;
 use std::alloc::AllocError;
 
 /// A line behind the header. The ranks that a reply lists stand beside it.
+#[derive(Copy)]
 pub enum Line<P> {
     /// A call begins.
     Called {
@@ -38,8 +39,6 @@ pub enum Line<P> {
         reply: Option<Reply<P>>,
     },
 }
-
-impl<P: Copy> Copy for Line<P> {}
 
 impl<P: Copy> Clone for Line<P> {
     fn clone(&self) -> Result<Self, AllocError>

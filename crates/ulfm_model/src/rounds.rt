@@ -5,14 +5,10 @@ ghost use Rattle.ulfm_model.specs.Told.{ShrinksOpen, ShrinksTell, StartsRefuse};
 
 use ulfm_laws::meld::Meld;
 
-/// An agree that started is open in the round that was next.
-pub fn agrees_open<P: Meld>()
-    ensures { AgreesOpen P.meld }
-{}
-
-/// A shrink that started is open in the round that was next.
-pub fn shrinks_open<P: Meld>()
-    ensures { ShrinksOpen P.meld }
+/// An agree or a shrink that started is open in the round that was next.
+pub fn starts_open<P: Meld>()
+    ensures agree { AgreesOpen P.meld }
+    ensures shrink { ShrinksOpen P.meld }
 {}
 
 /// A pending poll leaves what is held.
@@ -20,14 +16,10 @@ pub fn pending_keeps<P: Meld>()
     ensures { PendingKeeps P.meld }
 {}
 
-/// The poll of an agree that is answered tells what its round decided.
-pub fn agrees_tell<P: Meld>()
-    ensures { AgreesTell P.meld }
-{}
-
-/// The poll of a shrink that is answered tells what was made of its round.
-pub fn shrinks_tell<P: Meld>()
-    ensures { ShrinksTell P.meld }
+/// The poll of an agree that is answered tells what its round decided, and that of a shrink what was made of its round.
+pub fn polls_tell<P: Meld>()
+    ensures agree { AgreesTell P.meld }
+    ensures shrink { ShrinksTell P.meld }
 {}
 
 /// A rank that is refused as self-failed is declared.
@@ -40,12 +32,8 @@ pub fn replies_stay<P: Meld>()
     ensures { RepliesStay P.meld }
 {}
 
-/// A start that the record doesn't refuse is refused with its reason.
-pub fn starts_refuse<P: Meld>()
-    ensures { StartsRefuse P.meld }
-{}
-
-/// A poll of an agree or a shrink is refused with its reason.
-pub fn polls_refuse<P: Meld>()
-    ensures { PollsRefuse P.meld }
+/// What is refused is refused with its reason: a start that the record doesn't refuse, and a poll of an agree or a shrink.
+pub fn refusals_have_reasons<P: Meld>()
+    ensures start { StartsRefuse P.meld }
+    ensures poll { PollsRefuse P.meld }
 {}

@@ -6,6 +6,7 @@ use crate::step_name::StepName;
 use std::alloc::AllocError;
 
 /// A line behind the header.
+#[derive(Copy)]
 pub enum StepLine<P> {
     /// A rank begins a call.
     Called {
@@ -32,8 +33,6 @@ pub enum StepLine<P> {
         rank: u16,
     },
 }
-
-impl<P: Copy> Copy for StepLine<P> {}
 
 impl<P: Copy> Clone for StepLine<P> {
     fn clone(&self) -> Result<Self, AllocError>

@@ -1,11 +1,11 @@
 -- A decided flag has no bit that the flag of a contributor lacks.
-use Rattle.std.proofs.Common.{◌≡◌, ℕ, List, [], ◌∷◌, map, Option, Some, None, refl, ap, sym, ◌∙◌, subst}
-use Rattle.std.specs.{Prelude.{filter_map}, List.{AllByRecursion, cons_option}}
+use Rattle.std.proofs.Common.{◌≡◌, ℕ, List, [], ◌∷◌, map, Some, ap, sym, ◌∙◌, subst}
+use Rattle.std.specs.{Prelude.{filter_map}, List.{AllByRecursion}}
 use Rattle.ulfm_laws.specs.{Bodies.{body_lawful, body_meld, body_unit}, Combined.{combined}, Flags.{flag_lawful, flag_meld}, Lawful.{IsLawful}, declared.flag_and.FlagAnd.{FlagAnd}}
 use Rattle.ulfm_laws.specs.declared.summary.{Body.{Body}, Body.TheVariants.{Flag}}
-use Rattle.ulfm_model.specs.declared.{contribution.Contribution.{Contribution}, contribution.Slot.{Slot}, contribution.Slot.TheVariants.{Given, Mark as Marked}, limits.Limits.{Limits}}
+use Rattle.ulfm_model.specs.declared.{contribution.Contribution.{Contribution}, contribution.Slot.TheVariants.{Given}, limits.Limits.{Limits}}
 use Rattle.ulfm_model.specs.History.{History, IsLegal, body_of, contribution_of, decision, members, slot}
-use Rattle.ulfm_model.proofs.{Decisions.{slot_stands}, Lists.{at_member}}
+use Rattle.ulfm_model.proofs.{Decisions.{slot_stands}, LeftIds.{each_given}, Lists.{at_member}}
 use Rattle.ulfm_model.specs.Rounds.{Gave}
 
 -- what takes in many takes in each
@@ -23,18 +23,6 @@ module _ {B : Type 0} (unit : B) (meld : B → B → B) (laws : IsLawful unit me
   each_in : (b : B) (xs : List B) → meld b (combined unit meld xs) ≡ b → AllByRecursion (λ x. meld b x ≡ b) xs
   each_in b [] is = tt
   each_in b (x ∷ xs) is = (first_in b x (combined unit meld xs) is, each_in b xs (second_in b x (combined unit meld xs) is))
-
--- what holds of all bodies of a round holds of each member's
-each_given : {P : Type 0} (f : ℕ → Option (Slot P)) (Q : Body P → Type 0) (ms : List ℕ) → AllByRecursion Q (map (λ g. body_of g.offer) (filter_map contribution_of (filter_map f ms)))
-    → AllByRecursion (λ r. (given : Contribution P) → f r ≡ Some (Given given) → Q (body_of given.offer)) ms
-each_given f Q [] all = tt
-each_given {P} f Q (r ∷ ms) all = let parts = go (f r) refl all in (parts.0, each_given f Q ms parts.1)
-  where
-    go : (o : Option (Slot P)) → f r ≡ o → AllByRecursion Q (map (λ g. body_of g.offer) (filter_map contribution_of (cons_option o (filter_map f ms))))
-        → ((given : Contribution P) → f r ≡ Some (Given given) → Q (body_of given.offer)) × AllByRecursion Q (map (λ g. body_of g.offer) (filter_map contribution_of (filter_map f ms)))
-    go None is all = (λ given e. absurd (cc (is, e)), all)
-    go (Some (Marked mark)) is all = (λ given e. absurd (cc (is, e)), all)
-    go (Some (Given here)) is all = (λ given e. let same : here ≡ given = cc (is, e) in subst (λ g. Q (body_of g.offer)) same all.0, all.1)
 
 pub decided_within : (limits : Limits) (h : History FlagAnd) (c k r : ℕ) (value flag : FlagAnd) → IsLegal flag_meld limits h → (decision flag_meld limits.ranks h c k).body ≡ Flag value → Gave h c k r flag
     → flag_meld value flag ≡ value
