@@ -6,6 +6,7 @@ use std::marker::PhantomData;
 use ulfm_laws::meld::Packed;
 use ulfm_model::block::{Beside, Block, Wing};
 use ulfm_model::limits::Limits;
+use ulfm_model::place::Place;
 use ulfm_words::Step;
 
 /// The one rule over all words, which holds between any two steps of any threads.
@@ -49,30 +50,31 @@ impl<P: Packed> Opening<Limits, Line<P>> for Opens {
     ghost log = { λ count limits. log_of limits };
 }
 
-/// A load of a place's word.
-pub(crate) struct Look<P: Packed> {
-    of: PhantomData<P>,
+/// A load of a word at such a site: at a place, a block or a wing.
+pub(crate) struct Load<P: Packed, At> {
+    of: PhantomData<(P, At)>,
 }
 
-impl<P: Packed> Play<Line<P>, u64> for Look<P> {
+/// An exchange of such a word, which adds a line where it wins.
+pub(crate) struct Exchange<P: Packed, At> {
+    of: PhantomData<(P, At)>,
+}
+
+impl<P: Packed> Play<Line<P>, u64> for Load<P, Place> {
     ghost use Rattle.ulfm_book.specs.Rules.{Looks};
 
     ghost then = { Looks P.meld P.pack };
 }
 
-/// An exchange, which adds an event where it wins.
-pub(crate) struct Add<P: Packed> {
-    of: PhantomData<P>,
-}
-
-impl<P: Packed> Play<Line<P>, u64> for Add<P> {
+/// An exchange at a place adds an event.
+impl<P: Packed> Play<Line<P>, u64> for Exchange<P, Place> {
     ghost use Rattle.ulfm_book.specs.Rules.{Exchanges};
 
     ghost then = { Exchanges P.meld P.pack };
 }
 
-/// What an exchange asks for: the line of its step's event.
-impl<P: Packed> Plain<Step, Line<P>, u64> for Add<P> {
+/// It asks for the line of its step's event.
+impl<P: Packed> Plain<Step, Line<P>, u64> for Exchange<P, Place> {
     ghost use Rattle.std.specs.Prelude.{None};
     ghost use Rattle.ulfm_book.specs.Logs.{line_of};
     ghost use Rattle.ulfm_words.specs.Entries.{entry_of};
@@ -82,30 +84,21 @@ impl<P: Packed> Plain<Step, Line<P>, u64> for Add<P> {
     ghost state = { λ s. None };
 }
 
-/// A load of a block's word.
-pub(crate) struct LookBlock<P: Packed> {
-    of: PhantomData<P>,
-}
-
-impl<P: Packed> Play<Line<P>, u64> for LookBlock<P> {
+impl<P: Packed> Play<Line<P>, u64> for Load<P, Block> {
     ghost use Rattle.ulfm_book.specs.Rules.{LooksBlock};
 
     ghost then = { LooksBlock P.meld P.pack };
 }
 
-/// An exchange of a block's word, which adds the block where it wins.
-pub(crate) struct AddBlock<P: Packed> {
-    of: PhantomData<P>,
-}
-
-impl<P: Packed> Play<Line<P>, u64> for AddBlock<P> {
+/// An exchange of a block's word adds the block.
+impl<P: Packed> Play<Line<P>, u64> for Exchange<P, Block> {
     ghost use Rattle.ulfm_book.specs.Rules.{AddsBlock};
 
     ghost then = { AddsBlock P.meld };
 }
 
-/// What it asks for: the line of the block.
-impl<P: Packed> Plain<Block, Line<P>, u64> for AddBlock<P> {
+/// It asks for the line of the block.
+impl<P: Packed> Plain<Block, Line<P>, u64> for Exchange<P, Block> {
     ghost use Rattle.std.specs.Prelude.{None};
     ghost use Rattle.ulfm_model.specs.declared.block.Beside.{Beside as BesideOf};
     ghost use Rattle.ulfm_book.specs.declared.line.Line.TheVariants.{Kept};
@@ -115,19 +108,14 @@ impl<P: Packed> Plain<Block, Line<P>, u64> for AddBlock<P> {
     ghost state = { λ b. None };
 }
 
-/// A load of a wing.
-pub(crate) struct LookWing<P: Packed> {
-    of: PhantomData<P>,
-}
-
-impl<P: Packed> Play<Line<P>, u64> for LookWing<P> {
+impl<P: Packed> Play<Line<P>, u64> for Load<P, Wing> {
     ghost use Rattle.ulfm_book.specs.Rules.{LooksWing};
 
     ghost then = { LooksWing P.meld P.pack };
 }
 
 /// A load asks for no line.
-impl<P: Packed> Plain<Wing, Line<P>, u64> for LookWing<P> {
+impl<P: Packed> Plain<Wing, Line<P>, u64> for Load<P, Wing> {
     ghost use Rattle.std.specs.Prelude.{None};
     ghost use Rattle.ulfm_book.specs.Logs.{line_of};
 
@@ -136,19 +124,15 @@ impl<P: Packed> Plain<Wing, Line<P>, u64> for LookWing<P> {
     ghost state = { λ x. None };
 }
 
-/// An exchange of a wing, which adds the wing where it wins.
-pub(crate) struct AddWing<P: Packed> {
-    of: PhantomData<P>,
-}
-
-impl<P: Packed> Play<Line<P>, u64> for AddWing<P> {
+/// An exchange of a wing adds the wing.
+impl<P: Packed> Play<Line<P>, u64> for Exchange<P, Wing> {
     ghost use Rattle.ulfm_book.specs.Rules.{AddsWing};
 
     ghost then = { AddsWing P.meld };
 }
 
-/// What it asks for: the line of the wing.
-impl<P: Packed> Plain<Beside, Line<P>, u64> for AddWing<P> {
+/// It asks for the line of the wing.
+impl<P: Packed> Plain<Beside, Line<P>, u64> for Exchange<P, Wing> {
     ghost use Rattle.std.specs.Prelude.{None};
     ghost use Rattle.ulfm_book.specs.declared.line.Line.TheVariants.{Kept};
 
