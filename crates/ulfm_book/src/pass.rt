@@ -136,9 +136,10 @@ impl<P: Packed> BookPass<P> {
         requires word { word.now ≡ word_named (book_of self.old.name) (block_offset self.old.name.limits block) }
         ensures { LoadsBlock P.meld P.pack false block result (view_of P.pack self.old.name self.old) (view_of P.pack self.old.name self.new) }
     {
+        let beside = Beside::Block(block);
         let mut offer: Offer<Line<P>, u64, Law<P>, Nothing> = self
             .seen
-            .plain::<Nothing, Block, Exchange<P, Block>>(&block);
+            .plain::<Nothing, Beside, Exchange<P, Block>>(&beside);
         let found = word.load::<Load<P, Block>, Nothing>(&mut self.seen, &mut offer);
         self.trail = stamped(&self.trail, Site::Block(block), found, true);
         found
@@ -158,9 +159,10 @@ impl<P: Packed> BookPass<P> {
         requires winged { IsSpreadBlock (view_of P.pack self.old.name self.old) block }
         ensures { Caches P.meld false block said (view_of P.pack self.old.name self.old) result (view_of P.pack self.old.name self.new) }
     {
+        let beside = Beside::Block(block);
         let mut offer: Offer<Line<P>, u64, Law<P>, Nothing> = self
             .seen
-            .plain::<Nothing, Block, Exchange<P, Block>>(&block);
+            .plain::<Nothing, Beside, Exchange<P, Block>>(&beside);
         let mut pen = self.seen.no_pen();
         let stood = word.compare_exchange::<Exchange<P, Block>, Nothing>(
             0,
@@ -181,9 +183,10 @@ impl<P: Packed> BookPass<P> {
         requires stands { IsSpread (view_of P.pack self.old.name self.old) wing }
         ensures { LoadsWing P.meld P.pack false wing result (view_of P.pack self.old.name self.old) (view_of P.pack self.old.name self.new) }
     {
+        let beside = Beside::Wing { wing, word: 0 };
         let mut offer: Offer<Line<P>, u64, Law<P>, Nothing> = self
             .seen
-            .plain::<Nothing, Wing, Load<P, Wing>>(&wing);
+            .plain::<Nothing, Beside, Exchange<P, Wing>>(&beside);
         let found = word.load::<Load<P, Wing>, Nothing>(&mut self.seen, &mut offer);
         self.trail = stamped(&self.trail, Site::Wing(wing), found, true);
         found

@@ -1,5 +1,7 @@
 //! The rule that ties shared words to their log at every moment, and what each step may do by it. Both are for the
 //! proofs alone.
+ghost use Rattle.ulfm_book.specs.Rules.{Looks, LooksBlock, LooksWing, Exchanges, AddsBlock, AddsWing};
+
 use crate::line::Line;
 use logbook::{Gain, Opening, Plain, Play, Rule};
 use std::marker::PhantomData;
@@ -61,15 +63,11 @@ pub(crate) struct Exchange<P: Packed, At> {
 }
 
 impl<P: Packed> Play<Line<P>, u64> for Load<P, Place> {
-    ghost use Rattle.ulfm_book.specs.Rules.{Looks};
-
     ghost then = { Looks P.meld P.pack };
 }
 
 /// An exchange at a place adds an event.
 impl<P: Packed> Play<Line<P>, u64> for Exchange<P, Place> {
-    ghost use Rattle.ulfm_book.specs.Rules.{Exchanges};
-
     ghost then = { Exchanges P.meld P.pack };
 }
 
@@ -85,54 +83,28 @@ impl<P: Packed> Plain<Step, Line<P>, u64> for Exchange<P, Place> {
 }
 
 impl<P: Packed> Play<Line<P>, u64> for Load<P, Block> {
-    ghost use Rattle.ulfm_book.specs.Rules.{LooksBlock};
-
     ghost then = { LooksBlock P.meld P.pack };
 }
 
 /// An exchange of a block's word adds the block.
 impl<P: Packed> Play<Line<P>, u64> for Exchange<P, Block> {
-    ghost use Rattle.ulfm_book.specs.Rules.{AddsBlock};
-
     ghost then = { AddsBlock P.meld };
 }
 
-/// It asks for the line of the block.
-impl<P: Packed> Plain<Block, Line<P>, u64> for Exchange<P, Block> {
-    ghost use Rattle.std.specs.Prelude.{None};
-    ghost use Rattle.ulfm_model.specs.declared.block.Beside.{Beside as BesideOf};
-    ghost use Rattle.ulfm_book.specs.declared.line.Line.TheVariants.{Kept};
-
-    ghost ask = { λ b. Kept (BesideOf.Block b) };
-
-    ghost state = { λ b. None };
-}
-
 impl<P: Packed> Play<Line<P>, u64> for Load<P, Wing> {
-    ghost use Rattle.ulfm_book.specs.Rules.{LooksWing};
-
     ghost then = { LooksWing P.meld P.pack };
-}
-
-/// A load asks for no line.
-impl<P: Packed> Plain<Wing, Line<P>, u64> for Load<P, Wing> {
-    ghost use Rattle.std.specs.Prelude.{None};
-    ghost use Rattle.ulfm_book.specs.Logs.{line_of};
-
-    ghost ask = { λ x. line_of None };
-
-    ghost state = { λ x. None };
 }
 
 /// An exchange of a wing adds the wing.
 impl<P: Packed> Play<Line<P>, u64> for Exchange<P, Wing> {
-    ghost use Rattle.ulfm_book.specs.Rules.{AddsWing};
-
     ghost then = { AddsWing P.meld };
 }
 
-/// It asks for the line of the wing.
-impl<P: Packed> Plain<Beside, Line<P>, u64> for Exchange<P, Wing> {
+/// Beside the words of events an exchange asks for the line of what it sets.
+impl<P: Packed, At> Plain<Beside, Line<P>, u64> for Exchange<P, At>
+where
+    Exchange<P, At>: Play<Line<P>, u64>,
+{
     ghost use Rattle.std.specs.Prelude.{None};
     ghost use Rattle.ulfm_book.specs.declared.line.Line.TheVariants.{Kept};
 
