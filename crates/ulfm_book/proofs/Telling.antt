@@ -8,7 +8,7 @@ use Rattle.ulfm_model.specs.declared.{block.Block.{Block}, block.Wing.{Wing}, co
 use Rattle.ulfm_model.specs.{Blocks.{IsBlockWithin, IsCached, IsWing, has_block, has_wing}, History.{History, IsLegal}, Runs.{Did}, Words.{MayOpen, word_at}}
 use Rattle.ulfm_model.proofs.{Blocks.{has_block_stays}, Histories.{slot_stays}}
 use Rattle.ulfm_words.specs.declared.{step.Last.{Last}, step.Site.{Site}, step.Step.{Step}}
-use Rattle.ulfm_words.specs.{Blocks.{Caches, IsSpread, LoadsBlock, LoadsWing, SetsWing, WasWing, standing}, Entries.{entry_of}, Pass.{caches_in, last_of}, Places.{IsWingWithin, IsWithin}, Steps.{Heard, IsView, Learns, Loads, Loses, Sets, Sight, Wins}}
+use Rattle.ulfm_words.specs.{Blocks.{Caches, IsSpread, LoadsBeside, LoadsBlock, LoadsWing, SetsWing, WasWing, standing}, Entries.{entry_of}, Pass.{caches_in, last_of}, Places.{IsWingWithin, IsWithin}, Steps.{Heard, IsView, Learns, Loads, Loses, Sets, Sight, Wins}}
 use Rattle.ulfm_words.proofs.{Standing.{caches_loaded, caches_place, caches_set, caches_wing_load, caches_wing_set}, Telling.{last_of-push}}
 use Rattle.ulfm_words.specs.Steps.{coding, found as found_by, view_of}
 use Rattle.ulfm_book.specs.declared.{line.Line.{Line}, line.Line.TheVariants.{Made}}
@@ -122,6 +122,12 @@ module _ {P : Type 0} (meld : P → P → P) (pack : P → ℕ) where
         let stands : IsFound pack k found new = rw (ne_eqb found 0 some) at finds.1 in
         record { some = omega (arith, some); stands = found_at old new s.place k found finds.0 within key stands; did = others (history_in old) (history_in new) finds.0.history })
 
+    -- a load of a word that no event sets, by what this word is
+    loads_beside : (at : Site) (found : ℕ) (Is : Type 0) → b' ≡ b → MayOpen (limits_in old) → Extends meld old new → trail' ≡ trail ++ made at found true ∷ [] → caches_in trail' ≡ caches_in trail → Is
+        → LoadsBeside meld false at found Is (view_of pack (name_of b (limits_in old)) (sight_of b old trail)) (view_of pack (name_of b (limits_in old)) (sight_of b' new trail'))
+    loads_beside at found Is same may s is quiet stands =
+        record { of = still same may s; did = others (history_in old) (history_in new) s.history; cached = s.cached; caches = quiet; steps = one_more (made at found true) is; last = last_is (made at found true) is; stands = stands }
+
     abbrev LoadBlockTells : Block → ℕ → ℕ → Sight P → Type 0
     LoadBlockTells block k found pass =
         StepTells IsBlockWithin block_offset block k (made (Site.Block block) found true) (Extends meld old new × IsBlockFound meld pack k found new) pass (LoadsBlock meld pack false block found (view_of pack pass.name pass) (view_of pack pass.name (sight_of b' new trail')))
@@ -132,17 +138,8 @@ module _ {P : Type 0} (meld : P → P → P) (pack : P → ℕ) where
         subst (LoadBlockTells block k found) e (λ of within key same looks is.
         let s = looks.0 in
         let stands = of_one IsBlockWithin block_offset old new block k (λ x. IsOfBlock meld pack new x found) s within key looks.1 in
-        record {
-          of = still same of.may_open s;
-          did = others (history_in old) (history_in new) s.history;
-          cached = s.cached;
-          caches = ap caches_in is ∙ caches_loaded trail block found;
-          steps = one_more (made (Site.Block block) found true) is;
-          last = last_is (made (Site.Block block) found true) is;
-          stands = subst (λ n. IsCached meld pack n.ranks (history_in new) block found) s.limits stands.stands;
-          unset = stands.unset;
-          set = stands.set;
-        })
+        let cached = subst (λ n. IsCached meld pack n.ranks (history_in new) block found) s.limits stands.stands in
+        loads_beside (Site.Block block) found _ same of.may_open s is (ap caches_in is ∙ caches_loaded trail block found) (record { cached = cached; unset = stands.unset; set = stands.set }))
 
     abbrev CacheTells : Block → ℕ → ℕ → ℕ → Result (Unit {0}) ℕ → Sight P → Type 0
     CacheTells block k word found result pass =
@@ -181,15 +178,7 @@ module _ {P : Type 0} (meld : P → P → P) (pack : P → ℕ) where
         subst (LoadWingTells x k found) e (λ of within key same looks is spread.
         let s = looks.0 in
         let stands = of_one IsWingWithin wing_offset old new x k (λ y. IsSpreadIn new y → IsWing meld pack (limits_in new).ranks (history_in new) y found) s within key looks.1 in
-        record {
-          of = still same of.may_open s;
-          did = others (history_in old) (history_in new) s.history;
-          cached = s.cached;
-          caches = ap caches_in is ∙ caches_wing_load trail x found;
-          steps = one_more (made (Site.Wing x) found true) is;
-          last = last_is (made (Site.Wing x) found true) is;
-          stands = subst (λ n. IsWing meld pack n.ranks (history_in new) x found) s.limits (stands (still_spread x s spread));
-        })
+        loads_beside (Site.Wing x) found _ same of.may_open s is (ap caches_in is ∙ caches_wing_load trail x found) (subst (λ n. IsWing meld pack n.ranks (history_in new) x found) s.limits (stands (still_spread x s spread))))
 
     abbrev SetWingTells : Wing → ℕ → ℕ → ℕ → Result (Unit {0}) ℕ → Sight P → Type 0
     SetWingTells x k word found result pass =

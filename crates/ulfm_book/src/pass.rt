@@ -11,7 +11,7 @@ ghost use Rattle.ulfm_book.specs.Rules.{book_of, sight_of, word_named};
 ghost use Rattle.ulfm_book.specs.Layout.{block_offset, place_offset, wing_offset};
 
 use crate::line::Line;
-use crate::rule::{Add, AddBlock, AddWing, Law, Look, LookBlock, LookWing, Nothing};
+use crate::rule::{Exchange, Law, Load, Nothing};
 use logbook::{Offer, Seen, Word};
 use std::marker::Model;
 use ulfm_laws::meld::Packed;
@@ -95,8 +95,8 @@ impl<P: Packed> BookPass<P> {
         };
         let mut offer: Offer<Line<P>, u64, Law<P>, Nothing> = self
             .seen
-            .plain::<Nothing, Step, Add<P>>(&nothing);
-        let found = word.load::<Look<P>, Nothing>(&mut self.seen, &mut offer);
+            .plain::<Nothing, Step, Exchange<P, Place>>(&nothing);
+        let found = word.load::<Load<P, Place>, Nothing>(&mut self.seen, &mut offer);
         self.trail = stamped(&self.trail, Site::Place(place), found, true);
         found
     }
@@ -116,9 +116,9 @@ impl<P: Packed> BookPass<P> {
     {
         let mut offer: Offer<Line<P>, u64, Law<P>, Nothing> = self
             .seen
-            .plain::<Nothing, Step, Add<P>>(&step);
+            .plain::<Nothing, Step, Exchange<P, Place>>(&step);
         let mut pen = self.seen.no_pen();
-        let found = word.compare_exchange::<Add<P>, Nothing>(
+        let found = word.compare_exchange::<Exchange<P, Place>, Nothing>(
             0,
             step.word,
             &mut self.seen,
@@ -136,10 +136,11 @@ impl<P: Packed> BookPass<P> {
         requires word { word.now ≡ word_named (book_of self.old.name) (block_offset self.old.name.limits block) }
         ensures { LoadsBlock P.meld P.pack false block result (view_of P.pack self.old.name self.old) (view_of P.pack self.old.name self.new) }
     {
+        let beside = Beside::Block(block);
         let mut offer: Offer<Line<P>, u64, Law<P>, Nothing> = self
             .seen
-            .plain::<Nothing, Block, AddBlock<P>>(&block);
-        let found = word.load::<LookBlock<P>, Nothing>(&mut self.seen, &mut offer);
+            .plain::<Nothing, Beside, Exchange<P, Block>>(&beside);
+        let found = word.load::<Load<P, Block>, Nothing>(&mut self.seen, &mut offer);
         self.trail = stamped(&self.trail, Site::Block(block), found, true);
         found
     }
@@ -158,11 +159,12 @@ impl<P: Packed> BookPass<P> {
         requires winged { IsSpreadBlock (view_of P.pack self.old.name self.old) block }
         ensures { Caches P.meld false block said (view_of P.pack self.old.name self.old) result (view_of P.pack self.old.name self.new) }
     {
+        let beside = Beside::Block(block);
         let mut offer: Offer<Line<P>, u64, Law<P>, Nothing> = self
             .seen
-            .plain::<Nothing, Block, AddBlock<P>>(&block);
+            .plain::<Nothing, Beside, Exchange<P, Block>>(&beside);
         let mut pen = self.seen.no_pen();
-        let stood = word.compare_exchange::<AddBlock<P>, Nothing>(
+        let stood = word.compare_exchange::<Exchange<P, Block>, Nothing>(
             0,
             said,
             &mut self.seen,
@@ -181,10 +183,11 @@ impl<P: Packed> BookPass<P> {
         requires stands { IsSpread (view_of P.pack self.old.name self.old) wing }
         ensures { LoadsWing P.meld P.pack false wing result (view_of P.pack self.old.name self.old) (view_of P.pack self.old.name self.new) }
     {
+        let beside = Beside::Wing { wing, word: 0 };
         let mut offer: Offer<Line<P>, u64, Law<P>, Nothing> = self
             .seen
-            .plain::<Nothing, Wing, LookWing<P>>(&wing);
-        let found = word.load::<LookWing<P>, Nothing>(&mut self.seen, &mut offer);
+            .plain::<Nothing, Beside, Exchange<P, Wing>>(&beside);
+        let found = word.load::<Load<P, Wing>, Nothing>(&mut self.seen, &mut offer);
         self.trail = stamped(&self.trail, Site::Wing(wing), found, true);
         found
     }
@@ -205,9 +208,9 @@ impl<P: Packed> BookPass<P> {
         let beside = Beside::Wing { wing, word: upper };
         let mut offer: Offer<Line<P>, u64, Law<P>, Nothing> = self
             .seen
-            .plain::<Nothing, Beside, AddWing<P>>(&beside);
+            .plain::<Nothing, Beside, Exchange<P, Wing>>(&beside);
         let mut pen = self.seen.no_pen();
-        let before = word.compare_exchange::<AddWing<P>, Nothing>(
+        let before = word.compare_exchange::<Exchange<P, Wing>, Nothing>(
             0,
             upper,
             &mut self.seen,

@@ -1,11 +1,14 @@
 //! The rule that ties shared words to their log at every moment, and what each step may do by it. Both are for the
 //! proofs alone.
+ghost use Rattle.ulfm_book.specs.Rules.{Looks, LooksBlock, LooksWing, Exchanges, AddsBlock, AddsWing};
+
 use crate::line::Line;
 use logbook::{Gain, Opening, Plain, Play, Rule};
 use std::marker::PhantomData;
 use ulfm_laws::meld::Packed;
 use ulfm_model::block::{Beside, Block, Wing};
 use ulfm_model::limits::Limits;
+use ulfm_model::place::Place;
 use ulfm_words::Step;
 
 /// The one rule over all words, which holds between any two steps of any threads.
@@ -49,30 +52,27 @@ impl<P: Packed> Opening<Limits, Line<P>> for Opens {
     ghost log = { λ count limits. log_of limits };
 }
 
-/// A load of a place's word.
-pub(crate) struct Look<P: Packed> {
-    of: PhantomData<P>,
+/// A load of a word at such a site: at a place, a block or a wing.
+pub(crate) struct Load<P: Packed, At> {
+    of: PhantomData<(P, At)>,
 }
 
-impl<P: Packed> Play<Line<P>, u64> for Look<P> {
-    ghost use Rattle.ulfm_book.specs.Rules.{Looks};
+/// An exchange of such a word, which adds a line where it wins.
+pub(crate) struct Exchange<P: Packed, At> {
+    of: PhantomData<(P, At)>,
+}
 
+impl<P: Packed> Play<Line<P>, u64> for Load<P, Place> {
     ghost then = { Looks P.meld P.pack };
 }
 
-/// An exchange, which adds an event where it wins.
-pub(crate) struct Add<P: Packed> {
-    of: PhantomData<P>,
-}
-
-impl<P: Packed> Play<Line<P>, u64> for Add<P> {
-    ghost use Rattle.ulfm_book.specs.Rules.{Exchanges};
-
+/// An exchange at a place adds an event.
+impl<P: Packed> Play<Line<P>, u64> for Exchange<P, Place> {
     ghost then = { Exchanges P.meld P.pack };
 }
 
-/// What an exchange asks for: the line of its step's event.
-impl<P: Packed> Plain<Step, Line<P>, u64> for Add<P> {
+/// It asks for the line of its step's event.
+impl<P: Packed> Plain<Step, Line<P>, u64> for Exchange<P, Place> {
     ghost use Rattle.std.specs.Prelude.{None};
     ghost use Rattle.ulfm_book.specs.Logs.{line_of};
     ghost use Rattle.ulfm_words.specs.Entries.{entry_of};
@@ -82,73 +82,29 @@ impl<P: Packed> Plain<Step, Line<P>, u64> for Add<P> {
     ghost state = { λ s. None };
 }
 
-/// A load of a block's word.
-pub(crate) struct LookBlock<P: Packed> {
-    of: PhantomData<P>,
-}
-
-impl<P: Packed> Play<Line<P>, u64> for LookBlock<P> {
-    ghost use Rattle.ulfm_book.specs.Rules.{LooksBlock};
-
+impl<P: Packed> Play<Line<P>, u64> for Load<P, Block> {
     ghost then = { LooksBlock P.meld P.pack };
 }
 
-/// An exchange of a block's word, which adds the block where it wins.
-pub(crate) struct AddBlock<P: Packed> {
-    of: PhantomData<P>,
-}
-
-impl<P: Packed> Play<Line<P>, u64> for AddBlock<P> {
-    ghost use Rattle.ulfm_book.specs.Rules.{AddsBlock};
-
+/// An exchange of a block's word adds the block.
+impl<P: Packed> Play<Line<P>, u64> for Exchange<P, Block> {
     ghost then = { AddsBlock P.meld };
 }
 
-/// What it asks for: the line of the block.
-impl<P: Packed> Plain<Block, Line<P>, u64> for AddBlock<P> {
-    ghost use Rattle.std.specs.Prelude.{None};
-    ghost use Rattle.ulfm_model.specs.declared.block.Beside.{Beside as BesideOf};
-    ghost use Rattle.ulfm_book.specs.declared.line.Line.TheVariants.{Kept};
-
-    ghost ask = { λ b. Kept (BesideOf.Block b) };
-
-    ghost state = { λ b. None };
-}
-
-/// A load of a wing.
-pub(crate) struct LookWing<P: Packed> {
-    of: PhantomData<P>,
-}
-
-impl<P: Packed> Play<Line<P>, u64> for LookWing<P> {
-    ghost use Rattle.ulfm_book.specs.Rules.{LooksWing};
-
+impl<P: Packed> Play<Line<P>, u64> for Load<P, Wing> {
     ghost then = { LooksWing P.meld P.pack };
 }
 
-/// A load asks for no line.
-impl<P: Packed> Plain<Wing, Line<P>, u64> for LookWing<P> {
-    ghost use Rattle.std.specs.Prelude.{None};
-    ghost use Rattle.ulfm_book.specs.Logs.{line_of};
-
-    ghost ask = { λ x. line_of None };
-
-    ghost state = { λ x. None };
-}
-
-/// An exchange of a wing, which adds the wing where it wins.
-pub(crate) struct AddWing<P: Packed> {
-    of: PhantomData<P>,
-}
-
-impl<P: Packed> Play<Line<P>, u64> for AddWing<P> {
-    ghost use Rattle.ulfm_book.specs.Rules.{AddsWing};
-
+/// An exchange of a wing adds the wing.
+impl<P: Packed> Play<Line<P>, u64> for Exchange<P, Wing> {
     ghost then = { AddsWing P.meld };
 }
 
-/// What it asks for: the line of the wing.
-impl<P: Packed> Plain<Beside, Line<P>, u64> for AddWing<P> {
+/// Beside the words of events an exchange asks for the line of what it sets.
+impl<P: Packed, At> Plain<Beside, Line<P>, u64> for Exchange<P, At>
+where
+    Exchange<P, At>: Play<Line<P>, u64>,
+{
     ghost use Rattle.std.specs.Prelude.{None};
     ghost use Rattle.ulfm_book.specs.declared.line.Line.TheVariants.{Kept};
 

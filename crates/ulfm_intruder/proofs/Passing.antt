@@ -5,7 +5,7 @@ use mathlib.Core.List.{IsPrefix}
 use Rattle.ulfm_model.specs.{Blocks.{IsCached, IsWing, has_block}, History.{IsLegal}, Runs.{Did}, Words.{word_at}}
 use Rattle.ulfm_model.specs.declared.{block.Block.{Block}, block.Wing.{Wing}, place.Place.{Place}}
 use Rattle.ulfm_model.proofs.{Blocks.{has_block_not}, Lists.{prefix_trans}}
-use Rattle.ulfm_words.specs.{Blocks.{Caches, LoadsBlock, LoadsWing, SetsWing, standing}, Pass.{caches_in, last_of}}
+use Rattle.ulfm_words.specs.{Blocks.{Caches, LoadsBeside, LoadsBlock, LoadsWing, SetsWing, standing}, Pass.{caches_in, last_of}}
 use Rattle.ulfm_words.specs.Steps.{IsView, Loads, Loses, Name, Sets, Sight, Wins, coding, found, view_of}
 use Rattle.ulfm_words.specs.declared.{plain.Trail.{Trail}, step.Site.{Site}, step.Step.{Step}}
 use Rattle.ulfm_words.proofs.Trails.{did_wait}
@@ -53,23 +53,28 @@ module _ {P : Type 0} (meld : P → P → P) (pack : P → ℕ) (name : Name) (o
       let none = noted_place was.log.items is.log.items word place true (noted_since _ _ _ more) in
       record { of = view e.of; did = among e.did; cached = knows e.cached; caches = none; steps = count _ _ _ more; last = last }
 
+  -- .. of a word that no event sets
+  loads_beside_after : (at : Site) (word : ℕ) (Is Still : Type 0) → is.log.items ≡ trail.log.items ++ noted at word true ∷ [] → caches_in is.log.items ≡ caches_in was.log.items → (Is → Still)
+      → LoadsBeside meld true at word Is (view_of pack mid.name mid) (view_of pack mid.name new)
+      → LoadsBeside meld false at word Still (view_of pack name (passing old was)) (view_of pack name (passing new is))
+  loads_beside_after at word Is Still more none still e =
+      record { of = view e.of; did = among e.did; cached = knows e.cached; caches = none; steps = count _ _ _ more; last = ends _ _ _ more; stands = still e.stands }
+
   -- .. of a block
   pub loads_block_after : (block : Block) (word : ℕ) → is.log.items ≡ trail.log.items ++ noted (Site.Block block) word true ∷ []
       → LoadsBlock meld pack true block word (view_of pack mid.name mid) (view_of pack mid.name new)
       → LoadsBlock meld pack false block word (view_of pack name (passing old was)) (view_of pack name (passing new is))
-  loads_block_after block word more e =
+  loads_block_after block word more =
       let none = noted_block was.log.items is.log.items word block (noted_since _ _ _ more) in
-      let stands = subst (λ n. IsCached meld pack n.limits.ranks new.seen block word) first.of.name_is e.stands in
-      record { of = view e.of; did = among e.did; cached = knows e.cached; caches = none; steps = count _ _ _ more; last = ends _ _ _ more; stands = stands; unset = e.unset; set = e.set }
+      loads_beside_after (Site.Block block) word _ _ more none (λ is. record { cached = subst (λ n. IsCached meld pack n.limits.ranks new.seen block word) first.of.name_is is.cached; unset = is.unset; set = is.set })
 
   -- .. of a wing
   pub loads_wing_after : (wing : Wing) (word : ℕ) → is.log.items ≡ trail.log.items ++ noted (Site.Wing wing) word true ∷ []
       → LoadsWing meld pack true wing word (view_of pack mid.name mid) (view_of pack mid.name new)
       → LoadsWing meld pack false wing word (view_of pack name (passing old was)) (view_of pack name (passing new is))
-  loads_wing_after wing word more e =
-      let stands = subst (λ n. IsWing meld pack n.limits.ranks new.seen wing word) first.of.name_is e.stands in
+  loads_wing_after wing word more =
       let none = noted_wing was.log.items is.log.items word wing (noted_since _ _ _ more) in
-      record { of = view e.of; did = among e.did; cached = knows e.cached; caches = none; steps = count _ _ _ more; last = ends _ _ _ more; stands = stands }
+      loads_beside_after (Site.Wing wing) word _ _ more none (λ is. subst (λ n. IsWing meld pack n.limits.ranks new.seen wing word) first.of.name_is is)
 
   outcome : (unpack : ℕ → Option P) (s : Step) (result : Result (Unit {0}) ℕ)
       → MatchResult result (λ _. Wins pack unpack true s mid.seen new.seen) (λ w. Loses pack true s.place w mid.seen new.seen)

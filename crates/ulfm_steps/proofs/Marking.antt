@@ -1,6 +1,6 @@
 -- Marking a round's declared members.
-use Rattle.std.proofs.Common.{◌≡◌, ℕ, zero, suc, ◌+◌, ◌-◌, ◌<◌, ◌≤◌, ◌==◌, Bool, true, false, cond, not, ◌||◌, ◌&&◌, List, [], ◌∷◌, ◌++◌, length, map, filter, filter_map, take, drop, slice_index_or, slice_get, Some, None, is_some, IsTrue, nat_eq, refl, ap, ap₂, sym, ◌∙◌, subst, arith, append-nil, append_assoc, length-append, if◌then◌else◌, inl, inr}
-use Rattle.std.specs.Prelude.{MatchBool}
+use Rattle.std.proofs.Common.{◌≡◌, ℕ, zero, suc, ◌+◌, ◌-◌, ◌<◌, ◌≤◌, ◌==◌, Bool, true, false, cond, not, ◌||◌, ◌&&◌, List, [], ◌∷◌, ◌++◌, length, map, filter, filter_map, take, drop, slice_index_or, slice_get, Option, Some, None, is_some, Result, Ok, Err, IsTrue, nat_eq, refl, ap, ap₂, sym, ◌∙◌, subst, arith, append-nil, append_assoc, length-append, if◌then◌else◌, inl, inr}
+use Rattle.std.specs.Prelude.{MatchBool, MatchResult, is_ok}
 use Rattle.std.specs.List.{slice_index, AllByRecursion, IsDistinct}
 use Rattle.std.proofs.lemmas.Bool.{eq-eqb, or_left, or_right, or_parts, or_from}
 use Rattle.std.proofs.lemmas.List.{map-append, take-append-drop}
@@ -15,7 +15,7 @@ use Rattle.ulfm_model.proofs.{Histories.{failures_begin, legal_parts, slot_kept,
 use Rattle.ulfm_words.specs.{Steps.{IsAdded, IsView, Over, Sight}, Tries.{MayPut, Tries, entry}}
 use Rattle.ulfm_words.proofs.{Growing.{prefix_self}, Ranks.{failures_le}, Trails.{did_added, did_more, did_none, did_prefix, did_quiet, did_wait}}
 use Rattle.ulfm_words.specs.Steps.{view_at}
-use Rattle.ulfm_words.specs.Tries.{attempt}
+use Rattle.ulfm_words.specs.{declared.accesses.Settled.{Settled}, Tries.{IsSettledBy, attempt}}
 use Rattle.ulfm_steps.specs.declared.blocks.MarkAll.{MarkAll}
 use Rattle.ulfm_steps.specs.Marks.{HasMarked, IsMarkOf, Marks, MarksOnce, MarkSteps, MayMarkAll, marks_left, members_in}
 use Rattle.ulfm_steps.proofs.Reading.{member_place, round_stays, take_one_more}
@@ -247,14 +247,20 @@ module _ {P : Type 0} (alone : Bool) (number c k : ℕ) where
   pub marks_push : (xs : List ℕ) (r : ℕ) (x y z : History P) → has xs r ≡ false → Marks alone number c k xs x y → Marks alone number c k (r ∷ []) y z → Marks alone number c k (xs ++ r ∷ []) x z
   marks_push xs r x y z out first last = marks_join xs (r ∷ []) x y z (out, tt) first last
 
+  -- whatever settles a place, something stands there
+  settled_slot : (put : Option (Slot P)) (by : Settled) → IsSettledBy put by → (s : Slot P) × (put ≡ Some s)
+  settled_slot put Settled.Marked stands = (Marked stands.0, stands.1)
+  settled_slot put Settled.Contributed stands = (Slot.Given stands.0, stands.1)
+
   -- one exchange of a member's place
-  pub marks_try : (meld : P → P → P) (pack : P → ℕ) (name : Over P) (r : ℕ) (mark : MarkCount) (won : Bool) (old new : Sight P)
-      → Tries meld pack alone (attempt (SlotAt c k r) (entry (ByRank number) (Mark c k r mark))) won (view_at name old) (view_at name new)
-      → MatchBool won (slot new.seen c k r ≡ Some (Marked mark)) ((s : Slot P) × (slot new.seen c k r ≡ Some s)) → MarkSteps meld alone number (round_on c k) (r ∷ []) (view_at name old) (view_at name new)
-  marks_try meld pack name r mark true old new tries stands =
+  pub marks_try : (meld : P → P → P) (pack : P → ℕ) (name : Over P) (r : ℕ) (mark : MarkCount) (result : Result (Unit {0}) Settled) (old new : Sight P)
+      → Tries meld pack alone (attempt (SlotAt c k r) (entry (ByRank number) (Mark c k r mark))) (is_ok result) (view_at name old) (view_at name new)
+      → MatchResult result (λ _. slot new.seen c k r ≡ Some (Marked mark)) (IsSettledBy (slot new.seen c k r)) → MarkSteps meld alone number (round_on c k) (r ∷ []) (view_at name old) (view_at name new)
+  marks_try meld pack name r mark (Ok _) old new tries stands =
       record { of = tries.of; marks = marks_won meld name.limits r mark (Marked mark) old.seen new.seen tries.outcome tries.of.legal stands; cached = tries.cached; caches = tries.caches; onward = omega (arith, tries.steps); steps = omega (arith, tries.steps) }
-  marks_try meld pack name r mark false old new tries stands =
-      record { of = tries.of; marks = marks_lost r stands.0 old.seen new.seen tries.outcome stands.1; cached = tries.cached; caches = tries.caches; onward = omega (arith, tries.steps); steps = omega (arith, tries.steps) }
+  marks_try meld pack name r mark (Err by) old new tries stands =
+      let s = settled_slot (slot new.seen c k r) by stands in
+      record { of = tries.of; marks = marks_lost r s.0 old.seen new.seen tries.outcome s.1; cached = tries.cached; caches = tries.caches; onward = omega (arith, tries.steps); steps = omega (arith, tries.steps) }
 
 -- what may be marked may be marked later
 pub may_stays : {P : Type 0} (limits : Limits) (h longer : History P) (c k : ℕ) (group declared : List ℕ) → IsPrefix h longer → MayMarkAll limits h c k group declared → MayMarkAll limits longer c k group declared

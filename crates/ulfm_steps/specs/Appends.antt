@@ -93,3 +93,11 @@ AppendTakes whole old end new before after =
 -- an exchange comes next only at a place that was empty in what is seen
 abbrev pub FoundEmpty : {P : Type 0} → History P → Append → Type 0
 FoundEmpty h a = a.empty ≡ true → slice_get (items a.item h) a.index ≡ None
+
+-- an appending of a view's caller may make a step: its item may come next, and its place is the first that hasn't another item for good
+pub record MayGoOn {P : Type 0} (meld : P → P → P) (view : View P) (a : Append) : Type 0 where
+  pub of : IsView meld view
+  pub may : MayAppendIn meld view a.item
+  pub round : HasRound view.words.limits a.item
+  pub passed : Passed view.pass.seen a.item a.index
+  pub more : a.index < room a.item view.words.limits

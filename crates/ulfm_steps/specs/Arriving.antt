@@ -1,5 +1,5 @@
 -- In which order the members of a barrier round are asked about, how far that has come, and what it ends with.
-use Rattle.std.specs.Prelude.{◌≡◌, ℕ, ◌-◌, ◌<◌, ◌≤◌, Bool, true, false, not, List, ◌++◌, Option, filter, length, take, slice_index, IsTrue}
+use Rattle.std.specs.Prelude.{◌≡◌, ℕ, ◌+◌, ◌-◌, ◌<◌, ◌≤◌, Bool, true, false, not, List, ◌++◌, Option, filter, length, take, slice_index, IsTrue}
 use Rattle.std.specs.List.{list_all}
 use Rattle.ulfm_model.specs.{History.{History, has, has_arrived, without}, declared.place.Place.TheVariants.{Arrival as ArrivalAt}}
 use Rattle.ulfm_words.specs.Steps.{View}
@@ -72,3 +72,7 @@ abbrev pub ArrivalsTake : {P : Type 0} → Bool → Among → Arrivals → Optio
 ArrivalsTake whole ranks old found new before after =
     TakesFirst whole (ArrivalAt old.comm old.round (rank_at ranks.group ranks.declared old.others old.next)) true
     (arrivals_left ranks.group ranks.declared old) (left_without found (arrivals_left ranks.group ranks.declared new)) before.pass after.pass
+
+-- one member more stands before the next one than did before
+abbrev pub IsFurther : List ℕ → List ℕ → Arrivals → Arrivals → Type 0
+IsFurther group declared old new = length (asked_before group declared new.others new.next) ≡ length (asked_before group declared old.others old.next) + 1

@@ -1,5 +1,5 @@
 -- The steps that machines take, and how many are left.
-use Rattle.std.specs.Prelude.{◌≡◌, ℕ, ◌+◌, ◌<◌, ◌≤◌, Bool, false, Option, Some, None}
+use Rattle.std.specs.Prelude.{◌≡◌, ℕ, ◌+◌, ◌<◌, ◌≤◌, Bool, false, Option, Some, None, MatchOption}
 use Rattle.ulfm_model.specs.declared.place.Place.{Place}
 use Rattle.ulfm_words.specs.{Steps.{Sight, View}, declared.step.Site.{Site}}
 
@@ -36,3 +36,7 @@ running state view = record { state = state; view = view }
 abbrev pub left_without : {R : Type 0} → Option R → ℕ → ℕ
 left_without None left = left
 left_without (Some answer) left = 0
+
+-- what holds where there is no answer yet
+abbrev pub WhileOn : {R : Type 0} → Option R → Type 0 → Type 0
+WhileOn answer Holds = MatchOption answer Holds (λ _. Unit {0})

@@ -2,7 +2,8 @@
 // an exchange. A place that was passed has another item for good, so the first place that is empty is the next one.
 ghost use Rattle.std.specs.Prelude.{◌≡◌, ◌<◌, ◌≤◌, ◌+◌, ◌*◌, ◌-◌, false, MatchOption};
 ghost use Rattle.ulfm_words.specs.Steps.{view_of, IsView, Goes, limits_in, seen_in};
-ghost use Rattle.ulfm_steps.specs.Appends.{wanted, AppendTakes, Appends, FoundEmpty, HasRound, Passed, room, MayAppendIn};
+ghost use Rattle.ulfm_steps.specs.Appends.{wanted, AppendTakes, Appends, FoundEmpty, HasRound, Passed, room, MayAppendIn, MayGoOn};
+ghost use Rattle.ulfm_steps.specs.Turns.{WhileOn};
 
 use crate::item::Item;
 use crate::items::{load_item, room_for, set_item};
@@ -48,18 +49,14 @@ impl Append {
         }
     }
 
-    /// One load or one exchange, at the place that is tried: how the appending ended, if it did.
+    // One load or one exchange, at the place that is tried: how the appending ended, if it did.
     #[inline(always)]
-    pub fn step<P: Packed, A: Allocator, W: Words<P, A>>(
+    fn step<P: Packed, A: Allocator, W: Words<P, A>>(
         &mut self,
         words: &W,
         pass: &mut W::Pass,
     ) -> Option<Appended>
-        requires of { IsView P.meld (view_of P.pack (W.name words.now) (W.sight pass.old)) }
-        requires may { MayAppendIn P.meld (view_of P.pack (W.name words.now) (W.sight pass.old)) self.old.item }
-        requires round { HasRound (limits_in (view_of P.pack (W.name words.now) (W.sight pass.old))) self.old.item }
-        requires passed { Passed (seen_in (view_of P.pack (W.name words.now) (W.sight pass.old))) self.old.item self.old.index }
-        requires more { self.old.index < room self.old.item (limits_in (view_of P.pack (W.name words.now) (W.sight pass.old))) }
+        requires { MayGoOn P.meld (view_of P.pack (W.name words.now) (W.sight pass.old)) self.old }
         ensures same { (self.new.item ≡ self.old.item) × (self.new.by ≡ self.old.by) }
         ensures goes { MatchOption result (Goes P.meld W.alone false 1 (view_of P.pack (W.name words.now) (W.sight pass.old))
             (view_of P.pack (W.name words.now) (W.sight pass.new)))
@@ -67,11 +64,9 @@ impl Append {
             (view_of P.pack (W.name words.now) (W.sight pass.new))) }
         ensures takes { AppendTakes false self.old result self.new (view_of P.pack (W.name words.now) (W.sight pass.old))
             (view_of P.pack (W.name words.now) (W.sight pass.new)) }
-        ensures passed { MatchOption result
-            (Passed (seen_in (view_of P.pack (W.name words.now) (W.sight pass.new))) self.old.item self.new.index) (λ _. Unit {0}) }
-        ensures empty { MatchOption result (FoundEmpty (seen_in (view_of P.pack (W.name words.now) (W.sight pass.new))) self.new) (λ _. Unit {0}) }
-        ensures within { MatchOption result
-            (self.new.index < room self.old.item (limits_in (view_of P.pack (W.name words.now) (W.sight pass.old)))) (λ _. Unit {0}) }
+        ensures passed { WhileOn result (Passed (seen_in (view_of P.pack (W.name words.now) (W.sight pass.new))) self.old.item self.new.index) }
+        ensures empty { WhileOn result (FoundEmpty (seen_in (view_of P.pack (W.name words.now) (W.sight pass.new))) self.new) }
+        ensures within { WhileOn result (self.new.index < room self.old.item (limits_in (view_of P.pack (W.name words.now) (W.sight pass.old)))) }
     {
         let standing = if self.empty {
             match set_item(words, pass, self.by, self.item, self.index) {
@@ -120,12 +115,10 @@ impl Append {
             (view_of P.pack (W.name words.now) (W.sight pass.old)) a (view_of P.pack (W.name words.now) (W.sight pass.new))) }
         ensures takes { AppendTakes whole self.old result self.new (view_of P.pack (W.name words.now) (W.sight pass.old))
             (view_of P.pack (W.name words.now) (W.sight pass.new)) }
-        ensures passed { MatchOption result
-            (Passed (seen_in (view_of P.pack (W.name words.now) (W.sight pass.new))) self.old.item self.new.index) (λ _. Unit {0}) }
-        ensures empty { MatchOption result (FoundEmpty (seen_in (view_of P.pack (W.name words.now) (W.sight pass.new))) self.new) (λ _. Unit {0}) }
-        ensures within { MatchOption result
-            (self.new.index < room self.old.item (limits_in (view_of P.pack (W.name words.now) (W.sight pass.old)))) (λ _. Unit {0}) }
-        ensures done { MatchOption result (whole ≡ false) (λ _. Unit {0}) }
+        ensures passed { WhileOn result (Passed (seen_in (view_of P.pack (W.name words.now) (W.sight pass.new))) self.old.item self.new.index) }
+        ensures empty { WhileOn result (FoundEmpty (seen_in (view_of P.pack (W.name words.now) (W.sight pass.new))) self.new) }
+        ensures within { WhileOn result (self.new.index < room self.old.item (limits_in (view_of P.pack (W.name words.now) (W.sight pass.old)))) }
+        ensures done { WhileOn result (whole ≡ false) }
     {
         loop {
             let end = self.step(words, pass);

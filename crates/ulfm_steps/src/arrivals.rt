@@ -1,15 +1,16 @@
 // Reading who has arrived in a barrier round: first the members among the declared ranks, in the order of their failures,
 // then the others, in the group's order, up to the first who is missing. A member that was found there stays there; that one
 // is missing holds at its load alone.
-ghost use Rattle.std.specs.Prelude.{◌≡◌, ◌+◌, ◌-◌, ◌<◌, ◌≤◌, [], false, true, length, if◌then◌else◌, IfSome, MatchBool, MatchOption};
+ghost use Rattle.std.specs.Prelude.{◌≡◌, ◌+◌, ◌-◌, ◌<◌, ◌≤◌, [], false, true, length, if◌then◌else◌, IfSome, MatchBool};
 ghost use Rattle.std.specs.List.{list_all};
 ghost use Rattle.std.specs.List.Sorted.{IsStrictlyIncreasing};
 ghost use Rattle.ulfm_model.specs.History.{has_arrived};
 ghost use Rattle.ulfm_words.specs.Places.{IsCell};
 ghost use Rattle.ulfm_words.specs.Steps.{view_of, IsView, Goes, limits_in, seen_in, steps_in};
-ghost use Rattle.ulfm_steps.specs.Arriving.{ArrivalsTake, AtArrival, IsAsked, IsNextOther, IsPosition, MissingAre, asked_before, asked_members, asks, in_order};
+ghost use Rattle.ulfm_steps.specs.Arriving.{ArrivalsTake, AtArrival, IsAsked, IsFurther, IsNextOther, IsPosition, MissingAre, asked_before, asked_members, asks, in_order};
 ghost use Rattle.ulfm_steps.specs.Rounds.{IsRoundIn};
 ghost use Rattle.ulfm_steps.specs.Among.{among};
+ghost use Rattle.ulfm_steps.specs.Turns.{WhileOn};
 
 use crate::blocks::next_member;
 use crate::group::{has_rank, is_member};
@@ -185,11 +186,9 @@ impl Arrivals {
         ensures goes { Goes P.meld W.alone false 1 (view_of P.pack (W.name words.now) (W.sight pass.old)) (view_of P.pack (W.name words.now) (W.sight pass.new)) }
         ensures takes { ArrivalsTake false (among group.now declared.now) self.old result self.new (view_of P.pack (W.name words.now) (W.sight pass.old))
             (view_of P.pack (W.name words.now) (W.sight pass.new)) }
-        ensures comm { self.new.comm ≡ self.old.comm }
-        ensures round { self.new.round ≡ self.old.round }
-        ensures further { MatchOption result (length (asked_before group.now declared.now self.new.others self.new.next) ≡ length
-            (asked_before group.now declared.now self.old.others self.old.next) + 1) (λ _. Unit {0}) }
-        ensures at { MatchOption result (AtArrival group.now declared.now self.new (seen_in (view_of P.pack (W.name words.now) (W.sight pass.new)))) (λ _. Unit {0}) }
+        ensures same { (self.new.comm ≡ self.old.comm) × (self.new.round ≡ self.old.round) }
+        ensures further { WhileOn result (IsFurther group.now declared.now self.old self.new) }
+        ensures at { WhileOn result (AtArrival group.now declared.now self.new (seen_in (view_of P.pack (W.name words.now) (W.sight pass.new)))) }
         ensures are { IfSome result (λ m. MissingAre (seen_in (view_of P.pack (W.name words.now) (W.sight pass.new))) self.old.comm self.old.round group.now
             declared.now m) }
     {
@@ -232,12 +231,11 @@ impl Arrivals {
             (view_of P.pack (W.name words.now) (W.sight pass.new)) }
         ensures comm { self.new.comm ≡ self.old.comm }
         ensures round { self.new.round ≡ self.old.round }
-        ensures further { MatchOption result (length (asked_before group.now declared.now self.new.others self.new.next) ≡ length
-            (asked_before group.now declared.now self.old.others self.old.next) + 1) (λ _. Unit {0}) }
-        ensures at { MatchOption result (AtArrival group.now declared.now self.new (seen_in (view_of P.pack (W.name words.now) (W.sight pass.new)))) (λ _. Unit {0}) }
+        ensures further { WhileOn result (IsFurther group.now declared.now self.old self.new) }
+        ensures at { WhileOn result (AtArrival group.now declared.now self.new (seen_in (view_of P.pack (W.name words.now) (W.sight pass.new)))) }
         ensures are { IfSome result (λ m. MissingAre (seen_in (view_of P.pack (W.name words.now) (W.sight pass.new))) self.old.comm self.old.round group.now
             declared.now m) }
-        ensures done { MatchOption result (whole ≡ false) (λ _. Unit {0}) }
+        ensures done { WhileOn result (whole ≡ false) }
     {
         if whole {
             return Some(self.finish(words, pass, group, declared));

@@ -23,7 +23,7 @@ use ulfm_model::contribution::{MarkCount, Slot};
 use ulfm_model::event::Caller;
 use ulfm_words::{
     Found as Loaded, Words, block_wing, block_word, load_block, load_block_rest, load_rest,
-    load_slot, put_slot,
+    load_slot, set_slot,
 };
 
 /// What is known of the two blocks of an agreement round: what the members of each say together, where that is known.
@@ -496,7 +496,7 @@ impl MarkAll {
             known: Known { count: self.known },
         });
         let by = Caller::Rank(self.rank);
-        let _ = put_slot(words, pass, by, self.comm, self.round, rank, put);
+        let _ = set_slot(words, pass, by, self.comm, self.round, rank, put);
         self.next = next_member(group, declared, self.next + 1);
     }
 

@@ -27,9 +27,9 @@ impl Look {
         Look { done: false }
     }
 
-    /// One load, of the next place.
+    // One load, of the next place.
     #[inline(always)]
-    pub fn step<P: Packed, A: Allocator, W: Words<P, A>, B: Allocator>(
+    fn step<P: Packed, A: Allocator, W: Words<P, A>, B: Allocator>(
         &mut self,
         words: &W,
         pass: &mut W::Pass,

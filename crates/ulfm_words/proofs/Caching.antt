@@ -73,9 +73,7 @@ module _ {P : Type 0} (meld : P → P → P) (pack : P → ℕ) (unpack : ℕ �
             caches = ap caches_in is ∙ caches_loaded ts b v;
             steps = ap length is ∙ length-append ts (at_block b v true ∷ []);
             last = ap last_of is ∙ last_of-push ts (at_block b v true);
-            stands = stands;
-            unset = (known (either v)).1;
-            set = (known (either v)).2;
+            stands = record { cached = stands; unset = (known (either v)).1; set = (known (either v)).2 };
           })
 
     -- an exchange

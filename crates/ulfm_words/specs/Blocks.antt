@@ -1,5 +1,5 @@
 -- Blocks' words: which summary each stands for, where plain ones stand, and what each step on them does.
-use Rattle.std.specs.Prelude.{◌≡◌, ◌≢◌, ℕ, ◌+◌, ◌%◌, ◌^◌, ◌<◌, ◌≤◌, Bool, true, false, List, ◌∷◌, ◌++◌, [], Option, Some, None, Result, Ok, Err, MatchResult, IsTrue, ⊤}
+use Rattle.std.specs.Prelude.{◌≡◌, ◌≢◌, ℕ, ◌+◌, ◌%◌, ◌^◌, ◌<◌, ◌≤◌, Bool, true, false, List, ◌∷◌, ◌++◌, [], Option, Some, None, Ok, Err, MatchResult, IsTrue, ⊤}
 use Rattle.std.specs.List.{Contains}
 use mathlib.Core.List.{IsPrefix}
 use Rattle.ulfm_laws.specs.declared.{summary.Body.{Body}, summary.Body.TheVariants.{Unit as Nothing, Flag as OfFlags, Ctx as OfIds, Clash}}
@@ -9,7 +9,7 @@ use Rattle.ulfm_model.specs.{Blocks.{IsBlock, IsCached, IsSide, IsSummed, IsWing
 use Rattle.ulfm_model.specs.{Laws.{all_of, summary_of}, Words.{slot_word, word_bits}}
 use Rattle.ulfm_model.specs.Runs.{Did}
 use Rattle.ulfm_words.specs.declared.{accesses.Found.{Found}, step.Site.{Site}}
-use Rattle.ulfm_words.specs.{Slots.{IsExact, acked_in, half_in, is_wing_word, known_in, number_bits, number_in, payload_in, tag_in}, Steps.{IsView, View, found}}
+use Rattle.ulfm_words.specs.{Slots.{IsExact, acked_in, half_in, is_wing_word, known_in, number_bits, number_in, payload_in, tag_in}, Steps.{Exchanged, IsView, View, found}}
 
 -- the body with this tag and this payload
 abbrev pub IsBodyOf : {P : Type 0} → (ℕ → Option P) → ℕ → ℕ → Body P → Type 0
@@ -65,17 +65,25 @@ BlocksHaveOneWord {P} pack unpack =
     → ((other : Summary P) → IsPairOf unpack word wing other → other ≡ all)
     × ((IsFlagBody all.body → IsExact pack unpack) → (block_word pack all ≡ word) × (block_wing pack all ≡ wing))
 
--- one atomic load of a block's word: 0 where the block isn't among those that are set, or the word of its settled members
-pub record LoadsBlock {P : Type 0} (meld : P → P → P) (pack : P → ℕ) (alone : Bool) (block : Block) (word : ℕ) (old new : View P) : Type 0 where
+-- one atomic load of a word that no event sets, and what this word is
+pub record LoadsBeside {P : Type 0} (meld : P → P → P) (alone : Bool) (at : Site) (word : ℕ) (Is : Type 0) (old new : View P) : Type 0 where
   pub of : IsView meld new
   pub did : Did alone [] old.pass.seen new.pass.seen
   pub cached : IsPrefix old.pass.cached new.pass.cached
   pub caches : new.pass.caches ≡ old.pass.caches
   pub steps : new.pass.steps ≡ old.pass.steps + 1
-  pub last : new.pass.last ≡ Some (record { at = Site.Block block; word = word; load = true })
-  pub stands : IsCached meld pack new.words.limits.ranks new.pass.seen block word
-  pub unset : word ≡ 0 → has_block new.pass.cached block ≡ false
-  pub set : word ≢ 0 → has_block new.pass.cached block ≡ true
+  pub last : new.pass.last ≡ Some (record { at = at; word = word; load = true })
+  pub stands : Is
+
+-- a block's word: 0 where the block isn't among those that are set, or the word of its settled members
+pub record IsLoadedBlock {P : Type 0} (meld : P → P → P) (pack : P → ℕ) (block : Block) (word : ℕ) (view : View P) : Type 0 where
+  pub cached : IsCached meld pack view.words.limits.ranks view.pass.seen block word
+  pub unset : word ≡ 0 → has_block view.pass.cached block ≡ false
+  pub set : word ≢ 0 → has_block view.pass.cached block ≡ true
+
+-- one atomic load of a block's word
+abbrev pub LoadsBlock : {P : Type 0} → (P → P → P) → (P → ℕ) → Bool → Block → ℕ → View P → View P → Type 0
+LoadsBlock meld pack alone block word old new = LoadsBeside meld alone (Site.Block block) word (IsLoadedBlock meld pack block word new) old new
 
 -- what a wing must be for a load of it: a contribution's, or that of a block that is known to be set
 abbrev pub IsSpread : {P : Type 0} → View P → Wing → Type 0
@@ -83,14 +91,9 @@ IsSpread {P} view (Wing.Slot c k r) = (given : Contribution P) × (slot view.pas
 IsSpread view (Wing.Block b) = has_block view.pass.cached b ≡ true
 
 -- one atomic load of a wing: the word of what stands beside it
-pub record LoadsWing {P : Type 0} (meld : P → P → P) (pack : P → ℕ) (alone : Bool) (wing : Wing) (word : ℕ) (old new : View P) : Type 0 where
-  pub of : IsView meld new
-  pub did : Did alone [] old.pass.seen new.pass.seen
-  pub cached : IsPrefix old.pass.cached new.pass.cached
-  pub caches : new.pass.caches ≡ old.pass.caches
-  pub steps : new.pass.steps ≡ old.pass.steps + 1
-  pub last : new.pass.last ≡ Some (record { at = Site.Wing wing; word = word; load = true })
-  pub stands : IsWing meld pack new.words.limits.ranks new.pass.seen wing word
+abbrev pub LoadsWing : {P : Type 0} → (P → P → P) → (P → ℕ) → Bool → Wing → ℕ → View P → View P → Type 0
+LoadsWing meld pack alone wing word old new =
+    LoadsBeside meld alone (Site.Wing wing) word (IsWing meld pack new.words.limits.ranks new.pass.seen wing word) old new
 
 -- when a caller may set a wing so: a member's, to a half; or that of a block whose members are all settled, to theirs
 abbrev pub MaySetWing : {P : Type 0} → (P → P → P) → (P → ℕ) → View P → Wing → ℕ → Type 0
@@ -98,7 +101,7 @@ MaySetWing meld pack view (Wing.Slot c k r) word = IsPlace view.words.limits vie
 MaySetWing meld pack view (Wing.Block b) word = IsWing meld pack view.words.limits.ranks view.pass.seen (Wing.Block b) word
 
 -- the word that stands at a wing after an exchange
-abbrev pub standing : ℕ → Result (Unit {0}) ℕ → ℕ
+abbrev pub standing : ℕ → Exchanged → ℕ
 standing word (Ok _) = word
 standing word (Err w) = w
 
@@ -109,8 +112,7 @@ WasWing (Wing.Block b) word w = w ≡ word
 
 -- One compare-exchange of a wing from 0: it is known to be set afterwards, to this word or to the one that stood. Where nobody else steps, one that
 -- stood was tried before.
-pub record SetsWing {P : Type 0} (meld : P → P → P) (alone : Bool) (wing : Wing) (word : ℕ) (old : View P) (result : Result (Unit {0}) ℕ) (new : View P)
-    : Type 0 where
+pub record SetsWing {P : Type 0} (meld : P → P → P) (alone : Bool) (wing : Wing) (word : ℕ) (old : View P) (result : Exchanged) (new : View P) : Type 0 where
   pub of : IsView meld new
   pub did : Did alone [] old.pass.seen new.pass.seen
   pub cached : IsPrefix old.pass.cached new.pass.cached
@@ -127,8 +129,7 @@ abbrev pub IsSpreadBlock : {P : Type 0} → View P → Block → Type 0
 IsSpreadBlock view b = (w : ℕ) × (0 < w) × (has_wing view.pass.cached (Wing.Block b) w ≡ true)
 
 -- one compare-exchange of a block's word from 0: the block is set afterwards, by this step or with the same word before
-pub record Caches {P : Type 0} (meld : P → P → P) (alone : Bool) (block : Block) (word : ℕ) (old : View P) (result : Result (Unit {0}) ℕ) (new : View P)
-    : Type 0 where
+pub record Caches {P : Type 0} (meld : P → P → P) (alone : Bool) (block : Block) (word : ℕ) (old : View P) (result : Exchanged) (new : View P) : Type 0 where
   pub of : IsView meld new
   pub did : Did alone [] old.pass.seen new.pass.seen
   pub cached : IsPrefix old.pass.cached new.pass.cached

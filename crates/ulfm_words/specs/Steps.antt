@@ -161,8 +161,12 @@ pub record Loses {P : Type 0} (pack : P → ℕ) (alone : Bool) (place : Place) 
   pub stands : word_at pack new place ≡ w
   pub did : Did alone [] old new
 
+-- what an exchange gives: nothing where it succeeded, or the word that it found
+abbrev pub Exchanged : Type 0
+Exchanged = Result (Unit {0}) ℕ
+
 -- the word that an exchange found: 0 where it succeeded
-abbrev pub found : Result (Unit {0}) ℕ → ℕ
+abbrev pub found : Exchanged → ℕ
 found (Ok _) = 0
 found (Err w) = w
 
@@ -192,8 +196,7 @@ abbrev pub IsWingedIn : {P : Type 0} → Coding P → View P → Step → Type 0
 IsWingedIn {P} by view s = (entry : Entry P) → entry_of by.unpack s ≡ Some entry → IsWinged by.pack view.pass.cached entry.event
 
 -- one compare-exchange of the word at a place, from 0
-pub record Sets {P : Type 0} (meld : P → P → P) (by : Coding P) (alone : Bool) (s : Step) (old : View P) (result : Result (Unit {0}) ℕ) (new : View P)
-    : Type 0 where
+pub record Sets {P : Type 0} (meld : P → P → P) (by : Coding P) (alone : Bool) (s : Step) (old : View P) (result : Exchanged) (new : View P) : Type 0 where
   pub of : IsView meld new
   pub outcome : MatchResult result (λ _. Wins by.pack by.unpack alone s old.pass.seen new.pass.seen)
       (λ w. Loses by.pack alone s.place w old.pass.seen new.pass.seen)

@@ -1,5 +1,5 @@
 // Accesses, each one atomic step: loads, and what they read as; and exchanges, each for one event, with what stands where they are lost.
-ghost use Rattle.std.specs.Prelude.{◌≡◌, ◌<◌, true, None, Some, is_some, slice_get, IfSome, IsTrue, is_ok, MatchBool, MatchResult};
+ghost use Rattle.std.specs.Prelude.{◌≡◌, ◌<◌, true, None, Some, is_some, slice_get, IfSome, IsTrue, is_ok, MatchResult};
 ghost use Rattle.ulfm_model.specs.History.{failures, has_arrived, is_revoked, slot};
 ghost use Rattle.ulfm_model.specs.Blocks.{has_block, IsBlockWithin};
 ghost use Rattle.ulfm_model.specs.Laws.{summary_of};
@@ -12,7 +12,6 @@ ghost use Rattle.ulfm_words.specs.Places.{IsCell, IsWithin};
 ghost use Rattle.ulfm_words.specs.Steps.{view_of, cached_in, IsView, Loads, limits_in, seen_in, IsWinged};
 ghost use Rattle.ulfm_model.specs.declared.event.Event.TheVariants.{Fail, Spawn, Arrive, Revoke};
 ghost use Rattle.ulfm_words.specs.Entries.{put_of};
-ghost use Rattle.ulfm_model.specs.Words.{slot_word as word_of_slot};
 ghost use Rattle.ulfm_words.specs.Tries.{attempt, IsSettledBy, Tries, entry, MayDeclareIn, MayPutIn, MayMakeIn, MayArriveIn, MayEndIn};
 
 use crate::step::Step;
@@ -222,39 +221,6 @@ pub fn set_failure<P: Packed, A: Allocator, W: Words<P, A>>(
     }
 }
 
-// One exchange of a member's place in an agreement round. Where it is lost, the word that stands is given.
-#[inline(always)]
-fn try_slot<P: Packed, A: Allocator, W: Words<P, A>>(
-    words: &W,
-    pass: &mut W::Pass,
-    by: Caller,
-    comm: u16,
-    round: u16,
-    rank: u16,
-    put: Slot<P>,
-) -> Result<(), u64>
-    requires of { IsView P.meld (view_of P.pack (W.name words.now) (W.sight pass.old)) }
-    requires within { IsCell (limits_in (view_of P.pack (W.name words.now) (W.sight pass.old))) comm round rank }
-    requires may { MayPutIn P.meld (view_of P.pack (W.name words.now) (W.sight pass.old)) comm round rank put }
-    requires winged { IsWinged P.pack (cached_in (view_of P.pack (W.name words.now) (W.sight pass.old))) (put_of comm round rank put) }
-    ensures tries { Tries P.meld P.pack W.alone (attempt (SlotAt comm round rank) (entry by (put_of comm round rank put))) (is_ok result)
-        (view_of P.pack (W.name words.now) (W.sight pass.old)) (view_of P.pack (W.name words.now) (W.sight pass.new)) }
-    ensures stands { MatchResult result (λ _. slot (seen_in (view_of P.pack (W.name words.now) (W.sight pass.new))) comm round rank ≡ Some put)
-        (λ word. (s : Slot P) × (word ≡ word_of_slot P.pack s)
-        × (slot (seen_in (view_of P.pack (W.name words.now) (W.sight pass.new))) comm round rank ≡ Some s)) }
-{
-    let step = Step {
-        place: Place::Slot { comm, round, rank },
-        word: slot_word(&put),
-        half: slot_half(&put),
-        by,
-    };
-    match words.set_once(pass, step) {
-        Ok(()) => Ok(()),
-        Err(word) => Err(word),
-    }
-}
-
 /// What settles a member's place that an exchange found settled.
 #[derive(Clone, Copy, Debug, PartialEq, Eq)]
 pub enum Settled {
@@ -284,36 +250,16 @@ pub fn set_slot<P: Packed, A: Allocator, W: Words<P, A>>(
     ensures stands { MatchResult result (λ _. slot (seen_in (view_of P.pack (W.name words.now) (W.sight pass.new))) comm round rank ≡ Some put)
         (IsSettledBy (slot (seen_in (view_of P.pack (W.name words.now) (W.sight pass.new))) comm round rank)) }
 {
-    match try_slot(words, pass, by, comm, round, rank, put) {
+    let step = Step {
+        place: Place::Slot { comm, round, rank },
+        word: slot_word(&put),
+        half: slot_half(&put),
+        by,
+    };
+    match words.set_once(pass, step) {
         Ok(()) => Ok(()),
         Err(word) if word / 2 % 4 == 0 => Err(Settled::Marked),
         Err(_) => Err(Settled::Contributed),
-    }
-}
-
-/// One exchange of a member's place in an agreement round: whether this call settled it so. It is settled afterwards.
-#[inline(always)]
-pub fn put_slot<P: Packed, A: Allocator, W: Words<P, A>>(
-    words: &W,
-    pass: &mut W::Pass,
-    by: Caller,
-    comm: u16,
-    round: u16,
-    rank: u16,
-    put: Slot<P>,
-) -> bool
-    requires of { IsView P.meld (view_of P.pack (W.name words.now) (W.sight pass.old)) }
-    requires within { IsCell (limits_in (view_of P.pack (W.name words.now) (W.sight pass.old))) comm round rank }
-    requires may { MayPutIn P.meld (view_of P.pack (W.name words.now) (W.sight pass.old)) comm round rank put }
-    requires winged { IsWinged P.pack (cached_in (view_of P.pack (W.name words.now) (W.sight pass.old))) (put_of comm round rank put) }
-    ensures tries { Tries P.meld P.pack W.alone (attempt (SlotAt comm round rank) (entry by (put_of comm round rank put))) result
-        (view_of P.pack (W.name words.now) (W.sight pass.old)) (view_of P.pack (W.name words.now) (W.sight pass.new)) }
-    ensures stands { MatchBool result (slot (seen_in (view_of P.pack (W.name words.now) (W.sight pass.new))) comm round rank ≡ Some put) ((s : Slot P)
-        × (slot (seen_in (view_of P.pack (W.name words.now) (W.sight pass.new))) comm round rank ≡ Some s)) }
-{
-    match try_slot(words, pass, by, comm, round, rank, put) {
-        Ok(()) => true,
-        Err(_) => false,
     }
 }
 

@@ -10,8 +10,7 @@ pub mod words;
 
 pub use accesses::{
     Found, Settled, load_arrival, load_block, load_block_rest, load_comm, load_failure, load_rest,
-    load_revocation, load_slot, put_slot, set_arrival, set_comm, set_failure, set_revocation,
-    set_slot,
+    load_revocation, load_slot, set_arrival, set_comm, set_failure, set_revocation, set_slot,
 };
 pub use plain::{PlainPass, PlainTold, PlainWords, StepLog, Trail};
 pub use step::{Last, Site, Step};

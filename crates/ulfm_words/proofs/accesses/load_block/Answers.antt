@@ -8,4 +8,4 @@ block_is meld pack ranks h b w (inr is) some = is
 
 pub returns-clause-first : goal.returns-clause-first
 returns-clause-first g c =
-    block_is g.P.Meld.meld g.P.Packed.pack (g.W.Words.name c.args.words.now).limits.ranks (g.W.Words.sight c.load_block-word.new.pass).seen c.args.block c.load_block-word.result c.load_block-word.ensures.stands c.if-word-eq0.false
+    block_is g.P.Meld.meld g.P.Packed.pack (g.W.Words.name c.args.words.now).limits.ranks (g.W.Words.sight c.load_block-word.new.pass).seen c.args.block c.load_block-word.result c.load_block-word.ensures.stands.cached c.if-word-eq0.false

@@ -2,10 +2,15 @@ use Rattle.std.proofs.Common.{◌≡◌, ◌*◌, not, false, None, subst, ap, s
 use Rattle.ulfm_model.proofs.Lists.{none_of}
 use Rattle.ulfm_words.specs.Steps.{over, view_at, Goes}
 use Rattle.ulfm_words.proofs.Trails.{did_prefix}
-use Rattle.ulfm_steps.specs.{Appends.{place_at, room, turns_left}, Turns.{TakesFirst, left_without}, declared.append.Append.{Append}}
+use Rattle.ulfm_steps.specs.{Appends.{HasRound, place_at, room, turns_left}, Turns.{TakesFirst, left_without}, declared.append.Append.{Append}}
 use Rattle.ulfm_steps.proofs.{Appending.{append_stays, appends_next, turns_most, turns_some}, Going.{went_on}, Turning.{takes_on}}
 use Rattle.ulfm_steps.proofs.append.Append.advance.Goals as goal
 use Rattle.ulfm_steps.proofs.append.Append.advance.Goals.{After-step-end}
+
+pub step-end-requires : goal.step-end-requires
+step-end-requires g c =
+    let inv = c.loop-end.invariant in
+    record { of = inv.went.of; may = inv.may; round = subst (HasRound (g.W.Words.name c.args.words.now).limits) (sym inv.item) c.requires.round; passed = inv.passed; more = inv.within }
 
 pub returns-then-not-whole-clause-goes : goal.returns-then-not-whole-clause-goes
 returns-then-not-whole-clause-goes g c =
