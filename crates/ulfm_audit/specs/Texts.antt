@@ -1,33 +1,21 @@
 -- The lines of an audit.
-use Rattle.std.specs.Prelude.{ℕ, if◌then◌else◌, List, [], ◌∷◌, ◌++◌, codes, length, Some}
+use Rattle.std.specs.Prelude.{ℕ, if◌then◌else◌, List, [], ◌∷◌, ◌++◌, codes, Some}
 use Rattle.std.specs.Fmt.{decimal}
-use Rattle.ulfm_laws.specs.{Flags.{flag_meld}, declared.flag_and.FlagAnd.{FlagAnd}, declared.summary.Body.{Body}}
+use Rattle.ulfm_laws.specs.{Flags.{flag_meld}, declared.flag_and.FlagAnd.{FlagAnd}}
 use Rattle.ulfm_model.specs.declared.{event.Entry.{Entry}, event.Event.{Event}}
 use Rattle.ulfm_model.specs.History.{Decision}
 use Rattle.ulfm_numbers.specs.Seen.{Seen, decision_in, is_decided_in}
 use Rattle.ulfm_model.specs.declared.line.Line.TheVariants.{Happened}
-use Rattle.ulfm_lines.specs.LineTexts.{line_text, mask_flag}
-use Rattle.ulfm_script.specs.{Digits.{flag_text}, Printed.{error_text}}
+use Rattle.ulfm_lines.specs.{DecisionTexts.{outcome_text}, LineTexts.{line_text}}
 use Rattle.ulfm_audit.specs.Digests.{digest_text}
 
 -- the line of an entry, as traces have it
 abbrev pub entry_line : Entry FlagAnd → List ℕ
 entry_line e = line_text [] (Happened e.by (Some e.event)) ++ 10 ∷ []
 
--- what was contributed, combined: nothing, flags, sets of context ids, or both
-abbrev pub body_text : Body FlagAnd → List ℕ
-body_text Body.Unit = codes " nobody"
-body_text (Body.Flag flag) = codes " flag " ++ flag_text flag
-body_text (Body.Ctx mask) = codes " ctx " ++ flag_text (mask_flag mask)
-body_text Body.Clash = codes " mismatch"
-
--- how many ranks a decision names as failed, and whether it is raised
-abbrev pub failed_text : Decision FlagAnd → List ℕ
-failed_text made = codes " failed " ++ (decimal (length made.failed) ++ (error_text made.raised ++ 10 ∷ []))
-
 -- the line of a decision, behind the communicator and the round that it is of
 abbrev pub decided_text : ℕ → ℕ → Decision FlagAnd → List ℕ
-decided_text c k made = codes "decided " ++ (decimal c ++ 32 ∷ (decimal k ++ (body_text made.body ++ failed_text made)))
+decided_text c k made = codes "decided " ++ (decimal c ++ 32 ∷ (decimal k ++ 32 ∷ (outcome_text (codes "flag ") (codes "ctx ") made ++ 10 ∷ [])))
 
 -- the line of what a round decided, where it is decided
 abbrev pub round_lines : Seen FlagAnd → ℕ → ℕ → List ℕ

@@ -5,14 +5,14 @@ ghost use Rattle.ulfm_script.specs.Ends.{IsTextOf};
 ghost use Rattle.ulfm_audit.specs.Audits.{AuditsEntries, AuditsText, FailsFor, Stands, Takes, TakesPieces};
 ghost use Rattle.ulfm_audit.specs.Texts.{end_text, entry_line};
 
-use crate::decisions::{print_count, print_settled};
+use crate::decisions::print_settled;
 use crate::digest::{digest_of, print_digest};
 use crate::head::{HEAD_BYTES, read_head};
 use std::alloc::{AllocError, Allocator};
 use std::io::{ErrorKind, Read};
 use thiserror::Error;
 use ulfm_laws::FlagAnd;
-use ulfm_lines::print_line;
+use ulfm_lines::{print_count, print_line};
 use ulfm_model::Line;
 use ulfm_model::event::Entry;
 use ulfm_model::limits::Limits;

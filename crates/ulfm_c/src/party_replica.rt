@@ -1,6 +1,5 @@
 // The calls of a party that is a rank which replays a log, with the codes that C sees.
-ghost use Rattle.std.specs.Prelude.{◌≡◌, ℕ, IfOk, Some, filter};
-ghost use Rattle.ulfm_model.specs.History.{has};
+ghost use Rattle.std.specs.Prelude.{◌≡◌, ℕ, Some};
 ghost use Rattle.ulfm_c.specs.Written.{lent};
 ghost use Rattle.ulfm_laws.specs.Flags.{flag_meld};
 ghost use Rattle.ulfm_model.specs.Answers.{traits_of};
@@ -13,12 +12,11 @@ use crate::code::{CALL, GAP, LOST, NOT_A_RANK, refusal_code};
 use crate::party::{Party, Replica};
 use crate::polled::{AGREED, DONE, Flag, PENDING, PolledReply, SHRUNK};
 use crate::written::write_list;
-use std::alloc::{AllocError, Global};
+use std::alloc::Global;
 use ulfm_comm::Rank;
 use ulfm_laws::FlagAnd;
 use ulfm_model::{Call, Refusal, Reply};
-use ulfm_replica::{EntryBytes, Fed, FeedFault, Lost, Ran, bytes_of};
-use ulfm_steps::group::has_rank;
+use ulfm_replica::{EntryBytes, Fed, FeedFault, Lost, Ran, among, bytes_of};
 
 /// No call is under way.
 pub const IDLE: u32 = 0;
@@ -124,17 +122,6 @@ fn begin(replica: &mut Replica, asked: Call<FlagAnd>) -> i32
     if replica.begin(asked) { 0 } else { CALL }
 }
 
-// Those of these failures that are members.
-fn failed_among(alloc: Global, members: &[u16], failures: &[u16]) -> Result<Vec<u16>, AllocError>
-    ensures { IfOk result (λ found. found.items ≡ filter (has members.now) failures.now) }
-{
-    failures
-        .iter()
-        .copied()
-        .filter(|rank| has_rank(members, *rank))
-        .collect(alloc)
-}
-
 // Writes out the failed group of a communicator, as a rank has seen it.
 fn write_group(
     alloc: Global,
@@ -148,7 +135,7 @@ fn write_group(
     let Some(members) = rank.members(comm) else {
         return refusal_code(Refusal::NoSuchComm);
     };
-    match failed_among(alloc, members, rank.failures()) {
+    match among(alloc, rank.failures(), members) {
         Ok(found) => {
             write_list(&found, ranks, count);
             0

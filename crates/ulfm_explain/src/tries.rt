@@ -38,23 +38,29 @@ const PLAIN: [Reply<FlagAnd>; 9] = [
     Reply::Standing { revoked: false },
 ];
 
-/// The refusals that a trace can have.
-const REFUSALS: [Refusal; 14] = [
+/// The refusals that any call may have.
+const OF_ANY: [Refusal; 3] = [
     Refusal::SelfFailed,
     Refusal::NoSuchComm,
+    Refusal::NoSuchRank,
+];
+
+/// Those of the start of a request.
+const OF_STARTS: [Refusal; 4] = [
     Refusal::Busy,
     Refusal::ShrinkOpen,
     Refusal::RoundsUsedUp,
-    Refusal::Idle,
-    Refusal::Mismatch,
-    Refusal::NoContext,
-    Refusal::NoRoom,
-    Refusal::IsRevoked,
-    Refusal::ProcFailed,
-    Refusal::WorldKept,
-    Refusal::NoSuchRank,
     Refusal::Twice,
 ];
+
+/// Those of the poll of a shrink.
+const OF_SHRINKS: [Refusal; 3] = [Refusal::Mismatch, Refusal::NoContext, Refusal::NoRoom];
+
+/// Those of the poll of a barrier.
+const OF_BARRIERS: [Refusal; 2] = [Refusal::IsRevoked, Refusal::ProcFailed];
+
+/// Those of the giving back of a communicator.
+const OF_FREES: [Refusal; 2] = [Refusal::Busy, Refusal::WorldKept];
 
 /// Tries lines behind those before a bad one, and keeps those that may come next.
 #[derive(Drop)]
@@ -238,9 +244,37 @@ impl<'a, A: Allocator + Copy + Drop> Asked<'a, A> {
         self.try_refusals(trier, point)
     }
 
-    /// Tries the refusals at a point.
+    /// Tries the refusals that such a call may have, at a point.
     fn try_refusals(&self, trier: &mut Trier<'_, A>, point: u32) -> Result<(), AllocError> {
-        for refusal in REFUSALS.iter() {
+        self.try_each(trier, point, &OF_ANY)?;
+        match self.begun.asked {
+            Call::Agree { .. } | Call::Shrink { .. } | Call::Barrier { .. } => {
+                self.try_each(trier, point, &OF_STARTS)
+            }
+            Call::Poll { .. } => self.try_poll_refusals(trier, point),
+            Call::Free { .. } => self.try_each(trier, point, &OF_FREES),
+            _ => Ok(()),
+        }
+    }
+
+    /// Tries the refusals of a poll at a point, by what is open.
+    fn try_poll_refusals(&self, trier: &mut Trier<'_, A>, point: u32) -> Result<(), AllocError> {
+        match self.request {
+            None => self.try_each(trier, point, &[Refusal::Idle]),
+            Some(Request::Agree { .. }) => self.try_each(trier, point, &[Refusal::Mismatch]),
+            Some(Request::Shrink { .. }) => self.try_each(trier, point, &OF_SHRINKS),
+            Some(Request::Barrier { .. }) => self.try_each(trier, point, &OF_BARRIERS),
+        }
+    }
+
+    /// Tries each of these refusals at a point.
+    fn try_each(
+        &self,
+        trier: &mut Trier<'_, A>,
+        point: u32,
+        refusals: &[Refusal],
+    ) -> Result<(), AllocError> {
+        for refusal in refusals {
             self.try_reply(trier, point, Reply::Refused(*refusal), &[])?;
         }
         Ok(())

@@ -1,4 +1,5 @@
 pub mod Callers
+pub mod DecisionTexts
 pub mod EventReading
 pub mod Fields
 pub mod LineReading

@@ -29,24 +29,25 @@ spreads meld pack x y c k r given word result of settled free is sets =
     by (Ok u) set before = set
     by (Err w) set before = let put = settled c k r before in let clash : None ≡ Some put.0 = sym free ∙ put.1 in absurd (cc clash)
 
+-- A step that may be tried: its place is there, it is that of an event that may come next, and its wing is known to be set where it has one, whatever it is read as.
+pub record IsTried {P : Type 0} (meld : P → P → P) (pack : P → ℕ) (unpack : ℕ → Option P) (y : Sight P) (step : Step) : Type 0 where
+  pub within : IsWithin (limits_in (view_of pack y.name y)) step.place
+  pub may : MaySetIn meld (coding pack unpack) (view_of pack y.name y) step
+  pub winged : IsWingedIn (coding pack unpack) (view_of pack y.name y) step
+
 module _ {P : Type 0} (meld : P → P → P) (pack : P → ℕ) (unpack : ℕ → Option P) (back : (x : P) → unpack (pack x) ≡ Some x) (fits : (x : P) → pack x < 2 ^ payload_bits) (x y z : Sight P) (e : Entry P)
     (of : IsView meld (view_of pack x.name x)) (may : MayFollow meld x.name.limits x.seen e.event) (spread : SpreadsFor meld e.event (view_of pack x.name x) (view_of pack x.name y)) where
-  -- the step may be tried: its place is there
-  pub within : IsWithin (limits_in (view_of pack y.name y)) (step_after pack x.seen e).place
-  within =
-      subst (λ (n : Name). IsWithin n.limits (place_of x.seen e.event)) (sym spread.of.name_is)
-      (place_in meld pack unpack x.name.limits x.seen e.by of.may_open back fits of.legal e.event may)
-
-  -- .. it is that of an event that may come next
-  pub may_try : MaySetIn meld (coding pack unpack) (view_of pack y.name y) (step_after pack x.seen e)
-  may_try =
-      subst (λ (n : Name). MaySet meld pack unpack n.limits y.seen (step_after pack x.seen e)) (sym spread.of.name_is)
-      (subst (λ h. MaySet meld pack unpack x.name.limits h (step_after pack x.seen e)) (sym spread.seen) (may_set meld pack unpack x.name.limits x.seen e.by of.may_open back fits e.event may))
-
-  -- .. and its wing is known to be set where it has one, whatever the step is read as
-  pub winged : IsWingedIn (coding pack unpack) (view_of pack y.name y) (step_after pack x.seen e)
-  winged entry is =
-      subst (λ (v : Entry P). IsWinged pack y.cached v.event) (same_entry e entry (sym (entry_is meld pack unpack x.name.limits x.seen e.by of.may_open back fits e.event may) ∙ is)) spread.winged
+  -- the step of an entry that may come next may be tried
+  pub tried : (step : Step) → step ≡ step_after pack x.seen e → IsTried meld pack unpack y step
+  tried step is =
+      subst (λ (s : Step). IsTried meld pack unpack y s) (sym is) (record {
+        within = subst (λ (n : Name). IsWithin n.limits (place_of x.seen e.event)) (sym spread.of.name_is) (place_in meld pack unpack x.name.limits x.seen e.by of.may_open back fits of.legal e.event may);
+        may =
+            subst (λ (n : Name). MaySet meld pack unpack n.limits y.seen (step_after pack x.seen e)) (sym spread.of.name_is)
+            (subst (λ h. MaySet meld pack unpack x.name.limits h (step_after pack x.seen e)) (sym spread.seen) (may_set meld pack unpack x.name.limits x.seen e.by of.may_open back fits e.event may));
+        winged = λ entry read.
+            subst (λ (v : Entry P). IsWinged pack y.cached v.event) (same_entry e entry (sym (entry_is meld pack unpack x.name.limits x.seen e.by of.may_open back fits e.event may) ∙ read)) spread.winged;
+      })
 
   module _ (result : Result (Unit {0}) ℕ) (sets : Sets meld (coding pack unpack) true (step_after pack x.seen e) (view_of pack y.name y) result (view_of pack y.name z)) where
     at_name : Sets meld (coding pack unpack) true (step_after pack x.seen e) (view_of pack x.name y) result (view_of pack x.name z)

@@ -1,5 +1,6 @@
 pub mod Fitting
 pub mod Opening
+pub mod Logs
 pub mod Replaying
 pub mod Running
 pub mod Stepping

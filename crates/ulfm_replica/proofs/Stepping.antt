@@ -5,7 +5,7 @@ use Rattle.ulfm_model.specs.declared.{call.Call.{Call}, call.Request.{Request}, 
 use Rattle.ulfm_model.specs.declared.step_name.StepName.TheVariants as step
 use Rattle.ulfm_model.specs.{History.{History, MayFollow}, Records.{Record}, Terms.{comm_of}}
 use Rattle.ulfm_model.proofs.Lists.{prefix_trans}
-use Rattle.ulfm_words.specs.Steps.{Name, Over, Sight, over, view_at, view_of}
+use Rattle.ulfm_words.specs.Steps.{Name, Over, Sight, View, over, view_at, view_of}
 use Rattle.ulfm_words.proofs.Trails.{did_prefix}
 use Rattle.ulfm_comm.specs.{Local.{local}, Phase.{Answered, MayStep, StandsOrEnds, UnderWay, next_of, next_step}, Step.{StepAdds, StepSees, Stepped}, StepsLeft.{steps_left}}
 use Rattle.ulfm_comm.specs.{Proposals.{HasWon, OffersOwn, Proposes, WinsNext, proposes}, Wings.{WingsIn, WingsNext, WingsSettled}}
@@ -34,42 +34,32 @@ adds_on quiet own asked (ReadingOn on made) reply old new p = did_prefix quiet _
 adds_on quiet own asked (Waiting arrivals) reply old new p = did_prefix quiet _ old new p
 adds_on quiet own asked (Checking missing) reply old new p = did_prefix quiet _ old new p
 
--- where no contribution's word comes next, no wing stands without its place
+-- where no contribution's word comes next, what is known of the wings is that none stands without its place
+settled_both : {P : Type 0} (own : Record) (asked : Call P) (phase : Phase P) (view : View P) → is_settle (next_step phase) ≡ false
+    → (WingsIn own asked phase view → WingsSettled view) × (WingsSettled view → WingsIn own asked phase view)
+settled_both own asked (Settling request offer) view un = absurd (cc un)
+settled_both own asked (Arriving round) view un = ((λ p. p), (λ p. p))
+settled_both own asked Revoking view un = ((λ p. p), (λ p. p))
+settled_both own asked (Marking marks blocks shrinks) view un = ((λ p. p), (λ p. p))
+settled_both own asked (Spawning append context reach) view un = ((λ p. p), (λ p. p))
+settled_both own asked IsOver view un = ((λ p. p), (λ p. p))
+settled_both own asked Begun view un = ((λ p. p), (λ p. p))
+settled_both own asked Looking view un = ((λ p. p), (λ p. p))
+settled_both own asked (Spreading request offer) view un = ((λ p. p), (λ p. p))
+settled_both own asked Asking view un = ((λ p. p), (λ p. p))
+settled_both own asked (Peeking peek shrinks) view un = ((λ p. p), (λ p. p))
+settled_both own asked (Reading reading shrinks) view un = ((λ p. p), (λ p. p))
+settled_both own asked (ReadingOn on made) view un = ((λ p. p), (λ p. p))
+settled_both own asked (Waiting arrivals) view un = ((λ p. p), (λ p. p))
+settled_both own asked (Checking missing) view un = ((λ p. p), (λ p. p))
+
 pub settled_in : {P : Type 0} (own : Record) (asked : Call P) (phase : Phase P) (name : Over P) (pass : Sight P) → is_settle (next_step phase) ≡ false
     → WingsIn own asked phase (view_at name pass) → WingsSettled (view_at name pass)
-settled_in own asked (Settling request offer) name pass un p = absurd (cc un)
-settled_in own asked (Arriving round) name pass un p = p
-settled_in own asked Revoking name pass un p = p
-settled_in own asked (Marking marks blocks shrinks) name pass un p = p
-settled_in own asked (Spawning append context reach) name pass un p = p
-settled_in own asked IsOver name pass un p = p
-settled_in own asked Begun name pass un p = p
-settled_in own asked Looking name pass un p = p
-settled_in own asked (Spreading request offer) name pass un p = p
-settled_in own asked Asking name pass un p = p
-settled_in own asked (Peeking peek shrinks) name pass un p = p
-settled_in own asked (Reading reading shrinks) name pass un p = p
-settled_in own asked (ReadingOn on made) name pass un p = p
-settled_in own asked (Waiting arrivals) name pass un p = p
-settled_in own asked (Checking missing) name pass un p = p
+settled_in own asked phase name pass un p = (settled_both own asked phase (view_at name pass) un).0 p
 
 pub settled_out : {P : Type 0} (own : Record) (asked : Call P) (phase : Phase P) (name : Over P) (pass : Sight P) → is_settle (next_step phase) ≡ false
     → WingsSettled (view_at name pass) → WingsIn own asked phase (view_at name pass)
-settled_out own asked (Settling request offer) name pass un p = absurd (cc un)
-settled_out own asked (Arriving round) name pass un p = p
-settled_out own asked Revoking name pass un p = p
-settled_out own asked (Marking marks blocks shrinks) name pass un p = p
-settled_out own asked (Spawning append context reach) name pass un p = p
-settled_out own asked IsOver name pass un p = p
-settled_out own asked Begun name pass un p = p
-settled_out own asked Looking name pass un p = p
-settled_out own asked (Spreading request offer) name pass un p = p
-settled_out own asked Asking name pass un p = p
-settled_out own asked (Peeking peek shrinks) name pass un p = p
-settled_out own asked (Reading reading shrinks) name pass un p = p
-settled_out own asked (ReadingOn on made) name pass un p = p
-settled_out own asked (Waiting arrivals) name pass un p = p
-settled_out own asked (Checking missing) name pass un p = p
+settled_out own asked phase name pass un p = (settled_both own asked phase (view_at name pass) un).1 p
 
 -- a rank with a call that goes on, or was answered
 abbrev pub going : {P : Type 0} → Name → Record → Sight P → UnderWay P → Calling P

@@ -20,10 +20,14 @@ abbrev pub Feeds : {P : Type 0} → (P → P → P) → Limits → Entry P → B
 Feeds meld limits e taken old new =
     MatchBool taken (MayFollow meld limits old e.event × (new ≡ old ++ e ∷ [])) ((MayFollow meld limits old e.event → ⊥) × (new ≡ old))
 
+-- what a log makes of a history, entry by entry, where this is what one entry makes of one, whether it is taken or left out
+abbrev pub LogMakes : {E H : Type 0} → (E → Bool → H → H → Type 0) → H → List E → H → Type 0
+LogMakes Makes h [] new = new ≡ h
+LogMakes {H = H} Makes h (e ∷ log) new = (taken : Bool) × (mid : H) × Makes e taken h mid × LogMakes Makes mid log new
+
 -- what a log makes of a history: each entry that may come next, in the log's order, and no other
 abbrev pub Replays : {P : Type 0} → (P → P → P) → Limits → History P → List (Entry P) → History P → Type 0
-Replays meld limits h [] new = new ≡ h
-Replays {P} meld limits h (e ∷ log) new = (taken : Bool) × (mid : History P) × Feeds meld limits e taken h mid × Replays meld limits mid log new
+Replays meld limits h log new = LogMakes (Feeds meld limits) h log new
 
 -- the wing that is tried before an event's word: a contribution's own
 abbrev pub wings_of : {P : Type 0} → Event P → List Site

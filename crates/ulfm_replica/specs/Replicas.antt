@@ -8,7 +8,7 @@ use Rattle.ulfm_model.specs.{History.{History, MayFollow}, Records.{Record, new_
 use Rattle.ulfm_words.specs.Steps.{IsView, Name, Sight, View, view_of}
 use Rattle.ulfm_comm.specs.Phase.{Answered, MayStep, Stands, UnderWay, Waits, next_step}
 use Rattle.ulfm_comm.specs.{Counts.{Counted}, Local.{FitsView, local}, Proposals.{Proposes, proposes}, StepsLeft.{steps_left}, Wings.{WingsSettled}}
-use Rattle.ulfm_replica.specs.{Replays.{Feeds}, Wire.{IsReadAs, entry_bytes}}
+use Rattle.ulfm_replica.specs.{Replays.{Feeds, LogMakes}, Wire.{IsReadAs, entry_bytes}}
 use Rattle.ulfm_replica.specs.declared.answers.{Fed.{Fed}, FeedFault.{FeedFault}, FeedFault.TheVariants.{Gap, Lost as IsLost}, Lost.{Lost}, Ran.{Ran}}
 use Rattle.ulfm_replica.specs.declared.answers.Fed.TheVariants as fed
 use Rattle.ulfm_replica.specs.declared.answers.Ran.TheVariants as ran
@@ -129,8 +129,7 @@ Takes {P} by limits bytes taken old new =
 
 -- what a log makes of a history, entry by entry
 abbrev pub Replays : {P : Type 0} → Rules P → Limits → History P → List (List ℕ) → History P → Type 0
-Replays by limits h [] new = new ≡ h
-Replays {P} by limits h (bytes ∷ log) new = (taken : Bool) × (mid : History P) × Takes by limits bytes taken h mid × Replays by limits mid log new
+Replays by limits h log new = LogMakes (Takes by limits) h log new
 
 -- what a replica has seen is what its log makes of an empty history
 abbrev pub IsReplica : {P : Type 0} → Rules P → Replicated P → Type 0

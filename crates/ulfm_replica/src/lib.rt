@@ -26,4 +26,5 @@ pub use entry_bytes::EntryBytes;
 pub use laws::machines_agree;
 pub use replay::feed;
 pub use replica::Replica;
+pub use ulfm_numbers::numbers::among;
 pub use wire::{ENTRY_BYTES, bytes_of, entry_of};

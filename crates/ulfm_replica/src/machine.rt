@@ -137,26 +137,13 @@ impl<P: Packed, A: Allocator + Copy + Drop> Machine<P, A> {
         requires open { IsTrue (is_some self.at.call) }
         ensures { IfOk result (λ new. StepsOn (rules P.meld P.pack) self.at new.at × (new.at.pass.seen ≡ self.at.pass.seen) × (new.fed ≡ self.fed)) }
     {
-        let Machine {
-            alloc,
-            at,
-            numbers,
-            count,
-            log,
-        } = self;
-        let seen = at.seen();
-        let at = at.stepped()?;
+        let seen = self.at.seen();
+        let at = self.at.stepped()?;
         if at.seen() != seen {
             // It waits for the entry of each event that it would add, so that this doesn't happen.
             return Err(Lost);
         }
-        Ok(Machine {
-            alloc,
-            at,
-            numbers,
-            count,
-            log,
-        })
+        Ok(Machine { at, ..self })
     }
 
     // What it has come to where no call is under way.
@@ -164,24 +151,8 @@ impl<P: Packed, A: Allocator + Copy + Drop> Machine<P, A> {
         requires { self.at.call ≡ None }
         ensures { RunsOn (rules P.meld P.pack) self result.1 result.0 }
     {
-        let Machine {
-            alloc,
-            at,
-            numbers,
-            count,
-            log,
-        } = self;
-        let (at, ran) = at.told();
-        (
-            Machine {
-                alloc,
-                at,
-                numbers,
-                count,
-                log,
-            },
-            ran,
-        )
+        let (at, ran) = self.at.told();
+        (Machine { at, ..self }, ran)
     }
 
     /// Steps on as far as no entry is waited for, and tells what that came to.
@@ -207,26 +178,20 @@ impl<P: Packed, A: Allocator + Copy + Drop> Machine<P, A> {
         requires room { length self.fed < 2 ^ 64 - 1 }
         ensures { IfOk result (IsFed (rules P.meld P.pack) self bytes.now.bytes IsOwn) }
     {
-        let Machine {
-            alloc,
-            at,
-            mut numbers,
-            count,
-            log,
-        } = self;
-        let seen = at.seen();
-        let at = at.stepped()?;
+        let mut numbers = self.numbers;
+        let seen = self.at.seen();
+        let at = self.at.stepped()?;
         if !is_one_more(seen, at.seen()) {
             // It makes no other event before this one or behind it, so that this doesn't happen.
             return Err(Lost);
         }
-        match numbers.note(alloc, &entry) {
+        match numbers.note(self.alloc, &entry) {
             Ok(()) => Ok(Machine {
-                alloc,
                 at,
                 numbers,
-                count: count + 1,
-                log: log.and(bytes),
+                count: self.count + 1,
+                log: self.log.and(bytes),
+                ..self
             }),
             Err(_) => Err(Lost),
         }
@@ -238,20 +203,14 @@ impl<P: Packed, A: Allocator + Copy + Drop> Machine<P, A> {
         requires room { length self.fed < 2 ^ 64 - 1 }
         ensures { IfOk result (λ r. IsFed (rules P.meld P.pack) self bytes.now.bytes r.1 r.0) }
     {
-        let Machine {
-            alloc,
-            at,
-            mut numbers,
-            count,
-            log,
-        } = self;
-        let (at, taken) = at.taking(alloc, &mut numbers, &entry)?;
+        let mut numbers = self.numbers;
+        let (at, taken) = self.at.taking(self.alloc, &mut numbers, &entry)?;
         let machine = Machine {
-            alloc,
             at,
             numbers,
-            count: count + 1,
-            log: log.and(bytes),
+            count: self.count + 1,
+            log: self.log.and(bytes),
+            ..self
         };
         Ok((machine, done_by(taken)))
     }
@@ -262,19 +221,10 @@ impl<P: Packed, A: Allocator + Copy + Drop> Machine<P, A> {
         requires room { length self.fed < 2 ^ 64 - 1 }
         ensures { IsFed (rules P.meld P.pack) self bytes.now.bytes IsLeftOut result }
     {
-        let Machine {
-            alloc,
-            at,
-            numbers,
-            count,
-            log,
-        } = self;
         Machine {
-            alloc,
-            at,
-            numbers,
-            count: count + 1,
-            log: log.and(bytes),
+            count: self.count + 1,
+            log: self.log.and(bytes),
+            ..self
         }
     }
 

@@ -1,6 +1,7 @@
 //! The words and the tables of a log, entry by entry.
 ghost use Rattle.std.specs.Prelude.{◌≡◌, ◌∷◌, ◌++◌, [], Bool, List, IfOk, length};
 ghost use Rattle.ulfm_model.specs.History.{History, MayFollow, failures};
+ghost use Rattle.ulfm_model.specs.Words.{half_of, place_of as place_after, word_of as word_of_event};
 ghost use Rattle.ulfm_model.specs.declared.{event.Entry.{Entry}, limits.Limits.{Limits}};
 ghost use Rattle.ulfm_replica.specs.Replays.{AreReplayed, Feeds, IsFed, Replays, SpreadsFor, step_after};
 ghost use Rattle.ulfm_replica.specs.Replays.{WingsSettled};
@@ -18,45 +19,54 @@ use ulfm_numbers::allowed::may_follow;
 use ulfm_numbers::numbers::Numbers;
 use ulfm_words::{PlainPass, Step, slot_wing, slot_words};
 
+/// The place whose word an event sets, where so many ranks are declared.
+fn place_of<P: Packed>(event: &Event<P>, declared: u16) -> Place
+    ensures { (h : History P) → declared ≡ length (failures h) → result ≡ place_after h event.now }
+{
+    match *event {
+        Event::Fail { .. } => Place::List { index: declared },
+        Event::Settle {
+            comm,
+            round,
+            rank,
+            ..
+        }
+        | Event::Mark {
+            comm,
+            round,
+            rank,
+            ..
+        } => Place::Slot { comm, round, rank },
+        Event::Arrive { comm, round, rank } => Place::Arrival { comm, round, rank },
+        Event::Revoke { comm } => Place::Revoked { comm },
+        Event::Spawn { comm, .. } => Place::Comm { comm },
+    }
+}
+
+/// The word that an event sets, and the upper half of what it says, which stands in the wing of a contribution.
+fn word_of<P: Packed>(event: &Event<P>) -> (u64, u32)
+    ensures { result ≡ (word_of_event P.pack event.now, half_of P.pack event.now) }
+{
+    match *event {
+        Event::Fail { rank } => (u64::from(rank) + 1, 0),
+        Event::Settle { given, .. } => {
+            let (word, wing) = slot_words(&Slot::Given(given));
+            (word, (wing / 2) as u32)
+        }
+        Event::Mark { known, .. } => (slot_words::<P>(&Slot::Mark(known)).0, 0),
+        Event::Arrive { .. } | Event::Revoke { .. } => (1, 0),
+        Event::Spawn { parent, round, .. } => (1 + u64::from(parent) * 4096 + u64::from(round), 0),
+    }
+}
+
 /// The step of an entry, where so many ranks are declared.
 fn step_of<P: Packed>(entry: &Entry<P>, declared: u16) -> Step
     ensures { (h : History P) → declared ≡ length (failures h) → result ≡ step_after P.pack h entry.now }
 {
     let by = entry.by;
-    let (place, word, half) = match entry.event {
-        Event::Fail { rank } => (Place::List { index: declared }, u64::from(rank) + 1, 0),
-        Event::Settle {
-            comm,
-            round,
-            rank,
-            given,
-        } => {
-            let (word, wing) = slot_words(&Slot::Given(given));
-            (Place::Slot { comm, round, rank }, word, (wing / 2) as u32)
-        }
-        Event::Mark {
-            comm,
-            round,
-            rank,
-            known,
-        } => {
-            let (word, _) = slot_words::<P>(&Slot::Mark(known));
-            (Place::Slot { comm, round, rank }, word, 0)
-        }
-        Event::Arrive { comm, round, rank } => (Place::Arrival { comm, round, rank }, 1, 0),
-        Event::Revoke { comm } => (Place::Revoked { comm }, 1, 0),
-        Event::Spawn {
-            comm,
-            parent,
-            round,
-        } => (
-            Place::Comm { comm },
-            1 + u64::from(parent) * 4096 + u64::from(round),
-            0,
-        ),
-    };
+    let (word, half) = word_of(&entry.event);
     Step {
-        place,
+        place: place_of(&entry.event, declared),
         word,
         half,
         by,

@@ -208,6 +208,15 @@ impl Fields {
         })
     }
 
+    // The contribution that they tell.
+    fn contribution<P: Packed>(&self) -> Option<Contribution<P>>
+        ensures { (given : Contribution P) → self.now.kind ≡ kind_of given.offer → self.now.payload ≡ payload_of P.pack given.offer
+            → self.now.known ≡ given.known.count → self.now.acked ≡ given.acked.count → result ≡ Some given }
+    {
+        let offer = self.offer()?;
+        self.given(offer)
+    }
+
     // The count of a mark.
     fn mark(&self) -> Option<MarkCount>
         ensures { (mark : MarkCount) → self.now.known ≡ mark.known.count → result ≡ Some mark }
@@ -233,8 +242,7 @@ impl Fields {
         match self.kind {
             1 => Some(Event::Fail { rank }),
             2 | 3 => {
-                let offer = self.offer()?;
-                let given = self.given(offer)?;
+                let given = self.contribution()?;
                 Some(Event::Settle {
                     comm,
                     round,

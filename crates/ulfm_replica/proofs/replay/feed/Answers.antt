@@ -2,11 +2,11 @@ use Rattle.std.proofs.Common.{◌≡◌, refl, true, false, [], length, subst, s
 use Rattle.ulfm_model.specs.declared.{limits.Limits.{Limits}}
 use Rattle.ulfm_model.specs.History.{MayFollow, failures}
 use Rattle.ulfm_words.specs.declared.step.Step.{Step}
-use Rattle.ulfm_words.specs.{Places.{IsWithin}, Steps.{IsWingedIn, MaySetIn, Sets, coding, limits_in, view_of}}
+use Rattle.ulfm_words.specs.Steps.{Sets, coding, view_of}
 use Rattle.ulfm_words.proofs.Ranks.{failures_le}
 use Rattle.ulfm_numbers.specs.{Seen.{Seen}, Telling.{TablesTell, seen_at}, Tests.{follow_test}}
 use Rattle.ulfm_numbers.proofs.{Deciding.{follow_decides}, Seeing.{seen_now}}
-use Rattle.ulfm_replica.proofs.Feeding.{came, is_fed, is_view, may_try, settled, winged, within}
+use Rattle.ulfm_replica.proofs.Feeding.{came, is_fed, is_view, settled, tried}
 use Rattle.ulfm_replica.proofs.replay.feed.Goals as goal
 use Rattle.ulfm_replica.proofs.replay.feed.Goals.{After-len-declared}
 
@@ -56,26 +56,20 @@ spread-requires-clause-may g c = may g (goal.at.spread-requires-clause-may g c).
 pub set_once-requires-clause-within : goal.set_once-requires-clause-within
 set_once-requires-clause-within g c =
     let at = (goal.at.set_once-requires-clause-within g c).After-len-declared in
-    let step_is = c.step_of-step.ensures c.args.pass.now.seen (count g at) in
-    let pass = c.spread.new.pass in
-    subst (λ (s : Step). IsWithin (limits_in (view_of g.P.Packed.pack pass.name pass)) s.place) (sym step_is)
-    (within g.P.Meld.meld g.P.Packed.pack g.P.Packed.unpack g.met.P.Packed.unpack_pack g.met.P.Packed.pack_fits c.args.pass.now pass pass c.args.entry.now c.requires.before.of (may g at) c.spread.ensures)
+    (tried g.P.Meld.meld g.P.Packed.pack g.P.Packed.unpack g.met.P.Packed.unpack_pack g.met.P.Packed.pack_fits c.args.pass.now c.spread.new.pass c.spread.new.pass c.args.entry.now c.requires.before.of (may g at) c.spread.ensures
+    c.step_of-step.result (c.step_of-step.ensures c.args.pass.now.seen (count g at))).within
 
 pub set_once-requires-clause-may : goal.set_once-requires-clause-may
 set_once-requires-clause-may g c =
     let at = (goal.at.set_once-requires-clause-may g c).After-len-declared in
-    let step_is = c.step_of-step.ensures c.args.pass.now.seen (count g at) in
-    let pass = c.spread.new.pass in
-    subst (λ (s : Step). MaySetIn g.P.Meld.meld (coding g.P.Packed.pack g.P.Packed.unpack) (view_of g.P.Packed.pack pass.name pass) s) (sym step_is)
-    (may_try g.P.Meld.meld g.P.Packed.pack g.P.Packed.unpack g.met.P.Packed.unpack_pack g.met.P.Packed.pack_fits c.args.pass.now pass pass c.args.entry.now c.requires.before.of (may g at) c.spread.ensures)
+    (tried g.P.Meld.meld g.P.Packed.pack g.P.Packed.unpack g.met.P.Packed.unpack_pack g.met.P.Packed.pack_fits c.args.pass.now c.spread.new.pass c.spread.new.pass c.args.entry.now c.requires.before.of (may g at) c.spread.ensures
+    c.step_of-step.result (c.step_of-step.ensures c.args.pass.now.seen (count g at))).may
 
 pub set_once-requires-clause-winged : goal.set_once-requires-clause-winged
 set_once-requires-clause-winged g c =
     let at = (goal.at.set_once-requires-clause-winged g c).After-len-declared in
-    let step_is = c.step_of-step.ensures c.args.pass.now.seen (count g at) in
-    let pass = c.spread.new.pass in
-    subst (λ (s : Step). IsWingedIn (coding g.P.Packed.pack g.P.Packed.unpack) (view_of g.P.Packed.pack pass.name pass) s) (sym step_is)
-    (winged g.P.Meld.meld g.P.Packed.pack g.P.Packed.unpack g.met.P.Packed.unpack_pack g.met.P.Packed.pack_fits c.args.pass.now pass pass c.args.entry.now c.requires.before.of (may g at) c.spread.ensures)
+    (tried g.P.Meld.meld g.P.Packed.pack g.P.Packed.unpack g.met.P.Packed.unpack_pack g.met.P.Packed.pack_fits c.args.pass.now c.spread.new.pass c.spread.new.pass c.args.entry.now c.requires.before.of (may g at) c.spread.ensures
+    c.step_of-step.result (c.step_of-step.ensures c.args.pass.now.seen (count g at))).winged
 
 pub returns : goal.returns
 returns g c =

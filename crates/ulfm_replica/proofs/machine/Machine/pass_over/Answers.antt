@@ -1,7 +1,7 @@
 use Rattle.std.proofs.Common.{◌≡◌, ◌∷◌, [], ℕ, List, inr, false, length, length-append, refl, sym, ap, subst, arith}
-use Rattle.ulfm_replica.specs.Replicas.{IsFed, Replays, Replicated, rules}
+use Rattle.ulfm_replica.specs.Replicas.{IsFed, Replays, Replicated, Takes, rules}
 use Rattle.ulfm_replica.specs.declared.answers.Fed.TheVariants as fed
-use Rattle.ulfm_replica.proofs.{Fitting.{keeps_same}, Replaying.{goes_on}}
+use Rattle.ulfm_replica.proofs.{Fitting.{keeps_same}, Logs.{goes_on}}
 use Rattle.ulfm_replica.proofs.machine.Machine.pass_over.Goals as goal
 
 pub invariant_of-result : goal.invariant_of-result
@@ -10,7 +10,7 @@ invariant_of-result g c =
     let at = c.self.inside.at in
     let count : c.self.inside.count ≡ length c.self.inside.log.items = c.self.invariant.2 in (
       subst (λ (log : List (List ℕ)). Replays by at.words.limits [] log at.pass.seen) (sym c.and.ensures)
-          (goes_on by at.words.limits c.self.inside.log.items c.args.bytes.now.bytes false [] at.pass.seen at.pass.seen c.self.invariant.0 (inr (c.requires.nobody, refl, refl))),
+          (goes_on (Takes by at.words.limits) c.self.inside.log.items c.args.bytes.now.bytes false [] at.pass.seen at.pass.seen c.self.invariant.0 (inr (c.requires.nobody, refl, refl))),
       c.self.invariant.1,
       omega (arith, count, ap length c.and.ensures, length-append c.self.inside.log.items (c.args.bytes.now.bytes ∷ [])),
     )

@@ -3,7 +3,7 @@ use Rattle.ulfm_words.specs.Steps.{Name}
 use Rattle.ulfm_numbers.specs.Telling.{TablesTell}
 use Rattle.ulfm_replica.specs.Replicas.{IsFed, Replays, Replicated, Takes, is_taken, rules}
 use Rattle.ulfm_replica.specs.declared.answers.Fed.TheVariants as fed
-use Rattle.ulfm_replica.proofs.Replaying.{goes_on}
+use Rattle.ulfm_replica.proofs.Logs.{goes_on}
 use Rattle.ulfm_replica.proofs.machine.Machine.take_other.Goals as goal
 
 -- what an entry did tells whether it was taken, and that it wasn't the call's own
@@ -23,7 +23,7 @@ invariant_of-machine g c =
     let count : c.self.inside.count ≡ length c.self.inside.log.items = c.self.invariant.2 in (
       subst (λ (n : Name). Replays by n.limits [] c.and.result.items c.in_ok-at.at.pass.seen) words
           (subst (λ (log : List (List ℕ)). Replays by at.words.limits [] log c.in_ok-at.at.pass.seen) (sym c.and.ensures)
-          (goes_on by at.words.limits c.self.inside.log.items c.args.bytes.now.bytes c.in_ok-at.taken [] at.pass.seen c.in_ok-at.at.pass.seen c.self.invariant.0 (inl (c.args.entry, c.requires.read, c.in_ok-at.ensures.feeds)))),
+          (goes_on (Takes by at.words.limits) c.self.inside.log.items c.args.bytes.now.bytes c.in_ok-at.taken [] at.pass.seen c.in_ok-at.at.pass.seen c.self.invariant.0 (inl (c.args.entry, c.requires.read, c.in_ok-at.ensures.feeds)))),
       subst (λ (n : Name). TablesTell n.limits.ranks c.taking.new.numbers c.in_ok-at.at.pass.seen) words c.in_ok-at.ensures.tells,
       omega (arith, count, ap length c.and.ensures, length-append c.self.inside.log.items (c.args.bytes.now.bytes ∷ [])),
     )

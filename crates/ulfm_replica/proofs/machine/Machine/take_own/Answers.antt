@@ -2,9 +2,9 @@ use Rattle.std.proofs.Common.{◌≡◌, ◌++◌, ◌∷◌, [], ℕ, List, inl
 use Rattle.ulfm_model.specs.History.{History}
 use Rattle.ulfm_words.specs.Steps.{Name}
 use Rattle.ulfm_numbers.specs.Telling.{TablesTell}
-use Rattle.ulfm_replica.specs.Replicas.{IsFed, IsWanted, Replays, Replicated, rules}
+use Rattle.ulfm_replica.specs.Replicas.{IsFed, IsWanted, Replays, Replicated, Takes, rules}
 use Rattle.ulfm_replica.specs.declared.answers.Fed.TheVariants as fed
-use Rattle.ulfm_replica.proofs.{Fitting.{same_seen}, Replaying.{goes_on}}
+use Rattle.ulfm_replica.proofs.{Fitting.{same_seen}, Logs.{goes_on}}
 use Rattle.ulfm_replica.proofs.machine.Machine.take_own.Goals as goal
 use Rattle.ulfm_replica.proofs.machine.Machine.take_own.Goals.{After-and}
 
@@ -29,7 +29,7 @@ invariant_of-result g c =
     let count : c.self.inside.count ≡ length c.self.inside.log.items = c.self.invariant.2 in (
       subst (λ (n : Name). Replays by n.limits [] c.and.result.items c.in_ok-at.at.pass.seen) words
           (subst (λ (log : List (List ℕ)). Replays by at.words.limits [] log c.in_ok-at.at.pass.seen) (sym c.and.ensures)
-          (goes_on by at.words.limits c.self.inside.log.items c.args.bytes.now.bytes true [] at.pass.seen c.in_ok-at.at.pass.seen c.self.invariant.0 (inl (c.args.entry, c.requires.read, ((wanted g c).follows, seen g c))))),
+          (goes_on (Takes by at.words.limits) c.self.inside.log.items c.args.bytes.now.bytes true [] at.pass.seen c.in_ok-at.at.pass.seen c.self.invariant.0 (inl (c.args.entry, c.requires.read, ((wanted g c).follows, seen g c))))),
       subst (λ (n : Name). TablesTell n.limits.ranks c.note.new.self c.in_ok-at.at.pass.seen) words
           (subst (λ (h : History g.row.P.Denot). TablesTell at.words.limits.ranks c.note.new.self h) come (c.in-Ok.ensures at.words.limits.ranks at.pass.seen c.self.invariant.1)),
       omega (arith, count, ap length c.and.ensures, length-append c.self.inside.log.items (c.args.bytes.now.bytes ∷ [])),

@@ -3,26 +3,16 @@ use Rattle.ulfm_model.specs.declared.{contribution.Contribution.{Contribution}, 
 use Rattle.ulfm_replica.proofs.Wiring.{given_told, mark_told}
 use Rattle.ulfm_replica.proofs.wire.Fields.event.Goals as goal
 
-pub returns-in_err-offer-in-2 : goal.returns-in_err-offer-in-2
-returns-in_err-offer-in-2 g c = λ by event is.
-    let told = given_told g.P.Packed.pack c.args.self.now by event is (omega arith) (omega arith) in
-    let none : None ≡ Some told.given.offer = sym c.in_err-offer-in-2.was ∙ c.offer.ensures told.given.offer told.kind told.payload in
-    absurd (cc none)
-
 pub returns-in_err-given-in-2 : goal.returns-in_err-given-in-2
 returns-in_err-given-in-2 g c = λ by event is.
     let told = given_told g.P.Packed.pack c.args.self.now by event is (omega arith) (omega arith) in
-    let some : Some c.in_ok-offer-in-2.offer ≡ Some told.given.offer = sym c.in_ok-offer-in-2.was ∙ c.offer.ensures told.given.offer told.kind told.payload in
-    let same : c.in_ok-offer-in-2.offer ≡ told.given.offer = cc some in
-    let none : None ≡ Some told.given = sym c.in_err-given-in-2.was ∙ c.given.ensures told.given same told.known told.acked in
+    let none : None ≡ Some told.given = sym c.in_err-given-in-2.was ∙ c.contribution.ensures told.given told.kind told.payload told.known told.acked in
     absurd (cc none)
 
 pub returns-in_ok-given-in-2 : goal.returns-in_ok-given-in-2
 returns-in_ok-given-in-2 g c = λ by event is.
     let told = given_told g.P.Packed.pack c.args.self.now by event is (omega arith) (omega arith) in
-    let offered : Some c.in_ok-offer-in-2.offer ≡ Some told.given.offer = sym c.in_ok-offer-in-2.was ∙ c.offer.ensures told.given.offer told.kind told.payload in
-    let same : c.in_ok-offer-in-2.offer ≡ told.given.offer = cc offered in
-    let some : Some c.in_ok-given-in-2.given ≡ Some told.given = sym c.in_ok-given-in-2.was ∙ c.given.ensures told.given same told.known told.acked in
+    let some : Some c.in_ok-given-in-2.given ≡ Some told.given = sym c.in_ok-given-in-2.was ∙ c.contribution.ensures told.given told.kind told.payload told.known told.acked in
     let given : c.in_ok-given-in-2.given ≡ told.given = cc some in
     ap Some (ap (λ (x : Contribution g.row.P.Denot). Event.Settle c.args.self.now.comm c.args.self.now.round c.args.self.now.rank x) given ∙ told.is)
 
