@@ -35,6 +35,6 @@ pub use line_kind::LineKind;
 pub use machine::Machine;
 pub use printing::{
     flag_digits, print_behind, print_call, print_flag, print_labelled, print_number, print_point,
-    print_reply, print_spelled_call,
+    print_reply, print_spelled_call, verb,
 };
 pub use version::Version;
