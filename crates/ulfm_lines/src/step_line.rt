@@ -9,7 +9,7 @@ use ulfm_model::StepLine;
 use ulfm_script::words::{
     LAST_RANK, is_word, one_word, read_number, read_number_to, split_word, two_words,
 };
-use ulfm_script::{LineKind, is_padded, read_call};
+use ulfm_script::{LineKind, by_word, is_padded, read_call};
 
 /// What one line of a step script asks for, without its newline, or the first fault in it from `verb` on.
 ///
@@ -30,19 +30,14 @@ fn parse_step_line(line: &[u8]) -> Result<StepLine<FlagAnd>, LineKind>
     ensures { result ≡ step_line_of line.now }
 {
     let (verb, fields) = split_word(line);
-    if is_word(verb, b"call") {
-        read_asked(fields)
-    } else if is_word(verb, b"step") {
-        read_stepped(fields)
-    } else if is_word(verb, b"before") {
-        read_before(fields)
-    } else if is_word(verb, b"finish") {
-        read_finished(fields)
-    } else if is_word(verb, b"fail") {
-        read_failed(fields)
-    } else {
-        Err(LineKind::Verb)
-    }
+    by_word!(verb,
+        b"call" => read_asked(fields),
+        b"step" => read_stepped(fields),
+        b"before" => read_before(fields),
+        b"finish" => read_finished(fields),
+        b"fail" => read_failed(fields),
+        else Err(LineKind::Verb)
+    )
 }
 
 /// A call that a rank begins.

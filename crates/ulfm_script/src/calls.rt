@@ -6,12 +6,13 @@ ghost use Rattle.ulfm_script.specs.Spelling.{Spells, SpellsIn, is_padded, spelle
 ghost use Rattle.ulfm_script.specs.Words.{rest_at};
 ghost use Rattle.ulfm_script.specs.declared.version.Version.{Version as VersionOf};
 
+use crate::by_word;
 use crate::line_kind::LineKind;
 use crate::printing::{HALF_DIGITS, LEAST_LONG};
 use crate::version::Version;
 use crate::words::{
-    LAST_COMM, LAST_RANK, is_word, leading_number, one_word, read_flag_in, read_number,
-    read_number_to, split_word, three_words, two_words,
+    LAST_COMM, LAST_RANK, leading_number, one_word, read_flag_in, read_number, read_number_to,
+    split_word, three_words, two_words,
 };
 use ulfm_laws::FlagAnd;
 use ulfm_model::Call;
@@ -91,33 +92,21 @@ fn parse_call(version: Version, line: &[u8]) -> Result<Call<FlagAnd>, LineKind>
 fn find_verb(word: &[u8]) -> Option<Verb>
     ensures { (version : VersionOf) (rest : Option (List ℕ)) → found_call version result rest ≡ call_from version (word.now, rest) }
 {
-    if is_word(word, b"fail") {
-        Some(Verb::Fail)
-    } else if is_word(word, b"get") {
-        Some(Verb::Plain(Plain::GetFailed))
-    } else if is_word(word, b"ack") {
-        Some(Verb::Ack)
-    } else if is_word(word, b"agree") {
-        Some(Verb::Agree)
-    } else if is_word(word, b"shrink") {
-        Some(Verb::Plain(Plain::Shrink))
-    } else if is_word(word, b"barrier") {
-        Some(Verb::Plain(Plain::Barrier))
-    } else if is_word(word, b"poll") {
-        Some(Verb::Plain(Plain::Poll))
-    } else if is_word(word, b"revoke") {
-        Some(Verb::Plain(Plain::Revoke))
-    } else if is_word(word, b"isrevoked") {
-        Some(Verb::Plain(Plain::IsRevoked))
-    } else if is_word(word, b"free") {
-        Some(Verb::Plain(Plain::Free))
-    } else if is_word(word, b"failure_ack") {
-        Some(Verb::Plain(Plain::FailureAck))
-    } else if is_word(word, b"failure_get_acked") {
-        Some(Verb::Plain(Plain::FailureGetAcked))
-    } else {
-        None
-    }
+    by_word!(word,
+        b"fail" => Some(Verb::Fail),
+        b"get" => Some(Verb::Plain(Plain::GetFailed)),
+        b"ack" => Some(Verb::Ack),
+        b"agree" => Some(Verb::Agree),
+        b"shrink" => Some(Verb::Plain(Plain::Shrink)),
+        b"barrier" => Some(Verb::Plain(Plain::Barrier)),
+        b"poll" => Some(Verb::Plain(Plain::Poll)),
+        b"revoke" => Some(Verb::Plain(Plain::Revoke)),
+        b"isrevoked" => Some(Verb::Plain(Plain::IsRevoked)),
+        b"free" => Some(Verb::Plain(Plain::Free)),
+        b"failure_ack" => Some(Verb::Plain(Plain::FailureAck)),
+        b"failure_get_acked" => Some(Verb::Plain(Plain::FailureGetAcked)),
+        else None
+    )
 }
 
 /// The call of a verb, by its fields.

@@ -25,6 +25,21 @@ pub fn is_word(word: &[u8], text: &[u8]) -> bool
     word.len() == text.len() && word.starts_with(text)
 }
 
+/// What stands behind the first of these texts that a word is, or else this. Each text is compared in line, as [`is_word`] does it.
+#[macro_export]
+macro_rules! by_word {
+    ($word:ident, else $other:expr) => {
+        $other
+    };
+    ($word:ident, $text:literal => $then:expr, $($rest:tt)+) => {
+        if $crate::words::is_word($word, $text) {
+            $then
+        } else {
+            $crate::by_word!($word, $($rest)+)
+        }
+    };
+}
+
 /// The first word, and the text behind the space after it.
 #[inline(always)]
 pub fn split_word(text: &[u8]) -> (&[u8], Option<&[u8]>)
