@@ -2,7 +2,7 @@
 ghost use Rattle.std.specs.Prelude.{◌≡◌, ◌≢◌, ◌≤◌, ◌<◌, ◌++◌, ◌∷◌, IfOk, IfSome, List, MatchOption, Some, true, ℕ};
 ghost use Rattle.ulfm_script.specs.Digits.{number_in, number_to};
 ghost use Rattle.ulfm_script.specs.Words.{Gives, rest_at};
-ghost use Rattle.ulfm_lines.specs.Fields.{at_field, field_by, caller_field, read_caller, comm_field, error_field, error_of, flag_field, flag_mask, is_word_text, label_field};
+ghost use Rattle.ulfm_lines.specs.Fields.{at_field, field_by, caller_field, read_caller, comm_field, error_field, flag_field, flag_mask, is_word_text, label_field};
 ghost use Rattle.ulfm_lines.specs.Fields.{labelled, number_field, offer_field, offer_of, over, place_field, point_field, rank_field};
 
 use ulfm_laws::{CtxMask, FlagAnd};
@@ -241,25 +241,17 @@ pub(crate) fn offer_field(text: Option<&[u8]>) -> Result<(Offer<FlagAnd>, Option
     Ok((offer, rest))
 }
 
-#[tactic(auto, unfolding(crate::specs::Fields::error_of))]
-fn read_error(word: &[u8]) -> Result<bool, LineKind>
-    ensures { result ≡ error_of word.now }
-{
-    by_word!(word,
-        b"raised" => Ok(true),
-        b"clean" => Ok(false),
-        else Err(LineKind::Words)
-    )
-}
-
 /// Whether an agree raises an error.
-#[tactic(auto, unfolding(crate::specs::Fields::error_field))]
+#[tactic(auto, unfolding(crate::specs::Fields::error_field, crate::specs::Fields::error_of))]
 pub(crate) fn error_field(text: Option<&[u8]>) -> Result<(bool, Option<&[u8]>), LineKind>
     ensures { Gives at_field result (error_field (rest_at text.entry)) }
 {
     let (word, rest) = next_word(text)?;
-    let raised = read_error(word)?;
-    Ok((raised, rest))
+    by_word!(word,
+        b"raised" => Ok((true, rest)),
+        b"clean" => Ok((false, rest)),
+        else Err(LineKind::Words)
+    )
 }
 
 /// Nothing more.
