@@ -20,7 +20,7 @@ pub mod version;
 pub mod words;
 
 pub use buffers::{Input, LineEnd, write_out};
-pub use call_script::{run_script, run_script_through};
+pub use call_script::{CallLines, run_script, run_script_through};
 pub use calls::{is_padded, read_call, read_call_of};
 pub use engine::{end_of, run_text, run_text_through};
 pub use fault::RunFault;
