@@ -9,12 +9,9 @@ use std::io::{Read, Write};
 use ulfm_laws::FlagAnd;
 use ulfm_model::Call;
 use ulfm_script::{
-    Heading, Interpreter, LastGroup, LineKind, Machine, RunFault, Version, end_of, print_reply,
-    read_call_heading, read_call_of, run_text,
+    CallLines, Heading, Interpreter, LineKind, Machine, RunFault, end_of, read_call_heading,
+    read_call_of, run_text,
 };
-
-/// The bytes of most calls with their replies.
-const ROOM: usize = 96;
 
 /// Runs the script that the reader gives on a new machine, writes a line for each call, and flushes the writer.
 ///
@@ -33,14 +30,25 @@ pub fn run_echoed<M: Machine<A>, A: Allocator + Copy, R: Read, W: Write>(
     end_of(run_text::<EchoLines<M, A>, A, R, W>(alloc, (), reader, writer))
 }
 
-/// A machine, and the lines of its replies behind their calls.
+/// A machine, and the lines of its replies, each behind its call's own.
 #[derive(Drop)]
 struct EchoLines<M, A: Allocator> {
-    version: Version,
-    machine: M,
-    group: Vec<u16, A>,
-    last: LastGroup<A>,
-    text: Vec<u8, A>,
+    calls: CallLines<M, A>,
+}
+
+impl<M: Machine<A>, A: Allocator> EchoLines<M, A> {
+    /// Answers a line's call by the machine, and makes the line that it prints, with its own line before.
+    fn answer(&mut self, line: &[u8], call: &Call<FlagAnd>) -> Result<(), AllocError>
+        requires { IsSpelled call.now }
+        ensures version { self.new.calls.version ≡ self.old.calls.version }
+        ensures echoes { OnOk result ((told : List ℕ) × PrintsReply (M.state self.old.calls.machine) call.now (M.state self.new.calls.machine) told
+            × (self.new.calls.text.items ≡ echoed_line line.now told)) }
+    {
+        self.calls.text.clear();
+        self.calls.text.extend_from_slice(line)?;
+        self.calls.text.extend_from_slice(b" -> ")?;
+        self.calls.answer(call)
+    }
 }
 
 impl<M: Machine<A>, A: Allocator + Copy> Interpreter<A> for EchoLines<M, A> {
@@ -48,37 +56,23 @@ impl<M: Machine<A>, A: Allocator + Copy> Interpreter<A> for EchoLines<M, A> {
 
     ghost lang = { echo_scripts };
 
-    ghost HasRun = { λ plan it heading calls out. HasEchoed it.version (M.state it.machine) heading calls out };
+    ghost HasRun = { λ plan it heading calls out. HasEchoed it.calls.version (M.state it.calls.machine) heading calls out };
 
-    ghost text = { λ it. it.text.items };
+    ghost text = { λ it. it.calls.text.items };
 
     fn heading(line: &[u8]) -> Result<Heading, LineKind> {
         read_call_heading(line)
     }
 
     fn open(alloc: A, heading: Heading, _plan: ()) -> Result<Self, AllocError> {
-        let text = Vec::with_capacity(alloc, ROOM)?;
-        let machine = M::open(alloc, heading.limits)?;
-        Ok(EchoLines {
-            version: heading.version,
-            machine,
-            group: Vec::new(alloc),
-            last: LastGroup::new(alloc),
-            text,
-        })
+        let calls = CallLines::open(alloc, heading, ())?;
+        Ok(EchoLines { calls })
     }
 
     fn run(&mut self, line: &[u8]) -> Result<Result<(), LineKind>, AllocError> {
-        match read_call_of(self.version, line) {
+        match read_call_of(self.calls.version, line) {
             Ok(call) => {
-                answer(
-                    &mut self.machine,
-                    line,
-                    &call,
-                    &mut self.group,
-                    &mut self.last,
-                    &mut self.text,
-                )?;
+                self.answer(line, &call)?;
                 Ok(Ok(()))
             }
             Err(kind) => Ok(Err(kind)),
@@ -86,30 +80,8 @@ impl<M: Machine<A>, A: Allocator + Copy> Interpreter<A> for EchoLines<M, A> {
     }
 
     fn text(&self) -> &[u8] {
-        &self.text
+        &self.calls.text
     }
 
-    ghost prints = { λ plan it heading calls out ran. (ran.plain, M.state it.machine, ran.echoes) };
-}
-
-/// Answers a line's call by the machine, and makes the line that it prints, with its own line before.
-fn answer<M: Machine<A>, A: Allocator>(
-    machine: &mut M,
-    line: &[u8],
-    call: &Call<FlagAnd>,
-    group: &mut Vec<u16, A>,
-    last: &mut LastGroup<A>,
-    text: &mut Vec<u8, A>,
-) -> Result<(), AllocError>
-    requires { IsSpelled call.now }
-    ensures { OnOk result ((told : List ℕ) × PrintsReply (M.state machine.old) call.now (M.state machine.new) told
-        × (text.new.items ≡ echoed_line line.now told)) }
-{
-    let reply = machine.apply(call, group)?;
-    text.clear();
-    text.extend_from_slice(line)?;
-    text.extend_from_slice(b" -> ")?;
-    print_reply(text, &reply, group, last)?;
-    text.push(b'\n')?;
-    Ok(())
+    ghost prints = { λ plan it heading calls out ran. (ran.plain, M.state it.calls.machine, ran.echoes) };
 }

@@ -85,11 +85,9 @@ before_again rank name h =
     rw (two_again (decimal rank) (step_text name) (number_is_word rank (omega (arith, h))) (name_is_word name), rank_again rank h, name_again name) refl
 
 finished_again : (rank : ℕ) → rank < 1024 → finished_of (Some (decimal rank)) ≡ Ok (Finished rank)
-unfolding finished_of
 finished_again rank h = rank_alone_again Finished rank h
 
 failed_again : (rank : ℕ) → rank < 1024 → read_failed (Some (decimal rank)) ≡ Ok (Failed rank)
-unfolding read_failed
 failed_again rank h = rank_alone_again Failed rank h
 
 -- what is spelled so is read
@@ -170,11 +168,9 @@ alone_found verb made spells fields step e =
     let r = rank_found made fields step e in rw r.3 (subst (SpellsStep (verb ++ 32 ∷ decimal r.0)) r.1 (spells r.0 r.2))
 
 finished_found : Reads (codes "finish") finished_of
-unfolding finished_of
 finished_found = alone_found (codes "finish") Finished (λ rank h. (h, refl))
 
 failed_found : Reads (codes "fail") read_failed
-unfolding read_failed
 failed_found = alone_found (codes "fail") Failed (λ rank h. (h, refl))
 
 no_verb : (line : List ℕ) (step : ScriptStep) → (let r : Result ScriptStep LineKind = Err Verb in r) ≡ Ok step → SpellsStep line step

@@ -43,10 +43,10 @@ before_of fields = do
   Ok (Before rank name)
 
 -- a rank alone
-unfoldable pub finished_of : Option (List ℕ) → Result ScriptStep LineKind
+abbrev pub finished_of : Option (List ℕ) → Result ScriptStep LineKind
 finished_of fields = rank_alone Finished fields
 
-unfoldable pub read_failed : Option (List ℕ) → Result ScriptStep LineKind
+abbrev pub read_failed : Option (List ℕ) → Result ScriptStep LineKind
 read_failed fields = rank_alone Failed fields
 
 -- a verb, and the text behind it

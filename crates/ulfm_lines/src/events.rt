@@ -4,7 +4,7 @@ ghost use Rattle.ulfm_script.specs.Words.{rest_at};
 ghost use Rattle.ulfm_lines.specs.EventReading.{arrive_event, event_of, read_fail, mark_event, marked, revoke_event, settle_event, settled, spawn_event};
 
 use crate::fields::{
-    behind, comm_field, labelled, number_field, offer_field, over, place_field, rank_field,
+    by_beginning, comm_field, labelled, number_field, offer_field, over, place_field, rank_field,
 };
 use ulfm_laws::{Acked, FlagAnd, Known};
 use ulfm_model::contribution::{Contribution, MarkCount, Offer};
@@ -18,21 +18,15 @@ pub(crate) fn read_event(text: Option<&[u8]>) -> Result<Option<Event<FlagAnd>>, 
     let Some(text) = text else {
         return Err(LineKind::Words);
     };
-    if let Some(fields) = behind(b"settle ", text) {
-        read_settle(Some(fields))
-    } else if let Some(fields) = behind(b"arrive ", text) {
-        read_arrive(Some(fields))
-    } else if let Some(fields) = behind(b"mark ", text) {
-        read_mark(Some(fields))
-    } else if let Some(fields) = behind(b"fail ", text) {
-        read_fail(Some(fields))
-    } else if let Some(fields) = behind(b"revoke ", text) {
-        read_revoke(Some(fields))
-    } else if let Some(fields) = behind(b"spawn ", text) {
-        read_spawn(Some(fields))
-    } else {
-        Err(LineKind::Words)
-    }
+    by_beginning!(text,
+        b"settle " => read_settle,
+        b"arrive " => read_arrive,
+        b"mark " => read_mark,
+        b"fail " => read_fail,
+        b"revoke " => read_revoke,
+        b"spawn " => read_spawn,
+        else Err(LineKind::Words)
+    )
 }
 
 #[tactic(auto, unfolding(crate::specs::EventReading::read_fail))]

@@ -2,16 +2,16 @@
 ghost use Rattle.std.specs.Prelude.{◌≡◌, ◌≢◌, ◌≤◌, ◌<◌, ◌++◌, ◌∷◌, IfOk, IfSome, List, MatchOption, Some, true, ℕ};
 ghost use Rattle.ulfm_script.specs.Digits.{number_in, number_to};
 ghost use Rattle.ulfm_script.specs.Words.{Gives, rest_at};
-ghost use Rattle.ulfm_lines.specs.Fields.{at_field, field_by, caller_field, read_caller, comm_field, error_field, error_of, flag_field, flag_mask, is_word_text, label_field};
+ghost use Rattle.ulfm_lines.specs.Fields.{at_field, field_by, caller_field, read_caller, comm_field, error_field, flag_field, flag_mask, is_word_text, label_field};
 ghost use Rattle.ulfm_lines.specs.Fields.{labelled, number_field, offer_field, offer_of, over, place_field, point_field, rank_field};
 
 use ulfm_laws::{CtxMask, FlagAnd};
 use ulfm_model::contribution::Offer;
 use ulfm_model::event::Caller;
-use ulfm_script::LineKind;
 use ulfm_script::words::{
     LAST_COMM, LAST_RANK, is_word, leading_number, next_word, read_number_to, read_printed_flag,
 };
+use ulfm_script::{LineKind, by_word};
 
 /// A number of at most so many digits, read in one pass.
 #[inline(always)]
@@ -136,6 +136,23 @@ pub(crate) fn behind<'a>(beginning: &[u8], text: &'a [u8]) -> Option<&'a [u8]>
     }
 }
 
+/// What is read behind the first of these beginnings with which a text begins, or else this. Each beginning is compared in line, as
+/// [`behind`] does it.
+macro_rules! by_beginning {
+    ($text:ident, else $other:expr) => {
+        $other
+    };
+    ($text:ident, $beginning:literal => $read:ident, $($rest:tt)+) => {
+        if let Some(fields) = $crate::fields::behind($beginning, $text) {
+            $read(Some(fields))
+        } else {
+            $crate::fields::by_beginning!($text, $($rest)+)
+        }
+    };
+}
+
+pub(crate) use by_beginning;
+
 /// This word, and the text behind it.
 #[inline(always)]
 #[tactic(auto, unfolding(crate::specs::Fields::label_field))]
@@ -206,13 +223,11 @@ fn mask_of(flag: FlagAnd) -> CtxMask
 fn read_offer(label: &[u8], flag: FlagAnd) -> Result<Offer<FlagAnd>, LineKind>
     ensures { result ≡ offer_of label.now flag }
 {
-    if is_word(label, b"flag") {
-        Ok(Offer::Flag(flag))
-    } else if is_word(label, b"ctx") {
-        Ok(Offer::Ctx(mask_of(flag)))
-    } else {
-        Err(LineKind::Words)
-    }
+    by_word!(label,
+        b"flag" => Ok(Offer::Flag(flag)),
+        b"ctx" => Ok(Offer::Ctx(mask_of(flag))),
+        else Err(LineKind::Words)
+    )
 }
 
 /// What is offered.
@@ -226,27 +241,17 @@ pub(crate) fn offer_field(text: Option<&[u8]>) -> Result<(Offer<FlagAnd>, Option
     Ok((offer, rest))
 }
 
-#[tactic(auto, unfolding(crate::specs::Fields::error_of))]
-fn read_error(word: &[u8]) -> Result<bool, LineKind>
-    ensures { result ≡ error_of word.now }
-{
-    if is_word(word, b"raised") {
-        Ok(true)
-    } else if is_word(word, b"clean") {
-        Ok(false)
-    } else {
-        Err(LineKind::Words)
-    }
-}
-
 /// Whether an agree raises an error.
-#[tactic(auto, unfolding(crate::specs::Fields::error_field))]
+#[tactic(auto, unfolding(crate::specs::Fields::error_field, crate::specs::Fields::error_of))]
 pub(crate) fn error_field(text: Option<&[u8]>) -> Result<(bool, Option<&[u8]>), LineKind>
     ensures { Gives at_field result (error_field (rest_at text.entry)) }
 {
     let (word, rest) = next_word(text)?;
-    let raised = read_error(word)?;
-    Ok((raised, rest))
+    by_word!(word,
+        b"raised" => Ok((true, rest)),
+        b"clean" => Ok((false, rest)),
+        else Err(LineKind::Words)
+    )
 }
 
 /// Nothing more.

@@ -8,12 +8,12 @@ ghost use Rattle.ulfm_lines.specs.LineReading.{acked_reply, alone, read_agreed, 
 ghost use Rattle.ulfm_lines.specs.LineReading.{read_shrunk, some_reply_of};
 
 use crate::fields::{
-    behind, comm_field, error_field, flag_field, label_field, labelled, number_field, over,
+    by_beginning, comm_field, error_field, flag_field, label_field, labelled, number_field, over,
 };
 use ulfm_laws::FlagAnd;
 use ulfm_model::{Refusal, Reply, refusal_number};
-use ulfm_script::LineKind;
 use ulfm_script::words::{is_word, next_word};
+use ulfm_script::{LineKind, by_word};
 
 /// A reply as [`read_reply`] reads it: those that most lines of a trace tell are compared first, as whole texts.
 pub(crate) fn reply_field(
@@ -39,19 +39,14 @@ fn read_reply(text: Option<&[u8]>) -> Result<(Option<Reply<FlagAnd>>, Option<&[u
     let Some(text) = text else {
         return Err(LineKind::Words);
     };
-    if let Some(fields) = behind(b"agreed ", text) {
-        read_agreed(Some(fields))
-    } else if let Some(fields) = behind(b"shrunk ", text) {
-        read_shrunk(Some(fields))
-    } else if let Some(ranks) = behind(b"failed ", text) {
-        read_failed(Some(ranks))
-    } else if let Some(fields) = behind(b"acked ", text) {
-        read_acked(Some(fields))
-    } else if let Some(fields) = behind(b"refused ", text) {
-        read_refused(Some(fields))
-    } else {
-        read_alone(text)
-    }
+    by_beginning!(text,
+        b"agreed " => read_agreed,
+        b"shrunk " => read_shrunk,
+        b"failed " => read_failed,
+        b"acked " => read_acked,
+        b"refused " => read_refused,
+        else read_alone(text)
+    )
 }
 
 /// A reply of one word, and nothing behind it.
@@ -190,27 +185,17 @@ fn read_refusal(number: u16, name: &[u8]) -> Result<Refusal, LineKind>
 fn read_plain(word: &[u8]) -> Result<Reply<FlagAnd>, LineKind>
     ensures { result ≡ read_plain word.now }
 {
-    if is_word(word, b"started") {
-        Ok(Reply::Started)
-    } else if is_word(word, b"pending") {
-        Ok(Reply::Pending)
-    } else if is_word(word, b"done") {
-        Ok(Reply::Done)
-    } else if is_word(word, b"declared") {
-        Ok(Reply::Declared)
-    } else if is_word(word, b"already-failed") {
-        Ok(Reply::AlreadyFailed)
-    } else if is_word(word, b"revoked") {
-        Ok(Reply::Revoked)
-    } else if is_word(word, b"already-revoked") {
-        Ok(Reply::AlreadyRevoked)
-    } else if is_word(word, b"yes") {
-        Ok(Reply::Standing { revoked: true })
-    } else if is_word(word, b"no") {
-        Ok(Reply::Standing { revoked: false })
-    } else if is_word(word, b"freed") {
-        Ok(Reply::Freed)
-    } else {
-        Err(LineKind::Words)
-    }
+    by_word!(word,
+        b"started" => Ok(Reply::Started),
+        b"pending" => Ok(Reply::Pending),
+        b"done" => Ok(Reply::Done),
+        b"declared" => Ok(Reply::Declared),
+        b"already-failed" => Ok(Reply::AlreadyFailed),
+        b"revoked" => Ok(Reply::Revoked),
+        b"already-revoked" => Ok(Reply::AlreadyRevoked),
+        b"yes" => Ok(Reply::Standing { revoked: true }),
+        b"no" => Ok(Reply::Standing { revoked: false }),
+        b"freed" => Ok(Reply::Freed),
+        else Err(LineKind::Words)
+    )
 }

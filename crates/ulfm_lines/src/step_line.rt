@@ -1,15 +1,15 @@
 //! The lines of a step script.
 ghost use Rattle.std.specs.Prelude.{◌≡◌, Ok, IfOk};
 ghost use Rattle.ulfm_script.specs.Words.{rest_at};
-ghost use Rattle.ulfm_lines.specs.StepLines.{ScriptStep, SpellsStep, read_asked, before_of, read_failed, finished_of, step_line_of, stepped_of};
+ghost use Rattle.ulfm_lines.specs.StepLines.{ScriptStep, SpellsStep, read_asked, step_line_of, stepped_of};
 
 use crate::step_name::read_step_name;
 use ulfm_laws::FlagAnd;
 use ulfm_model::StepLine;
 use ulfm_script::words::{
-    LAST_RANK, is_word, one_word, read_number, read_number_to, split_word, two_words,
+    LAST_RANK, is_word, one_rank, read_number, read_number_to, split_word, two_words,
 };
-use ulfm_script::{LineKind, is_padded, read_call};
+use ulfm_script::{LineKind, by_word, is_padded, read_call};
 
 /// What one line of a step script asks for, without its newline, or the first fault in it from `verb` on.
 ///
@@ -25,24 +25,30 @@ pub fn read_step_line(line: &[u8]) -> Result<StepLine<FlagAnd>, LineKind>
     parse_step_line(line)
 }
 
-#[tactic(auto, unfolding(crate::specs::StepLines::step_line_of))]
+#[tactic(auto, unfolding(crate::specs::StepLines::step_line_of, crate::specs::StepLines::before_of))]
 fn parse_step_line(line: &[u8]) -> Result<StepLine<FlagAnd>, LineKind>
     ensures { result ≡ step_line_of line.now }
 {
     let (verb, fields) = split_word(line);
-    if is_word(verb, b"call") {
-        read_asked(fields)
-    } else if is_word(verb, b"step") {
-        read_stepped(fields)
-    } else if is_word(verb, b"before") {
-        read_before(fields)
-    } else if is_word(verb, b"finish") {
-        read_finished(fields)
-    } else if is_word(verb, b"fail") {
-        read_failed(fields)
-    } else {
-        Err(LineKind::Verb)
-    }
+    by_word!(verb,
+        b"call" => read_asked(fields),
+        b"step" => read_stepped(fields),
+        b"before" => {
+            let (rank, name) = two_words(fields)?;
+            let rank = read_number_to(LAST_RANK, rank)?;
+            let name = read_step_name(name)?;
+            Ok(StepLine::Before { rank, name })
+        },
+        b"finish" => {
+            let rank = one_rank(fields)?;
+            Ok(StepLine::Finished { rank })
+        },
+        b"fail" => {
+            let rank = one_rank(fields)?;
+            Ok(StepLine::Failed { rank })
+        },
+        else Err(LineKind::Verb)
+    )
 }
 
 /// A call that a rank begins.
@@ -76,32 +82,4 @@ fn read_stepped(fields: Option<&[u8]>) -> Result<StepLine<FlagAnd>, LineKind>
         return Err(LineKind::Number);
     }
     Ok(StepLine::Stepped { rank, count })
-}
-
-#[tactic(auto, unfolding(crate::specs::StepLines::before_of))]
-fn read_before(fields: Option<&[u8]>) -> Result<StepLine<FlagAnd>, LineKind>
-    ensures { result ≡ before_of (rest_at fields.entry) }
-{
-    let (rank, name) = two_words(fields)?;
-    let rank = read_number_to(LAST_RANK, rank)?;
-    let name = read_step_name(name)?;
-    Ok(StepLine::Before { rank, name })
-}
-
-#[tactic(auto, unfolding(crate::specs::StepLines::finished_of))]
-fn read_finished(fields: Option<&[u8]>) -> Result<StepLine<FlagAnd>, LineKind>
-    ensures { result ≡ finished_of (rest_at fields.entry) }
-{
-    let word = one_word(fields)?;
-    let rank = read_number_to(LAST_RANK, word)?;
-    Ok(StepLine::Finished { rank })
-}
-
-#[tactic(auto, unfolding(crate::specs::StepLines::read_failed))]
-fn read_failed(fields: Option<&[u8]>) -> Result<StepLine<FlagAnd>, LineKind>
-    ensures { result ≡ read_failed (rest_at fields.entry) }
-{
-    let word = one_word(fields)?;
-    let rank = read_number_to(LAST_RANK, word)?;
-    Ok(StepLine::Failed { rank })
 }

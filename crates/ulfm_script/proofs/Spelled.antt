@@ -8,7 +8,7 @@ use Rattle.ulfm_script.specs.declared.line_kind.LineKind.{LineKind}
 use Rattle.ulfm_script.specs.declared.line_kind.LineKind.TheVariants.{Verb}
 use Rattle.ulfm_script.specs.declared.version.Version.{Version}
 use Rattle.ulfm_script.specs.declared.version.Version.TheVariants.{First, Second}
-use Rattle.ulfm_script.specs.{Calls.{ScriptCall, read_rank_comm, fail_of, ack_of, agree_of, of_second, rank_alone, read_plain_call, call_from, call_in, call_of}, Digits.{MayPadIn, read_rank, read_comm, read_number, read_flag_in, spelled_flag}, Spelling.{IsOnComm, Spells, SpellsIn, SpellsAs, is_padded, spelled_text}, Steps.{◌>>=◌}, Words.{first_word, one_of, two_of, three_of}}
+use Rattle.ulfm_script.specs.{Calls.{ScriptCall, read_rank_comm, fail_of, ack_of, agree_of, of_second, one_rank, rank_alone, read_plain_call, call_from, call_in, call_of}, Digits.{MayPadIn, read_rank, read_comm, read_number, read_flag_in, spelled_flag}, Spelling.{IsOnComm, Spells, SpellsIn, SpellsAs, is_padded, spelled_text}, Steps.{◌>>=◌}, Words.{first_word, one_of, two_of, three_of}}
 use Rattle.ulfm_script.proofs.{Hexadecimal.{flag_in_again, flag_in_found, padded_told}, Numerals.{number_again, number_found, number_to_again, number_to_found}, WordLemmas.{IsWord, decimal_is_word, joined, joined_word, one_again, one_found, same_done, spelled_is_word, step_found, three_again, three_found, two_again, two_found}}
 
 -- a rank that was printed is read
@@ -85,9 +85,9 @@ Reads version verb fields_of = (fields : Option (List ℕ)) (call : ScriptCall) 
 -- a rank that was read alone is all that stands there
 pub rank_found : {A : Type 0} (made : ℕ → A) (fields : Option (List ℕ)) (x : A) → rank_alone made fields ≡ Ok x → (rank : ℕ) × (made rank ≡ x) × (rank < 1024) × (fields ≡ Some (decimal rank))
 rank_found made fields x e =
-    let a = step_found (one_of fields) (λ word. read_rank word >>= λ rank. Ok (made rank)) x e in
-    let b = step_found (read_rank a.0) (λ rank. Ok (made rank)) x a.2 in
-    let r = number_to_found 1023 b.0 a.0 b.1 in (b.0, same_done (made b.0) x b.2, omega (arith, r.0), one_found fields a.0 a.1 ∙ ap (λ (t : List ℕ). Some t) r.1)
+    let b = step_found (one_rank fields) (λ rank. Ok (made rank)) x e in
+    let a = step_found (one_of fields) read_rank b.0 b.1 in
+    let r = number_to_found 1023 b.0 a.0 a.2 in (b.0, same_done (made b.0) x b.2, omega (arith, r.0), one_found fields a.0 a.1 ∙ ap (λ (t : List ℕ). Some t) r.1)
 
 fail_found : (version : Version) → Reads version (codes "fail") fail_of
 unfolding fail_of

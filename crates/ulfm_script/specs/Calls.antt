@@ -34,12 +34,13 @@ pub record StandAhead (fields : Option (List ℕ)) (rank comm : ℕ) (behind : O
   pub rank_is : read_rank one ≡ Ok rank
   pub comm_is : read_comm two ≡ Ok comm
 
--- what is made of a rank, and nothing behind it
+-- a rank, and nothing behind it
+abbrev pub one_rank : Option (List ℕ) → Result ℕ LineKind
+one_rank fields = one_of fields >>= read_rank
+
+-- what is made of it
 abbrev pub rank_alone : {A : Type 0} → (ℕ → A) → Option (List ℕ) → Result A LineKind
-rank_alone made fields = do
-  word ← one_of fields
-  rank ← read_rank word
-  Ok (made rank)
+rank_alone made fields = one_rank fields >>= λ rank. Ok (made rank)
 
 -- the fields of each verb
 unfoldable pub fail_of : Option (List ℕ) → Result ScriptCall LineKind

@@ -1,5 +1,5 @@
 //! Scripts of calls, run on anything that answers its calls.
-ghost use Rattle.std.specs.Prelude.{◌≡◌, ℕ, List, [], OnOk};
+ghost use Rattle.std.specs.Prelude.{◌≡◌, ◌++◌, ℕ, List, [], OnOk};
 ghost use Rattle.ulfm_model.specs.Runs.{new_state};
 ghost use Rattle.ulfm_script.specs.Buffers.{pending, unread};
 ghost use Rattle.ulfm_script.specs.Runs.{HasAnswered, PrintsReply, RunsBuffered, RunsThrough, call_scripts};
@@ -22,8 +22,8 @@ use std::io::{Read, Write};
 use ulfm_laws::FlagAnd;
 use ulfm_model::Call;
 
-/// The bytes of most replies' lines.
-const ROOM: usize = 64;
+/// The bytes of most replies' lines, and of most with their call before them.
+const ROOM: usize = 96;
 
 /// Runs the script that the reader gives on a new machine, writes a line for each call, and flushes the writer.
 ///
@@ -68,12 +68,30 @@ pub fn run_script_through<M: Machine<A>, A: Allocator + Copy, R: Read, W: Write>
 
 /// A machine, and the lines of its replies.
 #[derive(Drop)]
-struct CallLines<M, A: Allocator> {
-    version: Version,
-    machine: M,
+pub struct CallLines<M, A: Allocator> {
+    /// In which version a line's call is read.
+    pub version: Version,
+    /// What answers the calls.
+    pub machine: M,
     group: Vec<u16, A>,
     last: LastGroup<A>,
-    text: Vec<u8, A>,
+    /// What was printed last.
+    pub text: Vec<u8, A>,
+}
+
+impl<M: Machine<A>, A: Allocator> CallLines<M, A> {
+    /// Answers a call by the machine, and puts the line that it prints behind the text.
+    pub fn answer(&mut self, call: &Call<FlagAnd>) -> Result<(), AllocError>
+        requires { IsSpelled call.now }
+        ensures version { self.new.version ≡ self.old.version }
+        ensures prints { OnOk result ((told : List ℕ) × PrintsReply (M.state self.old.machine) call.now (M.state self.new.machine) told
+            × (self.new.text.items ≡ self.old.text.items ++ told)) }
+    {
+        let reply = self.machine.apply(call, &mut self.group)?;
+        print_reply(&mut self.text, &reply, &self.group, &mut self.last)?;
+        self.text.push(b'\n')?;
+        Ok(())
+    }
 }
 
 impl<M: Machine<A>, A: Allocator + Copy> Interpreter<A> for CallLines<M, A> {
@@ -104,13 +122,8 @@ impl<M: Machine<A>, A: Allocator + Copy> Interpreter<A> for CallLines<M, A> {
     fn run(&mut self, line: &[u8]) -> Result<Result<(), LineKind>, AllocError> {
         match read_call_of(self.version, line) {
             Ok(call) => {
-                answer(
-                    &mut self.machine,
-                    &call,
-                    &mut self.group,
-                    &mut self.last,
-                    &mut self.text,
-                )?;
+                self.text.clear();
+                self.answer(&call)?;
                 Ok(Ok(()))
             }
             Err(kind) => Ok(Err(kind)),
@@ -122,22 +135,4 @@ impl<M: Machine<A>, A: Allocator + Copy> Interpreter<A> for CallLines<M, A> {
     }
 
     ghost prints = { λ plan it heading calls out ran. (M.state it.machine, ran.prints) };
-}
-
-/// Answers a call by the machine, and makes the line that it prints.
-fn answer<M: Machine<A>, A: Allocator>(
-    machine: &mut M,
-    call: &Call<FlagAnd>,
-    group: &mut Vec<u16, A>,
-    last: &mut LastGroup<A>,
-    text: &mut Vec<u8, A>,
-) -> Result<(), AllocError>
-    requires { IsSpelled call.now }
-    ensures { OnOk result (PrintsReply (M.state machine.old) call.now (M.state machine.new) text.new.items) }
-{
-    let reply = machine.apply(call, group)?;
-    text.clear();
-    print_reply(text, &reply, group, last)?;
-    text.push(b'\n')?;
-    Ok(())
 }

@@ -1,17 +1,18 @@
 //! The calls of a script, line by line.
 ghost use Rattle.std.specs.Prelude.{◌≡◌, ℕ, List, Option, Ok, IfOk, IfSome};
-ghost use Rattle.ulfm_script.specs.Calls.{ScriptCall, call_from, call_in, call_of, read_rank_comm, fail_of, ack_of, agree_of, read_plain_call, StandAhead};
-ghost use Rattle.ulfm_script.specs.Verbs.{call_at, found_call, plain_in, verb_call};
+ghost use Rattle.ulfm_script.specs.Calls.{ScriptCall, call_from, call_in, call_of, read_rank_comm, ack_of, agree_of, read_plain_call, StandAhead};
+ghost use Rattle.ulfm_script.specs.Verbs.{call_at, found_call, verb_call};
 ghost use Rattle.ulfm_script.specs.Spelling.{Spells, SpellsIn, is_padded, spelled_text};
 ghost use Rattle.ulfm_script.specs.Words.{rest_at};
 ghost use Rattle.ulfm_script.specs.declared.version.Version.{Version as VersionOf};
 
+use crate::by_word;
 use crate::line_kind::LineKind;
 use crate::printing::{HALF_DIGITS, LEAST_LONG};
 use crate::version::Version;
 use crate::words::{
-    LAST_COMM, LAST_RANK, is_word, leading_number, one_word, read_flag_in, read_number,
-    read_number_to, split_word, three_words, two_words,
+    LAST_COMM, LAST_RANK, leading_number, one_rank, read_flag_in, read_number, read_number_to,
+    split_word, three_words, two_words,
 };
 use ulfm_laws::FlagAnd;
 use ulfm_model::Call;
@@ -91,36 +92,25 @@ fn parse_call(version: Version, line: &[u8]) -> Result<Call<FlagAnd>, LineKind>
 fn find_verb(word: &[u8]) -> Option<Verb>
     ensures { (version : VersionOf) (rest : Option (List ℕ)) → found_call version result rest ≡ call_from version (word.now, rest) }
 {
-    if is_word(word, b"fail") {
-        Some(Verb::Fail)
-    } else if is_word(word, b"get") {
-        Some(Verb::Plain(Plain::GetFailed))
-    } else if is_word(word, b"ack") {
-        Some(Verb::Ack)
-    } else if is_word(word, b"agree") {
-        Some(Verb::Agree)
-    } else if is_word(word, b"shrink") {
-        Some(Verb::Plain(Plain::Shrink))
-    } else if is_word(word, b"barrier") {
-        Some(Verb::Plain(Plain::Barrier))
-    } else if is_word(word, b"poll") {
-        Some(Verb::Plain(Plain::Poll))
-    } else if is_word(word, b"revoke") {
-        Some(Verb::Plain(Plain::Revoke))
-    } else if is_word(word, b"isrevoked") {
-        Some(Verb::Plain(Plain::IsRevoked))
-    } else if is_word(word, b"free") {
-        Some(Verb::Plain(Plain::Free))
-    } else if is_word(word, b"failure_ack") {
-        Some(Verb::Plain(Plain::FailureAck))
-    } else if is_word(word, b"failure_get_acked") {
-        Some(Verb::Plain(Plain::FailureGetAcked))
-    } else {
-        None
-    }
+    by_word!(word,
+        b"fail" => Some(Verb::Fail),
+        b"get" => Some(Verb::Plain(Plain::GetFailed)),
+        b"ack" => Some(Verb::Ack),
+        b"agree" => Some(Verb::Agree),
+        b"shrink" => Some(Verb::Plain(Plain::Shrink)),
+        b"barrier" => Some(Verb::Plain(Plain::Barrier)),
+        b"poll" => Some(Verb::Plain(Plain::Poll)),
+        b"revoke" => Some(Verb::Plain(Plain::Revoke)),
+        b"isrevoked" => Some(Verb::Plain(Plain::IsRevoked)),
+        b"free" => Some(Verb::Plain(Plain::Free)),
+        b"failure_ack" => Some(Verb::Plain(Plain::FailureAck)),
+        b"failure_get_acked" => Some(Verb::Plain(Plain::FailureGetAcked)),
+        else None
+    )
 }
 
-/// The call of a verb, by its fields.
+/// The call of a verb in a script of this version, by its fields.
+#[tactic(auto, unfolding(crate::specs::Calls::fail_of))]
 fn read_fields(
     version: Version,
     verb: Verb,
@@ -128,11 +118,17 @@ fn read_fields(
 ) -> Result<Call<FlagAnd>, LineKind>
     ensures { result ≡ verb_call version verb (rest_at fields.entry) }
 {
-    match verb {
-        Verb::Fail => read_fail(fields),
-        Verb::Ack => read_ack(fields),
-        Verb::Agree => read_agree(version, fields),
-        Verb::Plain(plain) => read_plain_in(version, plain, fields),
+    match (version, verb) {
+        (_, Verb::Fail) => {
+            let rank = one_rank(fields)?;
+            Ok(Call::Fail { rank })
+        }
+        (_, Verb::Ack) => read_ack(fields),
+        (_, Verb::Agree) => read_agree(version, fields),
+        (Version::First, Verb::Plain(Plain::FailureAck | Plain::FailureGetAcked)) => {
+            Err(LineKind::Verb)
+        }
+        (_, Verb::Plain(plain)) => read_plain(plain, fields),
     }
 }
 
@@ -158,20 +154,6 @@ enum Plain {
     Revoke,
     IsRevoked,
     Free,
-}
-
-/// A plain call of a script of this version, by its fields.
-fn read_plain_in(
-    version: Version,
-    plain: Plain,
-    fields: Option<&[u8]>,
-) -> Result<Call<FlagAnd>, LineKind>
-    ensures { result ≡ plain_in version plain (rest_at fields.entry) }
-{
-    match (version, plain) {
-        (Version::First, Plain::FailureAck | Plain::FailureGetAcked) => Err(LineKind::Verb),
-        _ => read_plain(plain, fields),
-    }
 }
 
 /// A plain call, by its fields.
@@ -215,15 +197,6 @@ fn place_ahead(fields: Option<&[u8]>) -> Option<(u16, u16, Option<&[u8]>)>
         return None;
     }
     Some((rank as u16, comm as u16, rest))
-}
-
-#[tactic(auto, unfolding(crate::specs::Calls::fail_of))]
-fn read_fail(fields: Option<&[u8]>) -> Result<Call<FlagAnd>, LineKind>
-    ensures { result ≡ fail_of (rest_at fields.entry) }
-{
-    let word = one_word(fields)?;
-    let rank = read_number_to(LAST_RANK, word)?;
-    Ok(Call::Fail { rank })
 }
 
 /// A rank and a communicator, and nothing behind them.

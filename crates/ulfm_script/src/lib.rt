@@ -20,7 +20,7 @@ pub mod version;
 pub mod words;
 
 pub use buffers::{Input, LineEnd, write_out};
-pub use call_script::{run_script, run_script_through};
+pub use call_script::{CallLines, run_script, run_script_through};
 pub use calls::{is_padded, read_call, read_call_of};
 pub use engine::{end_of, run_text, run_text_through};
 pub use fault::RunFault;
@@ -35,6 +35,6 @@ pub use line_kind::LineKind;
 pub use machine::Machine;
 pub use printing::{
     flag_digits, print_behind, print_call, print_flag, print_labelled, print_number, print_point,
-    print_reply, print_spelled_call,
+    print_reply, print_spelled_call, verb,
 };
 pub use version::Version;

@@ -189,8 +189,8 @@ pub fn print_spelled_call<A: Allocator>(
     print_fields(text, call, padded)
 }
 
-/// The verb of a call, and a space.
-fn verb(call: &Call<FlagAnd>) -> &'static [u8]
+/// The verb of a call as scripts write it, and a space, as `agree `.
+pub fn verb(call: &Call<FlagAnd>) -> &'static [u8]
     ensures { result.now ≡ verb_text call.now }
 {
     match *call {

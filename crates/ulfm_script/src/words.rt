@@ -5,6 +5,7 @@ ghost use Rattle.ulfm_script.specs.Digits.{are_plain, digit_of, digits_after, he
 ghost use Rattle.ulfm_script.specs.Words.{first_word, next_word, one_of, two_of, three_of, four_of, rest_at, word_seen, two_at, three_at, four_at, Gives};
 ghost use Rattle.ulfm_script.specs.Words.{leading_number, number_seen};
 ghost use Rattle.ulfm_script.specs.declared.line_kind.LineKind.TheVariants.{Flag};
+ghost use Rattle.ulfm_script.specs.Calls.{one_rank};
 
 use crate::line_kind::LineKind;
 use crate::printing::{HALF_DIGITS, WHOLE_DIGITS, printed_digits};
@@ -23,6 +24,21 @@ pub fn is_word(word: &[u8], text: &[u8]) -> bool
     ensures { result ≡ bytes_eq word.now text.now }
 {
     word.len() == text.len() && word.starts_with(text)
+}
+
+/// What stands behind the first of these texts that a word is, or else this. Each text is compared in line, as [`is_word`] does it.
+#[macro_export]
+macro_rules! by_word {
+    ($word:ident, else $other:expr) => {
+        $other
+    };
+    ($word:ident, $text:literal => $then:expr, $($rest:tt)+) => {
+        if $crate::words::is_word($word, $text) {
+            $then
+        } else {
+            $crate::by_word!($word, $($rest)+)
+        }
+    };
 }
 
 /// The first word, and the text behind the space after it.
@@ -65,6 +81,14 @@ pub fn one_word(text: Option<&[u8]>) -> Result<&[u8], LineKind>
         return Err(LineKind::Words);
     }
     Ok(a)
+}
+
+/// Exactly one word, which is a rank.
+pub fn one_rank(text: Option<&[u8]>) -> Result<u16, LineKind>
+    ensures { result ≡ one_rank (rest_at text.entry) }
+{
+    let word = one_word(text)?;
+    read_number_to(LAST_RANK, word)
 }
 
 /// Exactly two words.
