@@ -10,6 +10,7 @@ use ulfm_model::call::{Call, comm_of};
 use ulfm_model::contribution::{Contribution, Offer};
 use ulfm_model::event::Event;
 use ulfm_model::reply::Reply;
+use ulfm_script::verb;
 use ulfm_story::Row;
 
 /// The words in a row's lane.
@@ -49,31 +50,13 @@ fn label_of(line: &Line<FlagAnd>) -> Label {
     }
 }
 
-/// The verb of a call, and a space.
-fn verb_of(asked: &Call<FlagAnd>) -> &'static [u8] {
-    match *asked {
-        Call::Fail { .. } => b"fail ",
-        Call::GetFailed { .. } => b"get ",
-        Call::Ack { .. } => b"ack ",
-        Call::FailureAck { .. } => b"failure_ack ",
-        Call::FailureGetAcked { .. } => b"failure_get_acked ",
-        Call::Agree { .. } => b"agree ",
-        Call::Shrink { .. } => b"shrink ",
-        Call::Barrier { .. } => b"barrier ",
-        Call::Poll { .. } => b"poll ",
-        Call::Revoke { .. } => b"revoke ",
-        Call::IsRevoked { .. } => b"isrevoked ",
-        Call::Free { .. } => b"free ",
-    }
-}
-
 /// A call's verb and its communicator; of a declaration the rank.
 fn call_label(asked: &Call<FlagAnd>) -> Label {
     let number = match *asked {
         Call::Fail { rank } => rank,
         _ => comm_of(asked),
     };
-    counted(verb_of(asked), number)
+    counted(verb(asked), number)
 }
 
 /// What an event does.

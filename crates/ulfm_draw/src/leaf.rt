@@ -1,7 +1,6 @@
 //! The elements that a picture's groups are made of.
 ghost use Rattle.std.specs.Prelude.{◌≡◌};
-ghost use Rattle.ulfm_draw.specs.Leaves.{leaf_text};
-ghost use Rattle.ulfm_draw.specs.Markup.{in_group, scan};
+ghost use Rattle.ulfm_draw.specs.{Leaves.{leaf_text}, Markup.{in_group, scan}};
 
 /// An element without others in it. In its text `@` stands for a class, `#` for the next number and `$` for words.
 #[derive(Clone, Copy, Debug, PartialEq, Eq)]

@@ -1,8 +1,7 @@
 //! The text form while it is written: rows, each of which ends in a line of the trace behind a tab, and lines without
 //! one.
 ghost use Rattle.std.specs.Prelude.{◌≡◌, ◌++◌, ◌∷◌, [], List, ℕ, OnOk, map};
-ghost use Rattle.ulfm_draw.specs.Columns.{Gives, column_of};
-ghost use Rattle.ulfm_script.specs.Buffers.{HasNoNewline};
+ghost use Rattle.{ulfm_draw.specs.Columns.{Gives, column_of}, ulfm_script.specs.Buffers.{HasNoNewline}};
 
 use std::alloc::{AllocError, Allocator};
 

@@ -4,7 +4,7 @@ use crate::witness::{Source, Writer};
 use std::alloc::Allocator;
 use ulfm_graph::tables::{NONE, at, least, number, small};
 use ulfm_model::Refusal;
-use ulfm_study::{Act, Kind, Standing, tells_end};
+use ulfm_study::{Act, Kind, Standing, Start, tells_end};
 
 /// The member of a communicator that came last, of those that were looked at.
 #[derive(Clone, Copy)]
@@ -97,7 +97,7 @@ impl<A: Allocator + Copy, B: Allocator> Source<'_, A, B> {
 
     /// What a poll's reply needs and the order lacks.
     fn broken_poll(&self, act: &Act, place: u32) -> Option<Fork> {
-        if self.study.asked_by(act) == Kind::Barrier {
+        if self.study.asked_by(act) == Kind::Start(Start::Barrier) {
             return self.broken_barrier(act, place);
         }
         if tells_end(self.study, act) {

@@ -6,7 +6,7 @@ use ulfm_graph::tables::{NONE, at, greatest, number, put, small};
 use ulfm_model::Reply;
 use ulfm_observed::Seen;
 use ulfm_study::rules::{tells_own, tells_revoked};
-use ulfm_study::{Act, Deal, Deals, Kind, Standing, Study};
+use ulfm_study::{Act, Deal, Deals, Standing, Start, Study};
 
 /// The forks that are open from the start, of which each has a way.
 pub(crate) fn opened<A: Allocator + Copy>(study: &Study<A>) -> Result<Vec<Fork, A>, AllocError> {
@@ -48,7 +48,7 @@ fn starts<A: Allocator + Copy>(
 ) -> Result<(), AllocError> {
     let untold = !forks.is_empty();
     for (i, act) in study.acts.iter().enumerate() {
-        let agreement = act.is(Kind::Agree) || act.is(Kind::Shrink);
+        let agreement = act.begins(Start::Agree) || act.begins(Start::Shrink);
         let asked = deals.is_decided(act.round) || untold;
         if agreement && asked && act.standing == Standing::Open {
             let deal = deals.deal(act.round);
@@ -100,7 +100,7 @@ fn told_value<A: Allocator + Copy>(study: &Study<A>, deal: &Deal) -> Option<u64>
 /// Whether an open start may have taken effect, by its flag, by what its rank had acknowledged, and by when it was called.
 fn may_count<A: Allocator + Copy>(study: &Study<A>, deal: &Deal, act: &Act) -> bool {
     if let Some(value) = told_value(study, deal) {
-        if act.is(Kind::Agree) && act.number & value != value {
+        if act.begins(Start::Agree) && act.number & value != value {
             return false;
         }
     }

@@ -2,7 +2,7 @@
 use crate::choice::{Choice, Fork, rank_at};
 use std::alloc::{AllocError, Allocator};
 use ulfm_graph::tables::{NONE, number, small};
-use ulfm_study::{Deals, Kind, Plan, Standing, Study};
+use ulfm_study::{Deals, Kind, Plan, Standing, Start, Study};
 
 /// Puts in what a choice asks; false where it can't be.
 pub(crate) fn choose<A: Allocator + Copy>(
@@ -164,7 +164,7 @@ fn next_maker<A: Allocator + Copy>(study: &Study<A>, from: u32) -> Option<u32> {
 fn is_shrinks<A: Allocator + Copy>(study: &Study<A>, round: u32) -> bool {
     for rank in 0..study.ranks {
         if let Some(act) = study.act(study.agreements.start(round, rank)) {
-            if act.is(Kind::Shrink) {
+            if act.begins(Start::Shrink) {
                 return true;
             }
         }

@@ -8,7 +8,7 @@ use ulfm_model::contribution::{Contribution, MarkCount, Offer};
 use ulfm_model::event::{Caller, Event};
 use ulfm_model::{Call, Line, Refusal, Reply};
 use ulfm_observed::{Item, LogLine, Seen, Step};
-use ulfm_study::{Act, Deals, Kind, Part, Plan, Round, Standing, Study, tells_end};
+use ulfm_study::{Act, Deals, Kind, Part, Plan, Round, Standing, Start, Study, tells_end};
 
 /// When the parts of a call happened.
 #[derive(Clone, Copy)]
@@ -172,7 +172,7 @@ impl<A: Allocator + Copy> Writer<A> {
     /// What a start offers, which is combined with what others offered to its round.
     fn offer_of(&mut self, act: &Act) -> Offer<FlagAnd> {
         let mut given = self.given(act.round);
-        let offer = if act.is(Kind::Shrink) {
+        let offer = if act.begins(Start::Shrink) {
             let bits = self.contexts.free(act.rank);
             given.mask &= bits;
             Offer::Ctx(CtxMask { bits })
@@ -360,7 +360,7 @@ impl<A: Allocator + Copy, B: Allocator> Source<'_, A, B> {
 
     /// Whether an open start took effect.
     fn takes_effect(&self, act: &Act, place: u32) -> bool {
-        let done = act.is(Kind::Barrier) && at(&self.deals.done, act.round as usize) == 1;
+        let done = act.begins(Start::Barrier) && at(&self.deals.done, act.round as usize) == 1;
         done || at(&self.deals.counted, place as usize) == 1
     }
 
@@ -411,7 +411,7 @@ impl<A: Allocator + Copy, B: Allocator> Source<'_, A, B> {
         let call = Call::Poll { rank, comm };
         let padded = false;
         writer.write(Line::Called { call, padded }, false)?;
-        if act.is(Kind::Barrier) && act.refused(Refusal::ProcFailed) {
+        if act.begins(Start::Barrier) && act.refused(Refusal::ProcFailed) {
             return Ok(());
         }
         writer.look(place, act.rank)
@@ -421,7 +421,7 @@ impl<A: Allocator + Copy, B: Allocator> Source<'_, A, B> {
     fn write_part(&self, writer: &mut Writer<A>, act: &Act, place: u32) -> Result<(), AllocError> {
         let by = Caller::Rank(act.rank);
         let rank = act.rank;
-        if act.is(Kind::Barrier) {
+        if act.begins(Start::Barrier) {
             let Round { comm, round } = self.study.barriers.round(act.round as usize);
             return writer.happen(by, Event::Arrive { comm, round, rank });
         }
@@ -447,7 +447,7 @@ impl<A: Allocator + Copy, B: Allocator> Source<'_, A, B> {
         if !self.study.polls(&act) || act.standing != Standing::Answered {
             return Ok(());
         }
-        if self.study.asked_by(&act) != Kind::Barrier {
+        if self.study.asked_by(&act) != Kind::Start(Start::Barrier) {
             return Ok(());
         }
         writer.point(place);
@@ -557,7 +557,7 @@ impl<A: Allocator + Copy, B: Allocator> Source<'_, A, B> {
         if !self.study.polls(act) {
             return writer.events;
         }
-        if self.study.asked_by(act) == Kind::Barrier {
+        if self.study.asked_by(act) == Kind::Start(Start::Barrier) {
             if act.refused(Refusal::IsRevoked) {
                 return writer.events;
             }

@@ -2,6 +2,17 @@
 use ulfm_model::{Caller, Refusal};
 use ulfm_observed::Seen;
 
+/// What a request is started for.
+#[derive(Clone, Copy, PartialEq, Eq)]
+pub enum Start {
+    /// An agree.
+    Agree,
+    /// A shrink.
+    Shrink,
+    /// A barrier.
+    Barrier,
+}
+
 /// What is called.
 #[derive(Clone, Copy, PartialEq, Eq)]
 pub enum Kind {
@@ -11,12 +22,8 @@ pub enum Kind {
     Get,
     /// A rank acknowledges failures.
     Ack,
-    /// A rank begins an agree.
-    Agree,
-    /// A rank begins a shrink.
-    Shrink,
-    /// A rank begins a barrier.
-    Barrier,
+    /// A rank starts a request of this sort.
+    Start(Start),
     /// A rank polls what it began on a communicator.
     Poll,
     /// A rank revokes a communicator.
@@ -75,7 +82,7 @@ impl Act {
     /// Whether it starts a request.
     pub fn starts(&self) -> bool {
         match self.kind {
-            Kind::Agree | Kind::Shrink | Kind::Barrier => true,
+            Kind::Start(_) => true,
             _ => false,
         }
     }
@@ -100,6 +107,11 @@ impl Act {
     /// Whether this is what it calls.
     pub fn is(&self, kind: Kind) -> bool {
         self.kind == kind
+    }
+
+    /// Whether it starts a request of this sort.
+    pub fn begins(&self, start: Start) -> bool {
+        self.kind == Kind::Start(start)
     }
 
     /// Whether it was refused so.

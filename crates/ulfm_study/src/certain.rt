@@ -1,5 +1,5 @@
 //! Which two ranks' lines may show that no trace explains a log, so that it is proved.
-use crate::acts::Kind;
+use crate::acts::Start;
 use crate::study::Study;
 use crate::why::Why;
 use std::alloc::Allocator;
@@ -52,7 +52,7 @@ fn lacking_one<A: Allocator + Copy>(study: &Study<A>, act: u32) -> Option<Hint> 
         let Some(given) = study.act(study.agreements.start(told.round, rank as usize)) else {
             continue;
         };
-        if given.is(Kind::Agree) && value.bits & given.number != value.bits {
+        if given.begins(Start::Agree) && value.bits & given.number != value.bits {
             return Some(Hint {
                 one: told.rank,
                 other: rank,

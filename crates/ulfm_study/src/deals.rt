@@ -1,5 +1,5 @@
 //! What was decided of each round: who contributed, what that combines to, and what was told of it.
-use crate::acts::{Act, Kind, Standing};
+use crate::acts::{Act, Kind, Standing, Start};
 use crate::study::Study;
 use crate::why::Why;
 use std::alloc::{AllocError, Allocator};
@@ -81,7 +81,7 @@ impl<A: Allocator + Copy> Deals<A> {
         if !study.counts(act) || !tells_end(study, act) {
             return;
         }
-        if study.asked_by(act) == Kind::Barrier {
+        if study.asked_by(act) == Kind::Start(Start::Barrier) {
             if let Some(Seen::Whole(Reply::Done)) = act.seen {
                 put(&mut self.done, act.round as usize, 1);
             }
@@ -175,7 +175,7 @@ impl<A: Allocator + Copy> Deals<A> {
             }
             if let Some(act) = study.act(start) {
                 deal.acked = least(deal.acked, u32::from(act.acked));
-                if act.is(Kind::Shrink) {
+                if act.begins(Start::Shrink) {
                     deal.shrinks = true;
                 } else {
                     deal.agrees = true;
@@ -197,7 +197,10 @@ impl<A: Allocator + Copy> Deals<A> {
 
     /// Why a reply can't be, by what was contributed and told, if it can't.
     pub fn fault(&self, study: &Study<A>, act: &Act, place: u32) -> Option<Why> {
-        if !study.counts(act) || !tells_end(study, act) || study.asked_by(act) == Kind::Barrier {
+        if !study.counts(act)
+            || !tells_end(study, act)
+            || study.asked_by(act) == Kind::Start(Start::Barrier)
+        {
             return None;
         }
         let deal = self.deal(act.round);

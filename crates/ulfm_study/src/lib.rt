@@ -13,7 +13,7 @@ pub mod rules;
 pub mod study;
 pub mod why;
 
-pub use acts::{Act, Kind, Standing};
+pub use acts::{Act, Kind, Standing, Start};
 pub use certain::{Hint, hint_of};
 pub use deals::{Deal, Deals, tells_end};
 pub use plan::{Part, Plan};

@@ -25,21 +25,32 @@ pub fn put_places<A: Allocator + Copy>(
     Ok(fill(plan, study, &before))
 }
 
-/// How many failures come before each node at least, and which is the first that comes behind it.
-fn reaches<A: Allocator + Copy>(
+/// For each failure its number, and for each other node this one.
+fn failures<A: Allocator + Copy>(
     plan: &Plan<A>,
     study: &Study<A>,
-) -> Result<(Vec<u32, A>, Vec<u32, A>), AllocError> {
-    let mut below = vec![in study.alloc; 0; plan.graph.nodes]?;
-    let mut above = vec![in study.alloc; NONE; plan.graph.nodes]?;
+    other: u32,
+) -> Result<Vec<u32, A>, AllocError> {
+    let mut numbers = vec![in study.alloc; other; plan.graph.nodes]?;
     for count in 1..study.ranks.saturating_add(2) {
         let node = plan.failure(number(count));
-        put(&mut below, node as usize, number(count));
-        put(&mut above, node as usize, number(count));
+        put(&mut numbers, node as usize, number(count));
     }
-    plan.graph.reach_up(&mut below)?;
-    plan.graph.reach_down(&mut above)?;
-    Ok((below, above))
+    Ok(numbers)
+}
+
+/// How many failures come before each node at least.
+fn below<A: Allocator + Copy>(plan: &Plan<A>, study: &Study<A>) -> Result<Vec<u32, A>, AllocError> {
+    let mut numbers = failures(plan, study, 0)?;
+    plan.graph.reach_up(&mut numbers)?;
+    Ok(numbers)
+}
+
+/// Which failure is the first that comes behind each node.
+fn above<A: Allocator + Copy>(plan: &Plan<A>, study: &Study<A>) -> Result<Vec<u32, A>, AllocError> {
+    let mut numbers = failures(plan, study, NONE)?;
+    plan.graph.reach_down(&mut numbers)?;
+    Ok(numbers)
 }
 
 /// Narrows the windows by what comes before and behind failures.
@@ -47,7 +58,8 @@ fn windows<A: Allocator + Copy>(
     plan: &mut Plan<A>,
     study: &Study<A>,
 ) -> Result<Option<Why>, AllocError> {
-    let (below, above) = reaches(plan, study)?;
+    let below = below(plan, study)?;
+    let above = above(plan, study)?;
     alive_windows(plan, &below);
     let why = shown_windows(plan, study, &above);
     if why.is_some() {
@@ -341,7 +353,7 @@ pub fn order<A: Allocator + Copy>(
     if !plan.graph.sort()? {
         return Ok(false);
     }
-    let (_, above) = reaches(plan, study)?;
+    let above = above(plan, study)?;
     plan.graph.sort_by(&above, study.ranks.saturating_add(2))?;
     Ok(true)
 }

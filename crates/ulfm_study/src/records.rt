@@ -1,5 +1,5 @@
 //! The records of ranks, by their own replies: what of a log they forbid.
-use crate::acts::{Act, Kind, Standing};
+use crate::acts::{Act, Kind, Standing, Start};
 use crate::study::Study;
 use std::alloc::{AllocError, Allocator};
 use ulfm_graph::tables::{NONE, at, number, put, small};
@@ -186,9 +186,9 @@ fn act_of(asked: &Call<FlagAnd>, line: u32) -> Act {
         Call::Ack { rank, comm, count } => (Kind::Ack, rank, comm, u64::from(count)),
         Call::FailureAck { rank, comm } => (Kind::Ack, rank, comm, u64::from(MOST_FAILURES)),
         Call::FailureGetAcked { rank, comm } => (Kind::Get, rank, comm, 0),
-        Call::Agree { rank, comm, value } => (Kind::Agree, rank, comm, value.bits),
-        Call::Shrink { rank, comm } => (Kind::Shrink, rank, comm, 0),
-        Call::Barrier { rank, comm } => (Kind::Barrier, rank, comm, 0),
+        Call::Agree { rank, comm, value } => (Kind::Start(Start::Agree), rank, comm, value.bits),
+        Call::Shrink { rank, comm } => (Kind::Start(Start::Shrink), rank, comm, 0),
+        Call::Barrier { rank, comm } => (Kind::Start(Start::Barrier), rank, comm, 0),
         Call::Poll { rank, comm } => (Kind::Poll, rank, comm, 0),
         Call::Revoke { rank, comm } => (Kind::Revoke, rank, comm, 0),
         Call::IsRevoked { rank, comm } => (Kind::IsRevoked, rank, comm, 0),
@@ -315,7 +315,7 @@ impl<A: Allocator + Copy> Reading<A> {
             return Ok(ban_unless(act.refused(refusal), Ban::Record));
         }
         // the wing of its place may have been set at any time, so nothing but a look is needed
-        if act.refused(Refusal::Twice) && (act.is(Kind::Agree) || act.is(Kind::Shrink)) {
+        if act.refused(Refusal::Twice) && (act.begins(Start::Agree) || act.begins(Start::Shrink)) {
             act.standing = Standing::Refused;
             return Ok(None);
         }
@@ -332,15 +332,13 @@ impl<A: Allocator + Copy> Reading<A> {
         let shrinks = self.records.seat(place_of(act.caller())).shrink != NONE;
         let rounds = u32::from(self.study.limits.rounds);
         match act.kind {
-            Kind::Agree if busy => Some(Refusal::Busy),
-            Kind::Shrink if busy => Some(Refusal::Busy),
-            Kind::Barrier if busy => Some(Refusal::Busy),
-            Kind::Shrink if shrinks => Some(Refusal::ShrinkOpen),
-            Kind::Agree if record.agreement.wrapping_add(1) >= rounds => {
+            Kind::Start(_) if busy => Some(Refusal::Busy),
+            Kind::Start(Start::Shrink) if shrinks => Some(Refusal::ShrinkOpen),
+            Kind::Start(Start::Agree) if record.agreement.wrapping_add(1) >= rounds => {
                 Some(Refusal::RoundsUsedUp)
             }
-            Kind::Shrink if record.agreement >= rounds => Some(Refusal::RoundsUsedUp),
-            Kind::Barrier if record.barrier >= rounds => Some(Refusal::RoundsUsedUp),
+            Kind::Start(Start::Shrink) if record.agreement >= rounds => Some(Refusal::RoundsUsedUp),
+            Kind::Start(Start::Barrier) if record.barrier >= rounds => Some(Refusal::RoundsUsedUp),
             Kind::Poll if !busy => Some(Refusal::Idle),
             Kind::Free if act.comm == 0 => Some(Refusal::WorldKept),
             Kind::Free if busy => Some(Refusal::Busy),
@@ -367,9 +365,7 @@ impl<A: Allocator + Copy> Reading<A> {
                 Ok(None)
             }
             (Kind::Poll, Some(seen)) => self.take_poll(act, cell, seen, group),
-            (Kind::Agree | Kind::Shrink | Kind::Barrier, Some(seen)) => {
-                self.take_start(act, place, cell, seen, group)
-            }
+            (Kind::Start(_), Some(seen)) => { self.take_start(act, place, cell, seen, group) }
             _ => Ok(Some(Ban::Sort)),
         }
     }
@@ -415,7 +411,7 @@ impl<A: Allocator + Copy> Reading<A> {
     fn begin(&mut self, act: &mut Act, place: u32, cell: usize) -> Result<(), AllocError> {
         let mut record = self.records.record(cell);
         record.request = place;
-        if act.is(Kind::Barrier) {
+        if act.begins(Start::Barrier) {
             let round = record.barrier;
             record.barrier = round.wrapping_add(1);
             self.records.keep(cell, record);
@@ -428,7 +424,7 @@ impl<A: Allocator + Copy> Reading<A> {
         self.records.keep(cell, record);
         act.round = self.study.agreements.place(act.comm, small(round))?;
         self.study.agreements.begin(act.round, act.rank, place);
-        if act.is(Kind::Shrink) {
+        if act.begins(Start::Shrink) {
             self.records.shrink(act.caller(), u32::from(act.comm));
         }
         Ok(())
@@ -441,21 +437,25 @@ impl<A: Allocator + Copy> Reading<A> {
         } else {
             self.study.asked_by(act)
         };
-        if asked == Kind::Shrink {
+        if asked == Kind::Start(Start::Shrink) {
             self.records.shrink(act.caller(), NONE);
         }
         match (asked, seen) {
-            (Kind::Agree, Seen::Agreed { .. }) => Ok(None),
-            (Kind::Shrink, Seen::Shrunk { comm, .. }) => self.take_comm(act, comm, group),
-            (Kind::Barrier, Seen::Whole(Reply::Done)) => Ok(None),
-            (Kind::Agree | Kind::Shrink, Seen::Whole(Reply::Refused(Refusal::Mismatch))) => Ok(
-                None,
+            (Kind::Start(Start::Agree), Seen::Agreed { .. }) => Ok(None),
+            (Kind::Start(Start::Shrink), Seen::Shrunk { comm, .. }) => self.take_comm(
+                act, comm, group,
             ),
-            (Kind::Shrink, Seen::Whole(Reply::Refused(Refusal::NoContext | Refusal::NoRoom))) => {
-                Ok(None)
-            }
+            (Kind::Start(Start::Barrier), Seen::Whole(Reply::Done)) => Ok(None),
             (
-                Kind::Barrier,
+                Kind::Start(Start::Agree | Start::Shrink),
+                Seen::Whole(Reply::Refused(Refusal::Mismatch)),
+            ) => Ok(None),
+            (
+                Kind::Start(Start::Shrink),
+                Seen::Whole(Reply::Refused(Refusal::NoContext | Refusal::NoRoom)),
+            ) => { Ok(None) }
+            (
+                Kind::Start(Start::Barrier),
                 Seen::Whole(Reply::Refused(Refusal::IsRevoked | Refusal::ProcFailed)),
             ) => { Ok(None) }
             _ => Ok(Some(Ban::Sort)),

@@ -1,5 +1,5 @@
 //! What each call and each round of a log asks of an order.
-use crate::acts::{Act, Kind, Standing};
+use crate::acts::{Act, Kind, Standing, Start};
 use crate::deals::{Deals, tells_end};
 use crate::plan::Plan;
 use crate::study::Study;
@@ -147,7 +147,7 @@ impl<A: Allocator + Copy> Rules<'_, A> {
                     plan.before_failure(count, look)
                 }
                 Kind::Ack => self.ack(plan, act, place),
-                Kind::Agree | Kind::Shrink | Kind::Barrier => self.start(plan, act, place),
+                Kind::Start(_) => self.start(plan, act, place),
                 Kind::Poll => self.polled(plan, act, place, act.call),
                 _ => plan.alive(act.rank, act.call),
             },
@@ -160,7 +160,7 @@ impl<A: Allocator + Copy> Rules<'_, A> {
             return Ok(());
         }
         let counted = at(&self.deals.counted, place as usize) == 1;
-        let arrived = act.is(Kind::Barrier) && at(&self.deals.done, act.round as usize) == 1;
+        let arrived = act.begins(Start::Barrier) && at(&self.deals.done, act.round as usize) == 1;
         if act.starts() && (counted || arrived) {
             let look = plan.look(place);
             let settle = plan.settle(place);
@@ -221,7 +221,7 @@ impl<A: Allocator + Copy> Rules<'_, A> {
         place: u32,
         begun: u32,
     ) -> Result<(), AllocError> {
-        if self.study.asked_by(act) == Kind::Barrier {
+        if self.study.asked_by(act) == Kind::Start(Start::Barrier) {
             let point = plan.point(place);
             plan.edge(begun, point)?;
             let alive_at = if act.refused(Refusal::ProcFailed) {

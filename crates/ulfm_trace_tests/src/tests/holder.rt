@@ -11,7 +11,7 @@ pub(crate) struct Held {
     /// Its number.
     pub(crate) comm: u16,
     /// Its context id.
-    pub(crate) context: u8,
+    context: u8,
     /// How many failures of it the rank has acknowledged.
     pub(crate) acked: u16,
     /// The rank's next agreement round on it.
@@ -145,23 +145,27 @@ impl<A: Allocator> Holder<A> {
     }
 }
 
+/// The round that is next, which is used up.
+fn use_up(next: &mut u16) -> u16 {
+    let round = *next;
+    *next = round.saturating_add(1);
+    round
+}
+
 /// What an answer other than self-failed leaves of the communicator that the call named.
 fn after(held: &mut Held, asked: &Call<FlagAnd>, reply: Reply<FlagAnd>) {
     match (*asked, reply) {
         (Call::Agree { .. }, Reply::Started) => {
-            let round = held.next_agreement;
+            let round = use_up(&mut held.next_agreement);
             held.request = Some(Request::Agree { round });
-            held.next_agreement = round.saturating_add(1);
         }
         (Call::Shrink { .. }, Reply::Started) => {
-            let round = held.next_agreement;
+            let round = use_up(&mut held.next_agreement);
             held.request = Some(Request::Shrink { round });
-            held.next_agreement = round.saturating_add(1);
         }
         (Call::Barrier { .. }, Reply::Started) => {
-            let round = held.next_barrier;
+            let round = use_up(&mut held.next_barrier);
             held.request = Some(Request::Barrier { round });
-            held.next_barrier = round.saturating_add(1);
         }
         (Call::Ack { .. }, Reply::Acked { count }) => held.acked = count,
         (Call::Poll { .. }, Reply::Pending) => {}
