@@ -418,11 +418,11 @@ pub struct Rank<P: Packed, A: Allocator> {
 }
 
 impl<P: Packed, A: Allocator> Model for Rank<P, A> {
-    ghost use Rattle.ulfm_comm.specs.Counts.{Ranked};
+    ghost use Rattle.ulfm_comm.specs.Counts.{Ranked, ranked};
 
     ghost Value = { Ranked };
 
-    ghost view = { λ a. record { own = a.own; last = a.last } };
+    ghost view = { λ a. ranked a.own a.last };
 }
 
 impl<P: Packed, A: Allocator + Copy> Rank<P, A> {

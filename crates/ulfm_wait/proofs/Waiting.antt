@@ -8,14 +8,14 @@ use Rattle.ulfm_model.specs.{Answers.{opened}, History.{IsLegal}, Records.{Fits,
 use Rattle.ulfm_model.specs.Records.{moment}
 use Rattle.ulfm_model.proofs.{LeftRuns.{call_legal, call_number}, Lists.{prefix_trans}}
 use Rattle.ulfm_words.specs.Steps.{view_at, view_of, IsView, Name, Over, Sight, over}
-use Rattle.ulfm_comm.specs.{Calls.{Calls}, Polls.{IsNotPending, PollIs, polled}}
+use Rattle.ulfm_comm.specs.{Calls.{Calls, reply_of}, Polls.{IsNotPending, PollIs, polled}}
 use Rattle.ulfm_comm.specs.declared.calls.polled.{Polled.{Polled}, Polled.TheVariants.{Agreed, Done, Pending as StillPending, Shrunk}}
 use Rattle.ulfm_comm.proofs.CallRuns.{called_run}
 use Rattle.ulfm_comm.specs.Local.{local}
 use Rattle.ulfm_wait.specs.Members.{IsMember, MemberCalls, MemberPolls, Membership, setting_of}
 use Rattle.ulfm_model.specs.{Rounds.{IsMadeOf}, Told.{IsFinalReply}}
 use Rattle.ulfm_model.proofs.{RoundAnswers.{answered_on}, Staying.{gave_lasts}, Telling.{agree_opened, agree_tells, find_change, pending_holds, shrink_opened, shrink_tells}}
-use Rattle.ulfm_wait.specs.Waits.{IsPolledOn, MemberAwaits, MemberPollsOn, MemberPollsUntil, MemberRuns, MemberWaits, PollsUntil, TellsAgree, TellsShrink}
+use Rattle.ulfm_wait.specs.Waits.{IsPolledOn, MemberAwaits, MemberPollsFrom, MemberPollsOn, MemberPollsUntil, MemberRuns, MemberWaits, PollsUntil, TellsAgree, TellsShrink}
 
 -- an answer ends its request
 pub answer_ends : {P : Type 0} (reply : Polled P) → IsNotPending reply → IsFinalReply (polled reply)
@@ -207,6 +207,15 @@ module _ {P : Type 0} (meld : P → P → P) (pack : P → ℕ) (alone : Bool) (
   pub member_refused : (asked : Call P) (old new : Membership P) (refusal : Refusal) → MemberCalls (setting_of meld pack alone) asked old (Refused refusal) new → MemberWaits (setting_of meld pack alone) c asked old (Err refusal) new
   member_refused asked old new refusal starts =
       record { words = starts.words; is = same_words meld pack old.view.words new starts.words starts.calls.linearizes.of starts.calls.linearizes.fits; run = inl starts }
+
+  -- however its start was answered
+  pub member_comes : (asked : Call P) (old mid new : Membership P) (started : Result (Unit {0}) Refusal) (result : Result (Polled P) Refusal)
+      → MemberCalls (setting_of meld pack alone) asked old (reply_of (λ _. Started) started) mid → MemberPollsFrom (setting_of meld pack alone) c started mid result new
+      → MemberWaits (setting_of meld pack alone) c asked old result new
+  member_comes asked old mid new (Ok x) result starts polls = member_waits asked old mid new result starts polls
+  member_comes asked old mid new (Err refusal) result starts (is, same) =
+      subst (λ r. MemberWaits (setting_of meld pack alone) c asked old r new) (sym is)
+      (subst (λ m. MemberWaits (setting_of meld pack alone) c asked old (Err refusal) m) (sym same) (member_refused asked old mid refusal starts))
 
   -- what an agree of a member tells
   pub member_tells : (value : P) (old new : Membership P) (result : Result (Polled P) Refusal) → MemberWaits (setting_of meld pack alone) c (Agree old.own.number c value) old result new

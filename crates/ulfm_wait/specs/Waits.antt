@@ -38,6 +38,11 @@ MemberPollsUntil {P} setting c (suc pending) old result new =
 abbrev pub MemberPollsOn : {P : Type 0} → Setting P → ℕ → Membership P → Result (Polled P) Refusal → Membership P → Type 0
 MemberPollsOn setting c old result new = (pending : ℕ) × MemberPollsUntil setting c pending old result new
 
+-- a member whose start was answered so polls on until one poll is answered, or has the start's refusal for its answer and is as it was
+abbrev pub MemberPollsFrom : {P : Type 0} → Setting P → ℕ → Result (Unit {0}) Refusal → Membership P → Result (Polled P) Refusal → Membership P → Type 0
+MemberPollsFrom setting c (Ok _) old result new = MemberPollsOn setting c old result new
+MemberPollsFrom setting c (Err refusal) old result new = (result ≡ Err refusal) × (new ≡ old)
+
 -- the member started a request, and then polled until one poll was answered
 pub record MemberAwaits {P : Type 0} (setting : Setting P) (c : ℕ) (asked : Call P) (old : Membership P)
     (result : Result (Polled P) Refusal) (new : Membership P) : Type 0 where

@@ -2,7 +2,7 @@
 ghost use Rattle.std.specs.Prelude.{IfOk};
 ghost use Rattle.ulfm_wait.specs.Members.{setting_of};
 ghost use Rattle.ulfm_model.specs.declared.call.Call.TheVariants.{Agree, Shrink, Barrier};
-ghost use Rattle.ulfm_wait.specs.Waits.{MemberPollsOn, MemberWaits, TellsAgree, TellsShrink};
+ghost use Rattle.ulfm_wait.specs.Waits.{MemberPollsFrom, MemberPollsOn, MemberWaits, TellsAgree, TellsShrink};
 
 use crate::Member;
 use std::alloc::Allocator;
@@ -30,21 +30,16 @@ use ulfm_words::Words;
 /// };
 /// assert!(rt; ulfm_wait::agree(&rt, &mut member, 0, value) == Ok(agreed));
 /// ```
-pub fn agree<W, P: Packed, A: Allocator + Copy, R: Wait>(
+pub fn agree<W: Words<P, A>, P: Packed, A: Allocator + Copy, R: Wait>(
     rt: &R,
     member: &mut Member<W, P, A>,
     comm: u16,
     value: P,
 ) -> Result<Polled<P>, Refusal>
-where
-    W: Words<P, A>,
     ensures waits { MemberWaits (setting_of P.meld P.pack W.alone) comm (Agree member.old.own.number comm value) member.old result member.new }
     ensures tells { IfOk result (TellsAgree P.meld member.old.view.words.limits member.new.view.pass.seen comm value member.old.own) }
 {
-    match member.iagree(comm, value) {
-        Ok(()) => poll_on(rt, member, comm),
-        Err(refusal) => Err(refusal),
-    }
+    poll_started(rt, member.iagree(comm, value), member, comm)
 }
 
 /// Starts a shrink of a communicator, and polls until there is a reply, which is never `Pending`: the new communicator, its
@@ -64,20 +59,15 @@ where
 /// assert!(rt; ulfm_wait::shrink(&rt, &mut member, 0) == Ok(alone));
 /// assert!(rt; ulfm_wait::barrier(&rt, &mut member, 1) == Ok(Polled::Done));
 /// ```
-pub fn shrink<W, P: Packed, A: Allocator + Copy, R: Wait>(
+pub fn shrink<W: Words<P, A>, P: Packed, A: Allocator + Copy, R: Wait>(
     rt: &R,
     member: &mut Member<W, P, A>,
     comm: u16,
 ) -> Result<Polled<P>, Refusal>
-where
-    W: Words<P, A>,
     ensures waits { MemberWaits (setting_of P.meld P.pack W.alone) comm (Shrink member.old.own.number comm) member.old result member.new }
     ensures tells { IfOk result (TellsShrink P.meld member.old.view.words.limits member.new.view.pass.seen comm member.old.own) }
 {
-    match member.ishrink(comm) {
-        Ok(()) => poll_on(rt, member, comm),
-        Err(refusal) => Err(refusal),
-    }
+    poll_started(rt, member.ishrink(comm), member, comm)
 }
 
 /// Arrives in the next barrier round of a communicator, and polls until there is a reply, which is never `Pending`: `Done`, where all
@@ -91,29 +81,37 @@ where
 /// // Rank 1 of two was declared failed before, and can't arrive any more.
 /// assert!(rt; ulfm_wait::barrier(&rt, &mut member, 0) == Err(Refusal::ProcFailed));
 /// ```
-pub fn barrier<W, P: Packed, A: Allocator + Copy, R: Wait>(
+pub fn barrier<W: Words<P, A>, P: Packed, A: Allocator + Copy, R: Wait>(
     rt: &R,
     member: &mut Member<W, P, A>,
     comm: u16,
 ) -> Result<Polled<P>, Refusal>
-where
-    W: Words<P, A>,
     ensures { MemberWaits (setting_of P.meld P.pack W.alone) comm (Barrier member.old.own.number comm) member.old result member.new }
 {
-    match member.ibarrier(comm) {
+    poll_started(rt, member.ibarrier(comm), member, comm)
+}
+
+// Polls until there is an answer, where a request was started. Where its start was refused, that is the answer.
+fn poll_started<W: Words<P, A>, P: Packed, A: Allocator + Copy, R: Wait>(
+    rt: &R,
+    started: Result<(), Refusal>,
+    member: &mut Member<W, P, A>,
+    comm: u16,
+) -> Result<Polled<P>, Refusal>
+    ensures { MemberPollsFrom (setting_of P.meld P.pack W.alone) comm started member.old result member.new }
+{
+    match started {
         Ok(()) => poll_on(rt, member, comm),
         Err(refusal) => Err(refusal),
     }
 }
 
 // Polls until there is an answer.
-fn poll_on<W, P: Packed, A: Allocator + Copy, R: Wait>(
+fn poll_on<W: Words<P, A>, P: Packed, A: Allocator + Copy, R: Wait>(
     rt: &R,
     member: &mut Member<W, P, A>,
     comm: u16,
 ) -> Result<Polled<P>, Refusal>
-where
-    W: Words<P, A>,
     ensures { MemberPollsOn (setting_of P.meld P.pack W.alone) comm member.old result member.new }
 {
     for _ in rt.forever() {

@@ -29,25 +29,36 @@ fn is_settled<P: Packed>(found: Found<P>) -> bool
     }
 }
 
-// Whether a member has come into the round of a request, by one load of its place.
-#[inline(always)]
-fn load_come<P: Packed, A: Allocator, W: Words<P, A>>(
-    words: &W,
-    pass: &mut W::Pass,
+// A request that is open on a communicator.
+#[derive(Clone, Copy)]
+struct OpenRequest {
     comm: u16,
     request: Request,
-    rank: u16,
-) -> bool
-    requires of { IsView P.meld (view_of P.pack (W.name words.now) (W.sight pass.old)) }
-    requires within { IsCell (limits_in (view_of P.pack (W.name words.now) (W.sight pass.old))) comm (round_in request) rank }
-    ensures goes { Goes P.meld W.alone false 1 (view_of P.pack (W.name words.now) (W.sight pass.old)) (view_of P.pack (W.name words.now) (W.sight pass.new)) }
-    ensures steps { steps_in (view_of P.pack (W.name words.now) (W.sight pass.new)) ≡ steps_in (view_of P.pack (W.name words.now) (W.sight pass.old)) + 1 }
-    ensures come { result ≡ has_come (seen_in (view_of P.pack (W.name words.now) (W.sight pass.new))) comm request rank }
-{
-    match request {
-        Request::Agree { round } => is_settled(load_slot(words, pass, comm, round, rank)),
-        Request::Shrink { round } => is_settled(load_slot(words, pass, comm, round, rank)),
-        Request::Barrier { round } => load_arrival(words, pass, comm, round, rank),
+}
+
+impl OpenRequest {
+    // Whether a member has come into its round, by one load of the member's place.
+    #[inline(always)]
+    fn load_come<P: Packed, A: Allocator, W: Words<P, A>>(
+        self,
+        words: &W,
+        pass: &mut W::Pass,
+        rank: u16,
+    ) -> bool
+        requires of { IsView P.meld (view_of P.pack (W.name words.now) (W.sight pass.old)) }
+        requires within { IsCell (limits_in (view_of P.pack (W.name words.now) (W.sight pass.old))) self.comm (round_in self.request) rank }
+        ensures goes { Goes P.meld W.alone false 1 (view_of P.pack (W.name words.now) (W.sight pass.old))
+            (view_of P.pack (W.name words.now) (W.sight pass.new)) }
+        ensures steps { steps_in (view_of P.pack (W.name words.now) (W.sight pass.new))
+            ≡ steps_in (view_of P.pack (W.name words.now) (W.sight pass.old)) + 1 }
+        ensures come { result ≡ has_come (seen_in (view_of P.pack (W.name words.now) (W.sight pass.new))) self.comm self.request rank }
+    {
+        let comm = self.comm;
+        match self.request {
+            Request::Agree { round } => is_settled(load_slot(words, pass, comm, round, rank)),
+            Request::Shrink { round } => is_settled(load_slot(words, pass, comm, round, rank)),
+            Request::Barrier { round } => load_arrival(words, pass, comm, round, rank),
+        }
     }
 }
 
@@ -55,24 +66,23 @@ fn load_come<P: Packed, A: Allocator, W: Words<P, A>>(
 fn put_missing<P: Packed, A: Allocator, W: Words<P, A>, B: Allocator>(
     words: &W,
     pass: &mut W::Pass,
-    comm: u16,
-    request: Request,
+    opened: OpenRequest,
     group: &[u16],
     found: &mut Vec<u16, B>,
 )
     requires of { IsView P.meld (view_of P.pack (W.name words.now) (W.sight pass.old)) }
-    requires round { IsRoundIn (view_of P.pack (W.name words.now) (W.sight pass.old)) comm (round_in request) group.now }
+    requires round { IsRoundIn (view_of P.pack (W.name words.now) (W.sight pass.old)) opened.comm (round_in opened.request) group.now }
     requires empty { found.old.items ≡ [] }
     requires room { length group.now ≤ vec_capacity found.old }
     ensures goes { Goes P.meld W.alone false (length group.now) (view_of P.pack (W.name words.now) (W.sight pass.old))
         (view_of P.pack (W.name words.now) (W.sight pass.new)) }
     ensures steps { steps_in (view_of P.pack (W.name words.now) (W.sight pass.new))
         ≡ steps_in (view_of P.pack (W.name words.now) (W.sight pass.old)) + length group.now }
-    ensures are { AreMissing comm request group.now (seen_in (view_of P.pack (W.name words.now) (W.sight pass.old)))
+    ensures are { AreMissing opened.comm opened.request group.now (seen_in (view_of P.pack (W.name words.now) (W.sight pass.old)))
         (seen_in (view_of P.pack (W.name words.now) (W.sight pass.new))) found.new.items }
 {
     for rank in group {
-        if !load_come(words, pass, comm, request, *rank) {
+        if !opened.load_come(words, pass, *rank) {
             let _ = found.push(*rank);
         }
     }
@@ -127,7 +137,8 @@ impl<P: Packed, A: Allocator> Rank<P, A> {
             return Err(Refusal::OutOfMemory);
         }
         found.clear();
-        put_missing(&world.words, pass, comm, request, &x.group, found);
+        let opened = OpenRequest { comm, request };
+        put_missing(&world.words, pass, opened, &x.group, found);
         Ok(())
     }
 }

@@ -18,8 +18,8 @@ load_come-requires-clause-within g c =
     let now = (g.W.Words.sight c.loop-rank.pass).seen in
     let group = c.args.group.now in
     let begins = did_prefix g.W.Words.alone [] before now i.goes.did in
-    let round = round_stays limits before now c.args.comm (round_in c.args.request) group begins c.requires.round in
-    member_within limits g.P.Meld.meld now c.args.comm (round_in c.args.request) (slice_index group c.loop-rank.rank-index) group i.goes.of.legal
+    let round = round_stays limits before now c.args.opened.comm (round_in c.args.opened.request) group begins c.requires.round in
+    member_within limits g.P.Meld.meld now c.args.opened.comm (round_in c.args.opened.request) (slice_index group c.loop-rank.rank-index) group i.goes.of.legal
     i.goes.of.may_open round (has_at group c.loop-rank.rank-index 0 c.loop-rank-test.true)
 
 pub loop-rank-init : goal.loop-rank-init
@@ -47,20 +47,20 @@ loop-rank-preserved g c =
     let listed = c.loop-rank.found.items in
     let found = c.if-not-load_come.found in
     let taken : take (at + 1) group ≡ take at group ++ rank ∷ [] = take_more group at 0 c.loop-rank-test.true in
-    let put : AreMissing c.args.comm c.args.request (take at group ++ rank ∷ []) start.seen later.seen found.items × (length found.items ≤ at + 1) × (length group ≤ vec_capacity found) =
+    let put : AreMissing c.args.opened.comm c.args.opened.request (take at group ++ rank ∷ []) start.seen later.seen found.items × (length found.items ≤ at + 1) × (length group ≤ vec_capacity found) =
     elim c.if-not-load_come.branch [
       | then-not-load_come w ↦
           (let pushed : found.items ≡ listed ++ rank ∷ [] = grind (arith, common_steps) in (
-            subst (λ ys. AreMissing c.args.comm c.args.request (take at group ++ rank ∷ []) start.seen later.seen ys) (sym pushed)
-                (missing_more c.args.comm c.args.request (take at group) start.seen now.seen later.seen listed before begins i.are rank
+            subst (λ ys. AreMissing c.args.opened.comm c.args.opened.request (take at group ++ rank ∷ []) start.seen later.seen ys) (sym pushed)
+                (missing_more c.args.opened.comm c.args.opened.request (take at group) start.seen now.seen later.seen listed before begins i.are rank
                 (sym w.if-not-load_come.ensures.come)),
             grind (arith, common_steps, pushed),
             grind (arith, common_steps),
           ))
       | else-not-load_come w ↦
           (let same : found.items ≡ listed = grind (arith, common_steps) in (
-            subst (λ ys. AreMissing c.args.comm c.args.request (take at group ++ rank ∷ []) start.seen later.seen ys) (sym same)
-                (missing_no_more c.args.comm c.args.request (take at group) start.seen now.seen later.seen listed before begins i.are rank
+            subst (λ ys. AreMissing c.args.opened.comm c.args.opened.request (take at group ++ rank ∷ []) start.seen later.seen ys) (sym same)
+                (missing_no_more c.args.opened.comm c.args.opened.request (take at group) start.seen now.seen later.seen listed before begins i.are rank
                 (sym w.if-not-load_come.ensures.come)),
             grind (arith, common_steps, same),
             grind (arith, common_steps),
@@ -69,7 +69,7 @@ loop-rank-preserved g c =
     record {
       goes = goes_then g.P.Meld.meld g.W.Words.alone (over g.P.Packed.pack (g.W.Words.name c.args.words.now)) at 1 start now later i.goes e.goes;
       steps = omega (arith, i.steps, e.steps);
-      are = subst (λ xs. AreMissing c.args.comm c.args.request xs start.seen later.seen found.items) (sym taken) put.0;
+      are = subst (λ xs. AreMissing c.args.opened.comm c.args.opened.request xs start.seen later.seen found.items) (sym taken) put.0;
       few = put.1;
       room = put.2;
     }

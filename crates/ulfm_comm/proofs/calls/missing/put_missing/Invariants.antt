@@ -10,7 +10,7 @@ invariant-loop-rank g l =
     record {
       goes : Goes g.P.Meld.meld g.W.Words.alone false l.rank-index (view_of g.P.Packed.pack (g.W.Words.name l.words) start) (view_of g.P.Packed.pack (g.W.Words.name l.words) now);
       steps : now.steps ≡ start.steps + l.rank-index;
-      are : AreMissing l.comm l.request (take l.rank-index l.group) start.seen now.seen l.found.items;
+      are : AreMissing l.opened.comm l.opened.request (take l.rank-index l.group) start.seen now.seen l.found.items;
       few : length l.found.items ≤ l.rank-index;
       room : length l.group ≤ vec_capacity l.found;
     }
