@@ -39,6 +39,6 @@ loop-slot-preserved g c =
     let item = c.slot-item.result in
     let more = take_more c.args.settled.now c.loop-slot.slot-index item c.loop-slot-test.true in
     elim c.match-contribution_of.branch [
-      in-Some w ↦ (let push = sum_some g.met.P.Meld.lawful xs item w.in-Some.given (sym w.in-Some.ensures) in cc)
+      | in-Some w ↦ (let push = sum_some g.met.P.Meld.lawful xs item w.in-Some.given (sym w.in-Some.ensures) in cc)
       | in_default w ↦ (let same = sum_none g.met.P.Meld.lawful xs item (sym w.in_default.ensures) in cc)
     ]
