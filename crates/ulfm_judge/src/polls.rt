@@ -158,17 +158,15 @@ fn was_made<P: Packed, A: Allocator + Copy + Drop>(
     made > 0 && is_made_at(numbers.spawns_at(point), made, comm, round)
 }
 
-/// Whether an agree's poll is answered so.
+/// Whether an agree's poll is answered so, other than that it is pending.
 fn is_agree_reply<P: Packed, A: Allocator>(
-    late: bool,
     decided: bool,
     made: &Decided<P, A>,
     reply: &Reply<P>,
 ) -> bool
-    ensures { result ≡ agree_test P.pack late decided (decision_of made.now) reply.now }
+    ensures { result ≡ agree_test P.pack false decided (decision_of made.now) reply.now }
 {
     match *reply {
-        Reply::Pending => late,
         Reply::Agreed {
             value,
             failed,
@@ -255,20 +253,18 @@ fn is_shrunk<P: Packed, A: Allocator + Copy + Drop>(
         && (!has_rank(&made.failed, rank) && (was_made && usize::from(named.size) == group.len()))
 }
 
-/// Whether a shrink's poll is answered so.
+/// Whether a shrink's poll is answered so, other than that it is pending.
 fn is_shrink_reply<P: Packed, A: Allocator + Copy + Drop>(
     view: &View<P, A>,
     x: &HeldComm<A>,
     round: u16,
-    late: bool,
     decided: bool,
     made: &Decided<P, A>,
     reply: &Reply<P>,
 ) -> bool
-    ensures { result ≡ shrink_test (call_at view.now) x.now.comm round late decided (decision_of made.now) reply.now }
+    ensures { result ≡ shrink_test (call_at view.now) x.now.comm round false decided (decision_of made.now) reply.now }
 {
     match *reply {
-        Reply::Pending => late,
         Reply::Shrunk {
             comm,
             context,
@@ -344,9 +340,9 @@ fn is_round_reply<P: Packed, A: Allocator + Copy + Drop>(
         else agree_test P.pack false decided (decision_of made.now) reply.now) }
 {
     if shrinks {
-        is_shrink_reply(view, x, round, false, decided, made, reply)
+        is_shrink_reply(view, x, round, decided, made, reply)
     } else {
-        is_agree_reply(false, decided, made, reply)
+        is_agree_reply(decided, made, reply)
     }
 }
 
