@@ -3,7 +3,7 @@ ghost use Rattle.std.specs.Prelude.{◌≡◌, ◌≤◌, [], not, None, Some, f
 ghost use Rattle.ulfm_model.specs.{Answers.{traits_of}, Records.{new_record}, History.{MayFollow}};
 ghost use Rattle.ulfm_model.specs.declared.event.Caller.TheVariants.{Rank as OfRank};
 ghost use Rattle.ulfm_words.specs.Steps.{IsView, view_of};
-ghost use Rattle.ulfm_comm.specs.{Local.{local}, Phase.{MayStep, next_step}, Wings.{WingsIn}};
+ghost use Rattle.ulfm_comm.specs.{Local.{local}, Phase.{MayStep, next_step}, Wings.{WingsIn, WingsSettled}};
 ghost use Rattle.ulfm_numbers.specs.Telling.{TablesTell};
 ghost use Rattle.ulfm_replica.specs.Replays.{Feeds};
 ghost use Rattle.ulfm_replica.specs.Replicas.{Begins, ComesTo, IsBusy, IsCalling, IsWanted, KeepsCall, MakesWanted, StepsOn, is_settle, rules};
@@ -182,8 +182,8 @@ impl<P: Packed, A: Allocator + Copy + Drop> CallingRank<P, A> {
         }
     }
 
-    // The next step of a call; where it set the wing of a contribution, also the next one, which makes the contribution.
-    fn moved(
+    // The step that sets the word of a contribution whose wing is set.
+    fn settled(
         world: World<PlainWords<P>, P, A>,
         mut pass: PlainPass<P, A>,
         mut rank: Rank<P, A>,
@@ -192,19 +192,40 @@ impl<P: Packed, A: Allocator + Copy + Drop> CallingRank<P, A> {
         requires of { IsView P.meld (view_of P.pack world pass) }
         requires stood { MayStep P.meld doing.way (local rank.own (view_of P.pack world pass)) }
         requires wings { WingsIn rank.own doing.way.asked doing.way.phase (view_of P.pack world pass) }
+        requires settling { is_settle (next_step doing.way.phase) ≡ true }
         ensures steps { IfOk result (StepsOn (rules P.meld P.pack) (record { words = world; own = rank.own; pass = pass; call = Some doing.way; reply = None })) }
         ensures makes { IfOk result (MakesWanted (rules P.meld P.pack) (record { words = world; own = rank.own; pass = pass; call = Some doing.way; reply = None })) }
     {
-        let contributes = is_settling(&doing);
         match rank.step(&world, &mut pass, &mut doing) {
             Some(reply) => Ok(CallingRank::answered(world, pass, rank, reply)),
             None => {
                 if is_settling(&doing) {
-                    if contributes {
-                        // No contribution comes right behind another, so that this doesn't happen.
-                        return Err(Lost);
-                    }
-                    return CallingRank::moved(world, pass, rank, doing);
+                    return Err(Lost);
+                }
+                Ok(CallingRank::going(world, pass, rank, doing))
+            }
+        }
+    }
+
+    // The next step of a call that isn't about to set its contribution's word; where it set the wing of that, also the next one.
+    fn moved(
+        world: World<PlainWords<P>, P, A>,
+        mut pass: PlainPass<P, A>,
+        mut rank: Rank<P, A>,
+        mut doing: Doing<P, A>,
+    ) -> Result<CallingRank<P, A>, Lost>
+        requires of { IsView P.meld (view_of P.pack world pass) }
+        requires stood { MayStep P.meld doing.way (local rank.own (view_of P.pack world pass)) }
+        requires wings { WingsSettled (view_of P.pack world pass) }
+        requires unspread { is_settle (next_step doing.way.phase) ≡ false }
+        ensures steps { IfOk result (StepsOn (rules P.meld P.pack) (record { words = world; own = rank.own; pass = pass; call = Some doing.way; reply = None })) }
+        ensures makes { IfOk result (MakesWanted (rules P.meld P.pack) (record { words = world; own = rank.own; pass = pass; call = Some doing.way; reply = None })) }
+    {
+        match rank.step(&world, &mut pass, &mut doing) {
+            Some(reply) => Ok(CallingRank::answered(world, pass, rank, reply)),
+            None => {
+                if is_settling(&doing) {
+                    return CallingRank::settled(world, pass, rank, doing);
                 }
                 Ok(CallingRank::going(world, pass, rank, doing))
             }

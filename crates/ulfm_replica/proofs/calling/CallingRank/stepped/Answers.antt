@@ -2,9 +2,7 @@ use Rattle.std.proofs.Common.{◌≡◌, None, Option, Some, sym, ◌∙◌, ap,
 use Rattle.std.specs.Prelude.{IfOk}
 use Rattle.ulfm_model.specs.declared.reply.Reply.{Reply}
 use Rattle.ulfm_comm.specs.Counts.{Counted}
-use Rattle.ulfm_replica.specs.Replicas.{Calling, IsUnspread, MakesWanted, StandsIn, StepsOn, rules, way_in}
-use Rattle.ulfm_words.specs.Steps.{over}
-use Rattle.ulfm_replica.proofs.Stepping.{settled_out}
+use Rattle.ulfm_replica.specs.Replicas.{Calling, MakesWanted, StandsIn, StepsOn, rules, way_in}
 use Rattle.ulfm_replica.proofs.calling.CallingRank.stepped.Goals as goal
 use Rattle.ulfm_replica.proofs.calling.CallingRank.stepped.Goals.{In-Some}
 
@@ -20,11 +18,6 @@ rank_is : (g : _) (c : goal.In-Some g) → record { words = c.self.inside.world;
 rank_is g c =
     sym (sym c.self.view_is ∙ (ap (λ (o : Option (Counted g.row.P.Denot)). record { words = c.self.inside.world; own = c.self.inside.rank.own; pass = c.self.inside.pass; call = way_in o; reply = c.self.inside.reply }) c.in-Some.is
     ∙ ap (λ (r : Option (Reply g.row.P.Denot)). record { words = c.self.inside.world; own = c.self.inside.rank.own; pass = c.self.inside.pass; call = Some c.in-Some.doing.way; reply = r }) (reply_none g c)))
-
-pub moved-requires-clause-wings : goal.moved-requires-clause-wings
-moved-requires-clause-wings g c =
-    let unspread = subst (λ (o : Option (Counted g.row.P.Denot)). IsUnspread (way_in o)) c.in-Some.is c.self.invariant.unspread in
-    settled_out c.self.inside.rank.own c.in-Some.doing.way.asked c.in-Some.doing.way.phase (over g.P.Packed.pack c.self.inside.world) c.self.inside.pass unspread c.self.invariant.settled
 
 pub returns-in-Some-clause-steps : goal.returns-in-Some-clause-steps
 returns-in-Some-clause-steps g c =
