@@ -8,6 +8,7 @@ use Rattle.ulfm_model.specs.declared.{block.Wing.{Wing}, contribution.Contributi
 use Rattle.ulfm_model.specs.{Blocks.{has_wing}, History.{MayFollow, slot}, Words.{place_of, slot_wing}}
 use Rattle.ulfm_model.proofs.{Histories.{slot_stays}, Lists.{prefix_trans}}
 use Rattle.ulfm_words.specs.{Blocks.{SetsWing, standing}, Places.{IsWithin}, Steps.{IsView, IsWinged, IsWingedIn, Loses, MaySet, MaySetIn, Name, Sets, Sight, Wins, coding, limits_in, view_of}, declared.{step.Site.{Site}}}
+use Rattle.ulfm_words.specs.declared.step.Step.{Step}
 use Rattle.ulfm_words.proofs.Setting.{added_stands, same_entry}
 use Rattle.ulfm_replica.specs.Replays.{IsFed, SpreadsFor, WingsSettled, step_after, wings_of}
 use Rattle.ulfm_replica.proofs.Following.{comes, entry_is, may_set, place_in}

@@ -24,12 +24,13 @@ pub invariant_of-result : goal.invariant_of-result
 invariant_of-result g c =
     let by = rules g.P.Meld.meld g.P.Packed.pack in
     let at = c.self.inside.at in
+    let here = (goal.at.invariant_of-result g c).After-and in
     let words = sym c.in_ok-at.ensures.steps.keeps.words in
-    let come = sym (seen g c) in
+    let come = sym (seen g here) in
     let count : c.self.inside.count ≡ length c.self.inside.log.items = c.self.invariant.2 in (
       subst (λ (n : Name). Replays by n.limits [] c.and.result.items c.in_ok-at.at.pass.seen) words
           (subst (λ (log : List (List ℕ)). Replays by at.words.limits [] log c.in_ok-at.at.pass.seen) (sym c.and.ensures)
-          (goes_on (Takes by at.words.limits) c.self.inside.log.items c.args.bytes.now.bytes true [] at.pass.seen c.in_ok-at.at.pass.seen c.self.invariant.0 (inl (c.args.entry, c.requires.read, ((wanted g c).follows, seen g c))))),
+          (goes_on (Takes by at.words.limits) c.self.inside.log.items c.args.bytes.now.bytes true [] at.pass.seen c.in_ok-at.at.pass.seen c.self.invariant.0 (inl (c.args.entry, c.requires.read, ((wanted g here).follows, seen g here))))),
       subst (λ (n : Name). TablesTell n.limits.ranks c.note.new.self c.in_ok-at.at.pass.seen) words
           (subst (λ (h : History g.row.P.Denot). TablesTell at.words.limits.ranks c.note.new.self h) come (c.in-Ok.ensures at.words.limits.ranks at.pass.seen c.self.invariant.1)),
       omega (arith, count, ap length c.and.ensures, length-append c.self.inside.log.items (c.args.bytes.now.bytes ∷ [])),
