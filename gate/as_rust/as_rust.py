@@ -69,7 +69,10 @@ def conv(c,name,s):
         return '#[derive(%s)]'%', '.join(xs) if xs else ''
     s=re.sub(r'#\[derive\(([^)]*)\)\]',der,s)
     s=re.sub(r'\+ Drop\b','',s); s=re.sub(r'\bDrop \+ ','',s); s=re.sub(r': Drop\b','',s)
-    s=re.sub(r'(?<![\w:])crate::','crate::%s::'%c,s)
+    s=re.sub(r'(?<![\w:$])crate::','crate::%s::'%c,s)
+    s=s.replace('$crate::','crate::%s::'%c)
+    # a macro for other crates is one of its module here, and is passed on by its crate's
+    s=re.sub(r'(?ms)^#\[macro_export\]\n(macro_rules! (\w+) \{\n.*?^\}\n)',r'\1pub(crate) use \2;\n',s)
     s=re.sub(r'(?<![\w:])(ulfm_\w+)::',r'crate::\1::',s)
     s=re.sub(r'\bstd::alloc::',r'crate::rstd::alloc::',s)
     s=s.replace('std::collections::HashMap','crate::rstd::HashMap')
@@ -91,9 +94,13 @@ def conv(c,name,s):
 for c in CR:
     d=OUT+'/'+c; os.makedirs(d,exist_ok=True)
     for f in glob.glob(d+'/*.rs'): os.remove(f)
+    macros=[]
     for f in glob.glob(f'{SRC}/{c}/src/*.rt'):
         n=os.path.basename(f)[:-3]
         if n in SKIP.get(c,()): continue
-        open(d+'/'+('mod' if n=='lib' else n)+'.rs','w').write(conv(c,n,open(f).read()))
+        text=open(f).read()
+        macros+=['pub(crate) use %s::%s;\n'%(n,m) for m in re.findall(r'(?m)^#\[macro_export\]\nmacro_rules! (\w+)',text)]
+        open(d+'/'+('mod' if n=='lib' else n)+'.rs','w').write(conv(c,n,text))
+    open(d+'/mod.rs','a').writelines(macros)
 for f in ('rstd.rs','main.rs','checks.rs'):
     shutil.copy(HERE+'/'+f,OUT+'/'+f)
