@@ -1,6 +1,7 @@
 -- What a rank keeps beside its record.
-use Rattle.std.specs.Prelude.{ℕ, ◌<◌, ◌≤◌, IsFalse, List, length, map, nat_eq, take}
+use Rattle.std.specs.Prelude.{ℕ, ◌≡◌, ◌<◌, ◌≤◌, [], IsFalse, List, length, map, nat_eq, take, vec_capacity}
 use Rattle.std.specs.List.{AllByRecursion, IsDistinct}
+use Rattle.std.specs.declared.vec.Vec.{Vec}
 use Rattle.ulfm_laws.specs.Ranges.{payload_bits}
 use Rattle.ulfm_model.specs.declared.limits.Limits.{Limits}
 use Rattle.ulfm_model.specs.{History.{has}, Records.{Held}, Words.{MayOpen}}
@@ -16,6 +17,11 @@ pub record HasRoom (limits : Limits) (capacity places : ℕ) (held : List Held) 
   pub more : few_comms < length held → payload_bits ≤ places
   pub ids : AllByRecursion (λ i. i < payload_bits) (map (λ x. x.context) held)
   pub contexts : IsDistinct nat_eq (map (λ x. x.context) held)
+
+-- an empty list that has room for so many
+pub record IsEmptyList {A : Type 0} (room : ℕ) (list : Vec ℕ A) : Type 0 where
+  pub none : list.items ≡ []
+  pub roomy : room ≤ vec_capacity list
 
 -- the first so many of the failures that a rank has seen are others
 pub record AreOthers (number : ℕ) (seen : List ℕ) (count : ℕ) : Type 0 where

@@ -15,7 +15,7 @@ ghost use Rattle.ulfm_comm.specs.Spawning.{seeking, target, MayHold, MayGoSpawni
 ghost use Rattle.ulfm_comm.specs.declared.phases.spawning.Spawned.TheVariants.{Unknown};
 ghost use Rattle.ulfm_comm.specs.{Local.{local}, Prepared.{HasPlaces}};
 ghost use Rattle.ulfm_laws.specs.Ranges.{payload_bits};
-ghost use Rattle.ulfm_comm.specs.Prepared.{few_comms, unprepared};
+ghost use Rattle.ulfm_comm.specs.{Prepared.{few_comms, unprepared}, Ranks.{IsEmptyList}};
 
 use crate::phases::spawning::{Spawned, place_in};
 use std::alloc::{AllocError, Allocator};
@@ -64,20 +64,21 @@ impl<P: Packed, A: Allocator> Model for LocalState<P, A> {
 }
 
 impl<P: Packed, A: Allocator + Copy> LocalState<P, A> {
-    // A new rank of a world, whose ranks these are.
+    // A new rank of a world, whose ranks these are, with a list for the failures that it will have seen.
     pub(crate) fn new(
         alloc: A,
         limits: Limits,
         number: u16,
         ranks: &ArcSlice<u16, A>,
+        seen: Vec<u16, A>,
     ) -> Result<LocalState<P, A>, AllocError>
         requires may_open { MayOpen limits }
         requires below { number < limits.ranks }
         requires ranks { arc_slice_items ranks.now ≡ first_ranks limits.ranks }
+        requires seen { IsEmptyList limits.ranks seen }
         ensures { IfOk result (λ r. r ≡ new_record limits number) }
     {
         let group = ranks.clone()?;
-        let seen = Vec::with_capacity(alloc, limits.ranks as usize)?;
         let mut held = Vec::with_capacity(alloc, FEW)?;
         held.push(HeldComm::with_members(0, 0, Members::Shared(group)))?;
         Ok(LocalState {

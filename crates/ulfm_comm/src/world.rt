@@ -1,5 +1,5 @@
 // A world, which is opened over words with its ranks. It makes passes, and lets one learn what another has seen.
-ghost use Rattle.std.specs.Prelude.{◌≡◌, [], map, MatchResult, IfOk};
+ghost use Rattle.std.specs.Prelude.{◌≡◌, [], length, map, MatchResult, IfOk};
 ghost use Rattle.std.specs.List.{AllByRecursion};
 ghost use Rattle.ulfm_model.specs.History.{first_ranks as all_below};
 ghost use Rattle.ulfm_model.specs.Words.{MayOpen};
@@ -7,6 +7,7 @@ ghost use Rattle.ulfm_model.specs.Records.{Fits};
 ghost use Rattle.ulfm_model.specs.declared.limits.OpenFault.TheVariants.{OutOfMemory};
 ghost use Rattle.ulfm_words.specs.Steps.{view_of, IsView, IsNew, Tells, Learns};
 ghost use Rattle.ulfm_comm.specs.Counts.{new_rank, records_of};
+ghost use Rattle.ulfm_comm.specs.Ranks.{IsEmptyList};
 
 use crate::rank::{LocalState, Rank};
 use std::alloc::{AllocError, Allocator};
@@ -136,7 +137,8 @@ where
     }
 }
 
-// One rank of each number, in order. The members of the world's communicator stand in one list for all of them.
+// One rank of each number, in order. The members of the world's communicator stand in one list for all of them. What ranks use in each call
+// stands close together, behind the lists that most of them leave empty.
 fn ranks_of<P: Packed, A: Allocator + Copy>(
     alloc: A,
     limits: Limits,
@@ -145,9 +147,23 @@ fn ranks_of<P: Packed, A: Allocator + Copy>(
     ensures { IfOk result (λ ranks. ranks.items ≡ map (new_rank limits) (all_below limits.ranks)) }
 {
     let group = ArcSlice::from_vec(first_ranks(alloc, limits.ranks)?)?;
+    let lists = empty_lists(alloc, limits.ranks)?;
     let mut ranks = Vec::with_capacity(alloc, limits.ranks as usize)?;
-    for number in 0..limits.ranks {
-        ranks.push(Rank::with_state(LocalState::new(alloc, limits, number, &group)?))?;
+    for seen in lists {
+        let number = ranks.len() as u16;
+        ranks.push(Rank::with_state(LocalState::new(alloc, limits, number, &group, seen)?))?;
     }
     Ok(ranks)
+}
+
+// A list for each rank, of the failures that it will have seen: nobody yet, with room for all ranks.
+fn empty_lists<A: Allocator + Copy>(alloc: A, ranks: u16) -> Result<Vec<Vec<u16, A>, A>, AllocError>
+    ensures each { IfOk result (λ lists. length lists.items ≡ ranks) }
+    ensures roomy { IfOk result (λ lists. AllByRecursion (IsEmptyList ranks) lists.items) }
+{
+    let mut lists = Vec::with_capacity(alloc, ranks as usize)?;
+    'room: for _rank in 0..ranks {
+        lists.push(Vec::with_capacity(alloc, ranks as usize)?)?;
+    }
+    Ok(lists)
 }

@@ -235,6 +235,8 @@ fn read_happened(text: Option<&[u8]>) -> Result<(Line<FlagAnd>, Option<&[u8]>), 
     Ok((Line::Happened { by, event }, None))
 }
 
+/// It stands in line as `read_head` does.
+#[inline(always)]
 #[tactic(auto, unfolding(crate::specs::LineReading::replied_line))]
 fn read_replied(text: Option<&[u8]>) -> Result<(Line<FlagAnd>, Option<&[u8]>), LineKind>
     ensures { Gives at_field result (replied_line (rest_at text.entry)) }
