@@ -301,18 +301,19 @@ module _ (Prints : Limits → List ScriptStep → List ℕ → Type 0) (Finds : 
   -- what a run has written
   pub ended_legal : (known left old new : KnownText) (ended : RunEnd) → EndsAlone scripts known left old new ended → WroteLegal old new ended
   ended_legal known left old new (Ok done) ends =
-      let run : RunsAll scripts known None (Appends old new) = ends.2.0 in
+      let ran : RunsAll scripts known None (Appends old new) = ends.2.0 in
+      let run = ran.0 in
       let is = text_opens Prints Finds run.text run.faults in
       let items = (script_of scripts run.text).items in
       let printed : Prints is.0.limits items run.out = subst (λ (o : Option Heading). PrintsFrom scripts o items run.out) is.1 run.printed in
-      (run.out, run.told, each_legal is.0.limits items run.out (text_spells Prints Finds run.text is.0 is.1) printed)
+      (run.out, ran.1, each_legal is.0.limits items run.out (text_spells Prints Finds run.text is.0 is.1) printed)
   ended_legal known left old new (Err (fault.Line number kind)) ends = go ends.2.0
     where
       go : RunsAll scripts known (Some (number, kind)) (Appends old new) ⊎ FindsFault scripts known number kind (Appends old new) → WroteLegal old new (Err (fault.Line number kind))
-      go (inl run) = (run.out, run.told, all_legal run.text run.out run.printed)
-      go (inr found) = (found.out, found.told, some_legal found.text found.out found.printed)
-  ended_legal known left old new (Err fault.Memory) ends = let stops = ends.2 in (stops.out, stops.told, all_legal stops.lines stops.out stops.printed)
-  ended_legal known left old new (Err fault.Read) ends = let stops = ends.2.0 in (stops.out, stops.told, all_legal stops.lines stops.out stops.printed)
+      go (inl ran) = (ran.0.out, ran.1, all_legal ran.0.text ran.0.out ran.0.printed)
+      go (inr found) = (found.0.out, found.1, some_legal found.0.text found.0.out found.0.printed)
+  ended_legal known left old new (Err fault.Memory) ends = let stops = ends.2 in (stops.0.out, stops.1, all_legal stops.0.lines stops.0.out stops.0.printed)
+  ended_legal known left old new (Err fault.Read) ends = let stops = ends.2.0 in (stops.0.out, stops.1, all_legal stops.0.lines stops.0.out stops.0.printed)
   ended_legal known left old new (Err fault.Write) ends = let stops = ends.2 in (stops.out, stops.told, some_legal stops.text stops.out stops.printed)
 
 pub written_legal : (known left old new : KnownText) (ended : RunEnd) → RunsSteps known left old new ended → WroteLegal old new ended

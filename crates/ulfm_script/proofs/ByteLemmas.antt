@@ -4,10 +4,7 @@ use Rattle.std.specs.Prelude.{slice_range}
 use Rattle.std.specs.Io.KnownBytes.{Keeps, Appends, Consumes, IsAtEnd, prepend_known}
 use Rattle.std.proofs.lemmas.List.{append-nil, take-append-drop, take_all, length-take}
 use Rattle.std.proofs.Math.Seq.{take-add, drop-cons}
-use Rattle.std.specs.Prelude.{Err}
-use Rattle.ulfm_script.specs.declared.fault.RunFault.{RunFault}
-use Rattle.ulfm_script.specs.declared.fault.RunFault.TheVariants.{Read}
-use Rattle.ulfm_script.specs.Buffers.{HasNoNewline, TakesLine}
+use Rattle.ulfm_script.specs.Buffers.{HasNoNewline}
 use Rattle.ulfm_script.specs.Written.{WritesPart}
 
 -- known bytes that nobody touched
@@ -128,10 +125,6 @@ appends_more a b c bytes i n h k =
 -- the same as a part of all
 pub writes_more : (a b c : Option (List ℕ)) (bytes : List ℕ) (i n : ℕ) → Appends a b (take i bytes) → Appends b c (take n (take (length bytes - i) (drop i bytes))) → WritesPart a c bytes
 writes_more a b c bytes i n h k = (take (i + n) bytes, (drop (i + n) bytes, take-append-drop (i + n) bytes), appends_more a b c bytes i n h k)
-
--- a line that the reader broke off
-pub failed_line : (most : ℕ) (a b c : Option (List ℕ)) (bytes kept done : List ℕ) (fault : RunFault) → HasNoNewline done → Consumes a b done → Keeps b c × (bytes ≡ []) × (fault ≡ Read) → TakesLine most a c bytes kept (Err fault)
-failed_line most a b c bytes kept done fault free h k = rw k.2 (done, free, k.1, consumes_keeps a b c done h k.0)
 
 -- nothing is left behind what is pending
 pub end_behind : (bytes : List ℕ) (known : Option (List ℕ)) → IsAtEnd (prepend_known bytes known) → IsAtEnd known

@@ -1,6 +1,7 @@
 pub mod Ahead
 pub mod ByteLemmas
 pub mod LineParts
+pub mod LinesTaken
 pub mod CallLemmas
 pub mod HeaderLemmas
 pub mod Leading

@@ -9,7 +9,7 @@ use Rattle.ulfm_script.specs.declared.line_kind.LineKind.TheVariants.{Cut, Heade
 use Rattle.ulfm_script.specs.declared.fault.RunFault.{RunFault}
 use Rattle.ulfm_script.specs.declared.fault.RunFault.TheVariants.{Line, Memory, Read, Write}
 use Rattle.ulfm_script.specs.{Buffers.{Drains, HasNoNewline, IsOfLine, Puts, TakesLine}, Written.{IsBeginning, IsBuffered, Outgoing, WritesPart}}
-use Rattle.ulfm_script.specs.Ends.{Claim, EndsAlone, EndsThrough, EndsUpTo, FindsFault, HasFault, HasRunAll, IsOpened, IsTextOf, KnownText, Opens, PrintsAll, PrintsFrom, PrintsSome, RunEnd, RunSoFar, RunsAll, RunsLine, Stage, StopsInLine, StopsInOutput, TakesItem, TakesUpTo, line_at}
+use Rattle.ulfm_script.specs.Ends.{Claim, EndsAlone, EndsThrough, EndsUpTo, FaultyRun, FindsFault, HasFault, HasRunAll, IsOpened, IsTextOf, KnownText, Opens, PrintsAll, PrintsFrom, PrintsSome, RunEnd, RunSoFar, RunsAll, RunsLine, Stage, StoppedRun, StopsInLine, StopsInOutput, TakesItem, TakesUpTo, WholeRun, line_at}
 use Rattle.ulfm_script.specs.Scripts.{Parsed, Language, Script, asked_last, asked_then, header_at, item_at, lines_from, rest_from, script_of, stopped, without_header}
 use Rattle.ulfm_script.proofs.ByteLemmas.{appends_start, appends_then, consumes_keeps, consumes_start, consumes_then, end_behind, taken_of_reader}
 use Rattle.ulfm_script.proofs.ScriptLemmas.{BeginsWith, Comes, asked_from, before_last, comes_cut, comes_end, comes_fault, comes_first, comes_on, comes_unopened, count_on, ended_script, going, kept_header, line_comes, no_header, one_line, one_line_whole, plain_item, script_begins, whole_on}
@@ -122,6 +122,7 @@ stops_inside : (lang : Language) (HasRun : Stage lang) (known b c old mid new : 
     → StopsInLine lang known c IsPart (IsBuffered old (to new w))
 stops_inside lang HasRun known b c old mid new v w part n IsPart i q p k =
     let e = comes_end lang i.done i.ran.heading i.ran.items n i.comes in
+    let run : StoppedRun lang known c IsPart =
     record {
       lines = i.done;
       part = part;
@@ -130,8 +131,8 @@ stops_inside lang HasRun known b c old mid new v w part n IsPart i q p k =
       right = inr (ap (λ (s : Script lang.Item). s.fault) e);
       partly = p;
       printed = all_printed lang i.done i.ran.out i.ran.heading i.ran.items (asked_last n []) e i.prints;
-      told = holds_same old mid new v w i.ran.out i.held k;
-    }
+    } in
+    (run, holds_same old mid new v w i.ran.out i.held k)
 
 -- the writer failed when this was to be written, which some first items of the text print
 to_writer : (lang : Language) (known old mid new : KnownText) (w text out : List ℕ) → IsTextOf known text → PrintsSome lang text out
@@ -166,18 +167,16 @@ pub ended_done : (lang : Language) (HasRun : Stage lang) (known b left old mid :
 ended_done lang HasRun known b left old mid v ahead n i k z =
     let e = comes_end lang i.done i.ran.heading i.ran.items n i.comes in
     let c = prepend_known ahead left in
-    let whole = whole_text known c i.done (consumes_keeps known b c i.done i.taken k) z in (
-      (
-        record {
-          text = i.done;
-          out = i.ran.out;
-          whole = whole;
-          faults = ap (λ (s : Script lang.Item). s.fault) e;
-          printed = all_printed lang i.done i.ran.out i.ran.heading i.ran.items (asked_last n []) e i.prints;
-          told = i.held;
-        },
-        end_behind ahead left z,
-      ),
+    let whole = whole_text known c i.done (consumes_keeps known b c i.done i.taken k) z in
+    let run : WholeRun lang known None =
+    record {
+      text = i.done;
+      out = i.ran.out;
+      whole = whole;
+      faults = ap (λ (s : Script lang.Item). s.fault) e;
+      printed = all_printed lang i.done i.ran.out i.ran.heading i.ran.items (asked_last n []) e i.prints;
+    } in (
+      ((run, i.held), end_behind ahead left z),
       record {
         text = i.done;
         heading = i.ran.heading;
@@ -194,14 +193,16 @@ ended_done lang HasRun known b left old mid v ahead n i k z =
 fault_told : (lang : Language) (known : KnownText) (text : List ℕ) (old new : KnownText) (w out : List ℕ) (heading : Heading) (items : List lang.Item)
     (n m : ℕ) (kind : LineKind) → IsTextOf known text → m ≡ n → script_of lang text ≡ ended_script heading items (stopped n kind)
     → lang.Prints heading.limits items out → IsBuffered old (to new w) out → RunsAll lang known (Some (m, kind)) (IsBuffered old (to new w))
-fault_told lang known text old new w out heading items n m kind whole same e prints held = record {
-  text = text;
-  out = out;
-  whole = whole;
-  faults = ap (λ (s : Script lang.Item). s.fault) e ∙ ap (λ (k : ℕ). Some (k, kind)) (sym same);
-  printed = all_printed lang text out heading items (stopped n kind) e prints;
-  told = held;
-}
+fault_told lang known text old new w out heading items n m kind whole same e prints held =
+    let run : WholeRun lang known (Some (m, kind)) =
+    record {
+      text = text;
+      out = out;
+      whole = whole;
+      faults = ap (λ (s : Script lang.Item). s.fault) e ∙ ap (λ (k : ℕ). Some (k, kind)) (sym same);
+      printed = all_printed lang text out heading items (stopped n kind) e prints;
+    } in
+    (run, held)
 
 -- the text ends inside a line
 pub ended_cut : (lang : Language) (HasRun : Stage lang) (known b left old mid : KnownText) (v ahead line : List ℕ) (n : ℕ)
@@ -229,6 +230,7 @@ fault_found lang known done line behind old new w out heading items n m kind ite
     subst (λ (k : ℕ). lang.Finds heading.limits (items ++ item ∷ more.items) k kind out) (sym same) (finds more.items) in
     let Found : Script lang.Item → Type 0 = λ s. lang.Finds heading.limits s.items m kind out in
     let there : Found (going heading items (asked_then n (Ok item) more)) = found in
+    let run : FaultyRun lang known m kind =
     record {
       text = text;
       heading = heading;
@@ -237,8 +239,8 @@ fault_found lang known done line behind old new w out heading items n m kind ite
       opened = ap (λ (s : Script lang.Item). s.heading) is;
       finds = subst Found (sym is) there;
       printed = some_printed lang text out heading items (asked_then n (Ok item) more) is prints;
-      told = held;
-    }
+    } in
+    (run, held)
 
 -- a line couldn't be run
 pub ended_line : (lang : Language) (Before After : Stage lang) (known b left old mid new : KnownText) (v w ahead line shown kept : List ℕ) (n : ℕ)
@@ -313,10 +315,9 @@ nothing_to_print lang text kind e =
     let Printed : Script lang.Item → Type 0 = λ s. PrintsFrom lang s.heading s.items [] in
     let none : Printed (without_header kind) = refl in subst Printed (sym e) none
 
--- the run stops inside the first line
-stops_first : (lang : Language) (known left old new : KnownText) (w part : List ℕ) (IsPart : Claim) → Consumes known left part → IsPart part
-    → IsBuffered old (to new w) [] → StopsInLine lang known left IsPart (IsBuffered old (to new w))
-stops_first lang known left old new w part IsPart q p held = record {
+-- a run that stopped inside the first line
+abbrev stopped_first : (lang : Language) (known left : KnownText) (part : List ℕ) (IsPart : Claim) → Consumes known left part → IsPart part → StoppedRun lang known left IsPart
+stopped_first lang known left part IsPart q p = record {
   lines = [];
   part = part;
   out = [];
@@ -324,8 +325,12 @@ stops_first lang known left old new w part IsPart q p held = record {
   right = inl refl;
   partly = p;
   printed = nothing_to_print lang [] Header (no_header lang);
-  told = held;
 }
+
+-- the run stops inside the first line
+stops_first : (lang : Language) (known left old new : KnownText) (w part : List ℕ) (IsPart : Claim) → Consumes known left part → IsPart part
+    → IsBuffered old (to new w) [] → StopsInLine lang known left IsPart (IsBuffered old (to new w))
+stops_first lang known left old new w part IsPart q p held = (stopped_first lang known left part IsPart q p, held)
 
 -- memory was refused before the first line
 pub ended_at_once : (lang : Language) (left old : KnownText) (ahead w : List ℕ) → w ≡ []
@@ -343,17 +348,16 @@ ended_unopened lang HasRun text ahead known left old w Memory e k =
 ended_unopened lang HasRun text ahead known left old w Read e k =
     (stops_first lang known left old old w k.0 HasNoNewline (taken_of_reader known left ahead k.0 k.2 k.3) k.1 (holds_nothing old w e), k.2)
 ended_unopened lang HasRun text ahead known left old w Write e k = absurd k
-ended_unopened lang HasRun text ahead known left old w (Line m kind) e k = (
-  inl (record {
-    text = k.0;
-    out = [];
-    whole = k.1;
-    faults = ap (λ (s : Script lang.Item). s.fault) k.3 ∙ ap (λ (n : ℕ). Some (n, kind)) (sym k.2);
-    printed = nothing_to_print lang k.0 kind k.3;
-    told = holds_nothing old w e;
-  }),
-  subst (λ (n : ℕ). TakesUpTo n known (prepend_known ahead left)) (sym k.2) k.4,
-)
+ended_unopened lang HasRun text ahead known left old w (Line m kind) e k =
+    let run : WholeRun lang known (Some (m, kind)) =
+    record {
+      text = k.0;
+      out = [];
+      whole = k.1;
+      faults = ap (λ (s : Script lang.Item). s.fault) k.3 ∙ ap (λ (n : ℕ). Some (n, kind)) (sym k.2);
+      printed = nothing_to_print lang k.0 kind k.3;
+    } in
+    (inl (run, holds_nothing old w e), subst (λ (n : ℕ). TakesUpTo n known (prepend_known ahead left)) (sym k.2) k.4)
 
 -- what a new machine prints couldn't be put
 pub ended_first : (lang : Language) (HasRun : Stage lang) (known left old new : KnownText) (ahead text shown w rest : List ℕ) (fault : RunFault) → w ≡ []
@@ -388,9 +392,9 @@ pub unopened_machine : {M : Type 0} (lang : Language) (HasRun : M → Stage lang
 unopened_machine lang HasRun text old new bytes line free q = (line ++ 10 ∷ [], of_whole_line line free, q)
 
 -- a machine was opened, and what it prints was put
-pub goes_first : (lang : Language) (HasRun : Stage lang) (a b old new : KnownText) (text w rest : List ℕ) → Prints lang HasRun → w ≡ []
+pub goes_first : {lang : Language} {HasRun : Stage lang} {a b old new : KnownText} {text w rest : List ℕ} → Prints lang HasRun → w ≡ []
     → IsOpened lang HasRun a b text → Puts w old text rest new (Ok tt) → Going lang HasRun a b old new rest 2
-goes_first lang HasRun a b old new text w rest told e k p = record {
+goes_first {lang} {text = text} told e k p = record {
   done = k.line ++ 10 ∷ [];
   ran = record { heading = k.heading; items = []; out = text };
   taken = k.taken;
@@ -431,16 +435,8 @@ handed_on {T} (Err e) fault h = ap (λ (f : RunFault). let x : Result T RunFault
 
 -- memory was refused before anything was read
 pub ran_nothing : (lang : Language) (left old : KnownText) (ahead : List ℕ) → EndsThrough lang (prepend_known ahead left) left ahead old old (Err Memory)
-ran_nothing lang left old ahead = record {
-  lines = [];
-  part = [];
-  out = [];
-  taken = consumes_start (prepend_known ahead left);
-  right = inl refl;
-  partly = of_line [] tt;
-  printed = nothing_to_print lang [] Header (no_header lang);
-  told = appends_start old;
-}
+ran_nothing lang left old ahead =
+    let known = prepend_known ahead left in (stopped_first lang known known [] IsOfLine (consumes_start known) (of_line [] tt), appends_start old)
 
 -- what all items print is what the first items print
 all_first : (lang : Language) (text out : List ℕ) → PrintsAll lang text out → PrintsSome lang text out
@@ -454,33 +450,27 @@ printed_first lang text rest out h = from_beginning lang text (text ++ rest) out
 all_to_writer : (lang : Language) (known old mid new : KnownText) (w : List ℕ) (fault : Option (ℕ × LineKind)) → RunsAll lang known fault (IsBuffered old (to mid w))
     → WritesPart mid new w → StopsInOutput lang known (WritesPart old new)
 all_to_writer lang known old mid new w fault h k =
-    to_writer lang known old mid new w h.text h.out h.whole (all_first lang h.text h.out h.printed) h.told k
+    to_writer lang known old mid new w h.0.text h.0.out h.0.whole (all_first lang h.0.text h.0.out h.0.printed) h.1 k
 
 -- the same of a run that stopped inside a line
 stopped_to_writer : (lang : Language) (known left old mid new : KnownText) (w : List ℕ) (IsPart : Claim)
     → StopsInLine lang known left IsPart (IsBuffered old (to mid w)) → WritesPart mid new w → StopsInOutput lang known (WritesPart old new)
 stopped_to_writer lang known left old mid new w IsPart h k =
-    let x = text_of known left (h.lines ++ h.part) h.taken in
-    let e = append_assoc h.lines h.part x.0 in
-    to_writer lang known old mid new w (h.lines ++ (h.part ++ x.0)) h.out (subst (λ (t : List ℕ). IsTextOf known t) e x.1)
-    (printed_first lang h.lines (h.part ++ x.0) h.out h.printed) h.told k
+    let run = h.0 in
+    let x = text_of known left (run.lines ++ run.part) run.taken in
+    let e = append_assoc run.lines run.part x.0 in
+    to_writer lang known old mid new w (run.lines ++ (run.part ++ x.0)) run.out (subst (λ (t : List ℕ). IsTextOf known t) e x.1)
+    (printed_first lang run.lines (run.part ++ x.0) run.out run.printed) h.1 k
 
 -- the same of a run that found a fault
 found_to_writer : (lang : Language) (known old mid new : KnownText) (w : List ℕ) (n : ℕ) (kind : LineKind) → FindsFault lang known n kind (IsBuffered old (to mid w))
     → WritesPart mid new w → StopsInOutput lang known (WritesPart old new)
-found_to_writer lang known old mid new w n kind h k = to_writer lang known old mid new w h.text h.out h.whole h.printed h.told k
+found_to_writer lang known old mid new w n kind h k = to_writer lang known old mid new w h.0.text h.0.out h.0.whole h.0.printed h.1 k
 
--- what waited was written after a run of the whole text
-all_drained : (lang : Language) (known old mid new : KnownText) (w : List ℕ) (fault : Option (ℕ × LineKind)) → RunsAll lang known fault (IsBuffered old (to mid w))
-    → Appends mid new w → RunsAll lang known fault (Appends old new)
-all_drained lang known old mid new w fault h k = record {
-  text = h.text;
-  out = h.out;
-  whole = h.whole;
-  faults = h.faults;
-  printed = h.printed;
-  told = holds_drained old mid new w h.out h.told k;
-}
+-- what waited was written after a run, whatever it was
+drained : {Run : Type 0} (out : Run → List ℕ) (old mid new : KnownText) (w : List ℕ) → ((run : Run) × IsBuffered old (to mid w) (out run)) → Appends mid new w
+    → ((run : Run) × Appends old new (out run))
+drained out old mid new w h k = (h.0, holds_drained old mid new w (out h.0) h.1 k)
 
 -- what a machine has run of the whole text, by what else is said of that run and of its output
 pub ran_all_as : {lang : Language} {HasRun Other : Stage lang} {known : KnownText} {Told Then : Claim} → HasRunAll lang HasRun known Told
@@ -502,48 +492,20 @@ pub ran_all_drained : (lang : Language) (HasRun : Stage lang) (known old mid new
     → Appends mid new w → HasRunAll lang HasRun known (Appends old new)
 ran_all_drained lang HasRun known old mid new w h k = ran_all_as h (λ heading items out has. has) (λ out held. holds_drained old mid new w out held k)
 
--- what waited was written after a run that found a fault
-found_drained : (lang : Language) (known old mid new : KnownText) (w : List ℕ) (n : ℕ) (kind : LineKind) → FindsFault lang known n kind (IsBuffered old (to mid w))
-    → Appends mid new w → FindsFault lang known n kind (Appends old new)
-found_drained lang known old mid new w n kind h k = record {
-  text = h.text;
-  heading = h.heading;
-  out = h.out;
-  whole = h.whole;
-  opened = h.opened;
-  finds = h.finds;
-  printed = h.printed;
-  told = holds_drained old mid new w h.out h.told k;
-}
-
 -- a script that was run to its end, and then what waits was written
 pub ran_to_end : (lang : Language) (known left old mid new : KnownText) (ahead w rest : List ℕ) (result : RunEnd)
     → EndsUpTo lang known left ahead old (to mid w) (Ok tt) → Drains w mid rest new result → EndsThrough lang known left ahead old new result
-ran_to_end lang known left old mid new ahead w rest (Ok done) h k = (all_drained lang known old mid new w None h.0 k.1, h.1)
+ran_to_end lang known left old mid new ahead w rest (Ok done) h k = (drained (λ (run : WholeRun lang known None). run.out) old mid new w h.0 k.1, h.1)
 ran_to_end lang known left old mid new ahead w rest (Err fault) h k =
     let part : EndsThrough lang known left ahead old new (Err Write) = all_to_writer lang known old mid new w None h.0 k.1 in
     rw k.0 part
-
--- what waited was written after a run that stopped inside a line
-stopped_drained : (lang : Language) (known left old mid new : KnownText) (w : List ℕ) (IsPart : Claim) → StopsInLine lang known left IsPart (IsBuffered old (to mid w))
-    → Appends mid new w → StopsInLine lang known left IsPart (Appends old new)
-stopped_drained lang known left old mid new w IsPart h k = record {
-  lines = h.lines;
-  part = h.part;
-  out = h.out;
-  taken = h.taken;
-  right = h.right;
-  partly = h.partly;
-  printed = h.printed;
-  told = holds_drained old mid new w h.out h.told k;
-}
 
 -- what waited was written after a run to the fault of a line
 line_drained : (lang : Language) (known old mid new : KnownText) (w : List ℕ) (n : ℕ) (kind : LineKind)
     → RunsAll lang known (Some (n, kind)) (IsBuffered old (to mid w)) ⊎ FindsFault lang known n kind (IsBuffered old (to mid w)) → Appends mid new w
     → RunsAll lang known (Some (n, kind)) (Appends old new) ⊎ FindsFault lang known n kind (Appends old new)
-line_drained lang known old mid new w n kind (inl h) k = inl (all_drained lang known old mid new w (Some (n, kind)) h k)
-line_drained lang known old mid new w n kind (inr h) k = inr (found_drained lang known old mid new w n kind h k)
+line_drained lang known old mid new w n kind (inl h) k = inl (drained (λ (run : WholeRun lang known (Some (n, kind))). run.out) old mid new w h k)
+line_drained lang known old mid new w n kind (inr h) k = inr (drained (λ (run : FaultyRun lang known n kind). run.out) old mid new w h k)
 
 -- the writer failed then
 line_to_writer : (lang : Language) (known old mid new : KnownText) (w : List ℕ) (n : ℕ) (kind : LineKind)
@@ -558,8 +520,8 @@ pub ran_to_fault : (lang : Language) (known left old mid new : KnownText) (ahead
 ran_to_fault lang known left old mid new ahead w Write other h k = absurd (other refl)
 ran_to_fault lang known left old mid new ahead w (Line n kind) other h k = (line_drained lang known old mid new w n kind h.0 k, h.1)
 ran_to_fault lang known left old mid new ahead w Memory other h k =
-    stopped_drained lang known (prepend_known ahead left) old mid new w IsOfLine h k
-ran_to_fault lang known left old mid new ahead w Read other h k = (stopped_drained lang known left old mid new w HasNoNewline h.0 k, h.1)
+    drained (λ (run : StoppedRun lang known (prepend_known ahead left) IsOfLine). run.out) old mid new w h k
+ran_to_fault lang known left old mid new ahead w Read other h k = (drained (λ (run : StoppedRun lang known left HasNoNewline). run.out) old mid new w h.0 k, h.1)
 
 -- the same, and then the writer failed
 pub ran_to_writer : (lang : Language) (known left old mid new : KnownText) (ahead w : List ℕ) (fault : RunFault) → (fault ≡ Write → ⊥)

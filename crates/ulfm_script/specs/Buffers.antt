@@ -46,6 +46,11 @@ TakesPart most old new before kept (Err error) = new ≡ old
 abbrev pub IsOfLine : List ℕ → Type 0
 IsOfLine bytes = (line : List ℕ) × HasNoNewline line × IsBeginning bytes (line ++ 10 ∷ [])
 
+-- how a text ends behind what is kept of its last line
+abbrev pub text_end : List ℕ → LineEnd
+text_end [] = Done
+text_end (x ∷ kept) = Cut
+
 -- A line was taken, or what stands behind the last newline, and so many of its first bytes are kept; nothing where no byte was left. Where the
 -- reader failed inside it, nothing is pending.
 abbrev pub TakesLine : ℕ → Option (List ℕ) → Option (List ℕ) → List ℕ → List ℕ → Result LineEnd RunFault → Type 0

@@ -44,17 +44,20 @@ ended (Err fault) = Err fault
 abbrev pub Claim : Type 1
 Claim = List ℕ → Type 0
 
--- The run of a reader's whole text, which has this first fault or none: what all items up to there print is told.
-pub record RunsAll (lang : Language) (known : KnownText) (fault : Option (ℕ × LineKind)) (Told : Claim) : Type 0 where
+-- the run of a reader's whole text, which has this first fault or none, and what all items up to there print
+pub record WholeRun (lang : Language) (known : KnownText) (fault : Option (ℕ × LineKind)) : Type 0 where
   pub text : List ℕ
   pub out : List ℕ
   pub whole : IsTextOf known text
   pub faults : (script_of lang text).fault ≡ fault
   pub printed : PrintsAll lang text out
-  pub told : Told out
 
--- The run of a reader's whole text that found a fault which no line alone shows: what the items before it print is told.
-pub record FindsFault (lang : Language) (known : KnownText) (number : ℕ) (kind : LineKind) (Told : Claim) : Type 0 where
+-- such a run, whose output is told
+abbrev pub RunsAll : Language → KnownText → Option (ℕ × LineKind) → Claim → Type 0
+RunsAll lang known fault Told = (run : WholeRun lang known fault) × Told run.out
+
+-- the run of a reader's whole text that found a fault which no line alone shows, and what the items before it print
+pub record FaultyRun (lang : Language) (known : KnownText) (number : ℕ) (kind : LineKind) : Type 0 where
   pub text : List ℕ
   pub heading : Heading
   pub out : List ℕ
@@ -62,7 +65,10 @@ pub record FindsFault (lang : Language) (known : KnownText) (number : ℕ) (kind
   pub opened : (script_of lang text).heading ≡ Some heading
   pub finds : lang.Finds heading.limits (script_of lang text).items number kind out
   pub printed : PrintsSome lang text out
-  pub told : Told out
+
+-- such a run, whose output is told
+abbrev pub FindsFault : Language → KnownText → ℕ → LineKind → Claim → Type 0
+FindsFault lang known number kind Told = (run : FaultyRun lang known number kind) × Told run.out
 
 -- What was taken of the reader's bytes are whole lines, so many that the next one has this number, and then a part of that line or all of it.
 pub record TakesUpTo (number : ℕ) (known left : KnownText) : Type 0 where
@@ -77,9 +83,9 @@ pub record TakesUpTo (number : ℕ) (known left : KnownText) : Type 0 where
 abbrev pub HasNoFault : Language → List ℕ → Type 0
 HasNoFault lang text = (text ≡ []) ⊎ ((script_of lang text).fault ≡ None)
 
--- A run that stopped inside a line: what was taken of the reader's bytes are lines without a fault, of which the output of all items is
--- told, and then a part of the line that was under work.
-pub record StopsInLine (lang : Language) (known left : KnownText) (IsPart Told : Claim) : Type 0 where
+-- A run that stopped inside a line: what was taken of the reader's bytes are lines without a fault, with the output of all items,
+-- and then a part of the line that was under work.
+pub record StoppedRun (lang : Language) (known left : KnownText) (IsPart : Claim) : Type 0 where
   pub lines : List ℕ
   pub part : List ℕ
   pub out : List ℕ
@@ -87,7 +93,10 @@ pub record StopsInLine (lang : Language) (known left : KnownText) (IsPart Told :
   pub right : HasNoFault lang lines
   pub partly : IsPart part
   pub printed : PrintsAll lang lines out
-  pub told : Told out
+
+-- such a run, whose output is told
+abbrev pub StopsInLine : Language → KnownText → KnownText → Claim → Claim → Type 0
+StopsInLine lang known left IsPart Told = (run : StoppedRun lang known left IsPart) × Told run.out
 
 -- A run whose writer failed: a part of what some first items print is told.
 pub record StopsInOutput (lang : Language) (known : KnownText) (ToldInPart : Claim) : Type 0 where

@@ -41,7 +41,7 @@ pub enum LineEnd {
 }
 
 impl<A: Allocator> Input<A> {
-    ghost use Rattle.ulfm_script.specs.Buffers.{line_of, pending, unread, Fills, KeepsFirst, TakesLine, TakesPart};
+    ghost use Rattle.ulfm_script.specs.Buffers.{line_of, pending, text_end, unread, Fills, KeepsFirst, TakesLine, TakesPart};
 
     /// Nothing is read yet. Only memory can be refused, for 8 KB.
     pub fn new(alloc: A) -> Result<Input<A>, AllocError>
@@ -113,6 +113,17 @@ impl<A: Allocator> Input<A> {
         }
     }
 
+    /// How a text ends behind what is kept of its last line.
+    fn end_behind(line: &[u8]) -> LineEnd
+        ensures { result ≡ text_end line.now }
+    {
+        if line.is_empty() {
+            LineEnd::Done
+        } else {
+            LineEnd::Cut
+        }
+    }
+
     /// Takes a line up to its newline, and keeps as many of its first bytes as `kept` says, in place of what the vector held: one more
     /// than a line may have shows whether it is too long.
     ///
@@ -134,10 +145,7 @@ impl<A: Allocator> Input<A> {
                 return Err(fault);
             }
             if self.start == self.end {
-                if line.is_empty() {
-                    return Ok(LineEnd::Done);
-                }
-                return Ok(LineEnd::Cut);
+                return Ok(Self::end_behind(line));
             }
             match self.take_part(line, kept) {
                 Err(_) => return Err(RunFault::Memory),

@@ -79,7 +79,7 @@ fn read_limits(kind: HeaderKind, fields: Option<&[u8]>) -> Result<Limits, LineKi
     ensures { result ≡ read_limits kind (rest_at fields.entry) }
 {
     let (version, ranks, comms, rounds) = four_words(fields)?;
-    if version != kind.version().word() {
+    if version != kind.version_word() {
         return Err(LineKind::Header);
     }
     let ranks = read_number(ranks)?;
@@ -102,7 +102,7 @@ pub fn print_header<A: Allocator>(
 {
     text.extend_from_slice(kind.word())?;
     text.push(b' ')?;
-    text.extend_from_slice(kind.version().word())?;
+    text.extend_from_slice(kind.version_word())?;
     print_behind(text, limits.ranks)?;
     print_behind(text, limits.comms)?;
     print_behind(text, limits.rounds)

@@ -1,6 +1,6 @@
 //! The three kinds of texts, which the first word of the first line tells apart.
 ghost use Rattle.std.specs.Prelude.{◌≡◌};
-ghost use Rattle.ulfm_script.specs.Headers.{kind_text, version_of};
+ghost use Rattle.ulfm_script.specs.Headers.{kind_text, version_of, version_text};
 
 use crate::version::Version;
 
@@ -34,6 +34,16 @@ impl HeaderKind {
         match self {
             HeaderKind::Calls(version) => version,
             HeaderKind::Steps | HeaderKind::Trace => Version::First,
+        }
+    }
+
+    /// The second word of such a line, which names the version.
+    pub fn version_word(self) -> &'static [u8]
+        ensures { result.now ≡ version_text self }
+    {
+        match self {
+            HeaderKind::Calls(Version::Second) => b"2",
+            HeaderKind::Calls(Version::First) | HeaderKind::Steps | HeaderKind::Trace => b"1",
         }
     }
 }

@@ -162,6 +162,20 @@ fn are_plain(digits: &[u8]) -> bool
     !digits.is_empty() && (digits.len() == 1 || digits[0] != b'0')
 }
 
+/// The value of a word's digits in a base, each by this function, or else this fault.
+macro_rules! value_of {
+    ($word:ident, $base:literal, $digit_of:ident, else $fault:expr) => {{
+        let mut value = 0;
+        for byte in $word {
+            let Some(digit) = $digit_of(*byte) else {
+                return Err($fault);
+            };
+            value = value * $base + digit;
+        }
+        value
+    }};
+}
+
 /// A decimal number of at most four digits, without leading zeros.
 pub fn read_number(word: &[u8]) -> Result<u16, LineKind>
     ensures { result ≡ read_number word.now }
@@ -186,14 +200,7 @@ fn read_digits(most: usize, word: &[u8]) -> Result<u32, LineKind>
     if word.is_empty() || word.len() > most || (word.len() > 1 && word[0] == b'0') {
         return Err(LineKind::Number);
     }
-    let mut value = 0;
-    for byte in word {
-        let Some(digit) = digit_value(*byte) else {
-            return Err(LineKind::Number);
-        };
-        value = value * 10 + digit;
-    }
-    Ok(value)
+    Ok(value_of!(word, 10, digit_value, else LineKind::Number))
 }
 
 /// A number that is at most `most`.
@@ -259,25 +266,16 @@ fn read_hex(word: &[u8]) -> Result<u64, LineKind>
     requires { length word.now ≤ whole_digits }
     ensures { result ≡ digits_after Flag 16 hex_of 0 word.now }
 {
-    let mut bits = 0;
-    for byte in word {
-        let Some(digit) = hex_value(*byte) else {
-            return Err(LineKind::Flag);
-        };
-        bits = bits * 16 + digit;
-    }
-    Ok(bits)
+    Ok(value_of!(word, 16, hex_value, else LineKind::Flag))
 }
 
 #[inline(always)]
 fn hex_value(byte: u8) -> Option<u64>
     ensures { result ≡ hex_of byte }
 {
-    if byte >= b'0' && byte <= b'9' {
-        Some(u64::from(byte - b'0'))
-    } else if byte >= b'a' && byte <= b'f' {
-        Some(u64::from(byte - b'a') + 10)
-    } else {
-        None
+    match digit_value(byte) {
+        Some(digit) => Some(u64::from(digit)),
+        None if byte >= b'a' && byte <= b'f' => Some(u64::from(byte - b'a') + 10),
+        None => None,
     }
 }

@@ -18,16 +18,10 @@ returns-in_err-put g c =
     )
 
 pub lines-init : goal.lines-init
-lines-init g c =
-    let k = g.R.Read.remaining in
-    let w = g.W.Write.contents in
-    let m = g.M.Interpreter in
-    let machine = c.args.machine.now in (
-      omega arith,
-      λ plan known opened. goes_first m.lang (m.HasRun plan machine) known (unread k c.args.input.now c.args.reader.now) (w c.args.writer.now)
-          (w c.put.new.writer) (m.text machine) (waiting c.args.output.now) (waiting c.put.new.self) (g.met.M.Interpreter.prints plan machine)
-          c.requires.empty opened (rw c.text.ensures at c.in_ok-put.ensures.puts),
-    )
+lines-init g c = (
+  omega arith,
+  λ plan known opened. goes_first (g.met.M.Interpreter.prints plan c.args.machine.now) c.requires.empty opened (rw c.text.ensures at c.in_ok-put.ensures.puts),
+)
 
 pub returns-in_err-next_line : goal.returns-in_err-next_line
 returns-in_err-next_line g c =
