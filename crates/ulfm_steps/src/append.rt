@@ -6,7 +6,6 @@ ghost use Rattle.ulfm_steps.specs.Appends.{wanted, AppendTakes, Appends, FoundEm
 ghost use Rattle.ulfm_steps.specs.Turns.{WhileOn};
 
 use crate::item::Item;
-use crate::items::{load_item, room_for, set_item};
 use std::alloc::Allocator;
 use ulfm_laws::meld::Packed;
 use ulfm_model::event::Caller;
@@ -69,12 +68,12 @@ impl Append {
         ensures within { WhileOn result (self.new.index < room self.old.item (limits_in (view_of P.pack (W.name words.now) (W.sight pass.old)))) }
     {
         let standing = if self.empty {
-            match set_item(words, pass, self.by, self.item, self.index) {
+            match self.item.set_at(words, pass, self.by, self.index) {
                 Ok(()) => return Some(Appended::Won(self.index)),
                 Err(other) => other,
             }
         } else {
-            match load_item(words, pass, self.item, self.index) {
+            match self.item.load_at(words, pass, self.index) {
                 None => {
                     self.empty = true;
                     return None;
@@ -87,7 +86,7 @@ impl Append {
         }
         self.empty = false;
         self.index += 1;
-        if self.index == room_for(self.item, words.limits()) {
+        if self.index == self.item.room_in(words.limits()) {
             return Some(Appended::Full);
         }
         None
@@ -143,7 +142,7 @@ impl Append {
         ensures { Appends P.meld W.alone (wanted self.item self.by) (2 * room self.item (limits_in (view_of P.pack (W.name words.now) (W.sight pass.old))))
             (view_of P.pack (W.name words.now) (W.sight pass.old)) result (view_of P.pack (W.name words.now) (W.sight pass.new)) }
     {
-        let places = room_for(self.item, words.limits());
+        let places = self.item.room_in(words.limits());
         if self.index == places {
             return Appended::Full;
         }

@@ -6,7 +6,6 @@ pub mod arrivals;
 pub mod blocks;
 pub mod group;
 pub mod item;
-mod items;
 pub mod look;
 pub mod read_on;
 pub mod settle;

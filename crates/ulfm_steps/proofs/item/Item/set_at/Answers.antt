@@ -1,5 +1,5 @@
 use Rattle.ulfm_steps.proofs.Appending.{comm_may, comm_stands, failure_stands}
-use Rattle.ulfm_steps.proofs.items.set_item.Goals as goal
+use Rattle.ulfm_steps.proofs.item.Item.set_at.Goals as goal
 
 pub set_comm-requires-clause-may : goal.set_comm-requires-clause-may
 set_comm-requires-clause-may g c =

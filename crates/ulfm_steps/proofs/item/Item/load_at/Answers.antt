@@ -1,6 +1,6 @@
 use Rattle.std.proofs.Common.{sym, ◌∙◌, arith}
 use Rattle.ulfm_steps.proofs.Appending.{comm_stands, failure_stands, no_comm, no_failure}
-use Rattle.ulfm_steps.proofs.items.load_item.Goals as goal
+use Rattle.ulfm_steps.proofs.item.Item.load_at.Goals as goal
 
 pub load_failure-requires-clause-within : goal.load_failure-requires-clause-within
 load_failure-requires-clause-within g c = rw c.in-Failure.is at c.requires.within
