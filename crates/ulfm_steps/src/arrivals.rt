@@ -1,12 +1,11 @@
 // Reading who has arrived in a barrier round: first the members among the declared ranks, in the order of their failures,
 // then the others, in the group's order, up to the first who is missing. A member that was found there stays there; that one
 // is missing holds at its load alone.
-ghost use Rattle.std.specs.Prelude.{◌≡◌, ◌+◌, ◌-◌, ◌<◌, ◌≤◌, [], false, true, length, if◌then◌else◌, IfSome, MatchBool};
+ghost use Rattle.std.specs.Prelude.{◌≡◌, ◌-◌, ◌<◌, ◌≤◌, [], false, true, length, IfSome, MatchBool};
 ghost use Rattle.std.specs.List.{list_all};
 ghost use Rattle.std.specs.List.Sorted.{IsStrictlyIncreasing};
 ghost use Rattle.ulfm_model.specs.History.{has_arrived};
-ghost use Rattle.ulfm_words.specs.Places.{IsCell};
-ghost use Rattle.ulfm_words.specs.Steps.{view_of, IsView, Goes, limits_in, seen_in, steps_in};
+ghost use Rattle.ulfm_words.specs.Steps.{view_of, IsView, Goes, seen_in, steps_in};
 ghost use Rattle.ulfm_steps.specs.Arriving.{ArrivalsTake, AtArrival, IsAsked, IsFurther, IsNextOther, IsPosition, MissingAre, asked_before, asked_members, asks, in_order};
 ghost use Rattle.ulfm_steps.specs.Rounds.{IsRoundIn};
 ghost use Rattle.ulfm_steps.specs.Among.{among};
@@ -67,30 +66,6 @@ fn is_asked(group: &[u16], declared: &[u16], others: bool, rank: u16) -> bool
     is_member(group, rank)
 }
 
-// Whether a rank has arrived, by one load. A rank that isn't asked about counts as arrived, without a load.
-#[inline(always)]
-fn is_there<P: Packed, A: Allocator, W: Words<P, A>>(
-    words: &W,
-    pass: &mut W::Pass,
-    comm: u16,
-    round: u16,
-    rank: u16,
-    asked: bool,
-) -> bool
-    requires of { IsView P.meld (view_of P.pack (W.name words.now) (W.sight pass.old)) }
-    requires within { asked ≡ true → IsCell (limits_in (view_of P.pack (W.name words.now) (W.sight pass.old))) comm round rank }
-    ensures goes { Goes P.meld W.alone false 1 (view_of P.pack (W.name words.now) (W.sight pass.old)) (view_of P.pack (W.name words.now) (W.sight pass.new)) }
-    ensures steps { steps_in (view_of P.pack (W.name words.now) (W.sight pass.new))
-        ≡ steps_in (view_of P.pack (W.name words.now) (W.sight pass.old)) + (if asked then 1 else 0) }
-    ensures arrived { MatchBool result (asked ≡ true → has_arrived (seen_in (view_of P.pack (W.name words.now) (W.sight pass.new))) comm round rank ≡ true)
-        ((asked ≡ true) × (has_arrived (seen_in (view_of P.pack (W.name words.now) (W.sight pass.new))) comm round rank ≡ false)) }
-{
-    if !asked {
-        return true;
-    }
-    load_arrival(words, pass, comm, round, rank)
-}
-
 // Reads the declared members, or the others, from a place on, up to the first who is missing: whether all have arrived.
 #[inline(always)]
 fn arrived_from<P: Packed, A: Allocator, W: Words<P, A>>(
@@ -119,7 +94,10 @@ fn arrived_from<P: Packed, A: Allocator, W: Words<P, A>>(
     for at in start..ranks.len() {
         let rank = ranks[at];
         let asked = is_asked(group, declared, others, rank);
-        if !is_there(words, pass, comm, round, rank, asked) {
+        if !asked {
+            continue;
+        }
+        if !load_arrival(words, pass, comm, round, rank) {
             return false;
         }
     }

@@ -79,47 +79,36 @@ before g c =
           (subst (λ b. list_all (has_arrived (g.W.Words.sight c.args.pass.now).seen a.comm a.round) (asked_before group declared b a.next) ≡ true) (turned_on a.others w.if-not-self.false) c.requires.at.arrived)
     ]
 
--- no fewer stand before it than before the machine's own place
-passed : (g : _) (c : Joined-not-self g) → length (asked_before c.args.group.now c.args.declared.now c.args.self.others c.args.self.next) ≤ length (asked_before c.args.group.now c.args.declared.now true c.if-not-self.start)
-passed g c =
+-- Where the others are begun with: no fewer stand before that than before the machine's own place, and no more than there are in all; one load was made
+-- for each in between, at most.
+record IsReached (g : _) (c : Joined-not-self g) : Type 0 where
+  passed : length (asked_before c.args.group.now c.args.declared.now c.args.self.others c.args.self.next) ≤ length (asked_before c.args.group.now c.args.declared.now true c.if-not-self.start)
+  left : length (asked_before c.args.group.now c.args.declared.now true c.if-not-self.start) ≤ length (in_order c.args.group.now c.args.declared.now)
+  went : Goes g.P.Meld.meld g.W.Words.alone false (length (asked_before c.args.group.now c.args.declared.now true c.if-not-self.start) - length (asked_before c.args.group.now c.args.declared.now c.args.self.others c.args.self.next)) (view_of g.P.Packed.pack (g.W.Words.name c.args.words.now) (g.W.Words.sight c.args.pass.now)) (view_of g.P.Packed.pack (g.W.Words.name c.args.words.now) (g.W.Words.sight c.if-not-self.pass))
+
+reached : (g : _) (c : Joined-not-self g) → IsReached g c
+reached g c =
     let a = c.args.self in
-    let group = c.args.group.now in
-    let declared = c.args.declared.now in
+    let before = asked_before c.args.group.now c.args.declared.now in
+    let first = ap length (others_first c.args.group.now c.args.declared.now) in
     elim c.if-not-self.branch [
       | then-not-self+else-not-arrived_from w ↦
           let off = turned_off a.others w.if-not-self.true in
-          let fewer = asked_fewer group declared a.others a.next c.requires.at.asked in
-          let all = ap (λ b. length (asked_members group declared b)) off in
-          rw w.start-is (omega (arith, fewer, all, ap length (others_first group declared)))
-      | else-not-self w ↦ let same = ap (λ b. length (asked_before group declared b a.next)) (turned_on a.others w.if-not-self.false) in rw w.start-is (omega (arith, same))
-    ]
-
--- .. and no more than there are in all
-left : (g : _) (c : Joined-not-self g) → length (asked_before c.args.group.now c.args.declared.now true c.if-not-self.start) ≤ length (in_order c.args.group.now c.args.declared.now)
-left g c =
-    let a = c.args.self in
-    let group = c.args.group.now in
-    let declared = c.args.declared.now in
-    elim c.if-not-self.branch [
-      | then-not-self+else-not-arrived_from w ↦ rw w.start-is (omega (arith, ap length (others_first group declared), listed_few group declared))
-      | else-not-self w ↦
-          let fewer = asked_left group declared a.others a.next c.requires.at.asked in
-          let same = ap (λ b. length (asked_before group declared b a.next)) (turned_on a.others w.if-not-self.false) in rw w.start-is (omega (arith, fewer, same))
-    ]
-
--- one load was made for each in between, at most
-went : (g : _) (c : Joined-not-self g)
-    → Goes g.P.Meld.meld g.W.Words.alone false (length (asked_before c.args.group.now c.args.declared.now true c.if-not-self.start) - length (asked_before c.args.group.now c.args.declared.now c.args.self.others c.args.self.next)) (view_of g.P.Packed.pack (g.W.Words.name c.args.words.now) (g.W.Words.sight c.args.pass.now)) (view_of g.P.Packed.pack (g.W.Words.name c.args.words.now) (g.W.Words.sight c.if-not-self.pass))
-went g c =
-    let a = c.args.self in
-    let group = c.args.group.now in
-    let declared = c.args.declared.now in
-    elim c.if-not-self.branch [
-      | then-not-self+else-not-arrived_from w ↦
+          let all = ap (λ b. length (asked_members c.args.group.now c.args.declared.now b)) off in
+          let same = ap (λ b. length (before b a.next)) off in
           let e = w.arrived_from.ensures.goes in
-          let same = ap (λ b. length (asked_before group declared b a.next)) (turned_off a.others w.if-not-self.true) in
-          rw (w.pass-is, w.start-is) (record { of = e.of; did = e.did; cached = e.cached; caches = e.caches; onward = e.onward; steps = omega (arith, e.steps, same, ap length (others_first group declared)) })
-      | else-not-self w ↦ rw w.pass-is (goes_none g.P.Meld.meld g.W.Words.alone (over g.P.Packed.pack (g.W.Words.name c.args.words.now)) _ (g.W.Words.sight c.args.pass.now) c.requires.of)
+          record {
+            passed = rw w.start-is (omega (arith, asked_fewer c.args.group.now c.args.declared.now a.others a.next c.requires.at.asked, all, first));
+            left = rw w.start-is (omega (arith, first, listed_few c.args.group.now c.args.declared.now));
+            went = rw (w.pass-is, w.start-is) (record { of = e.of; did = e.did; cached = e.cached; caches = e.caches; onward = e.onward; steps = omega (arith, e.steps, same, first) });
+          }
+      | else-not-self w ↦
+          let same = ap (λ b. length (before b a.next)) (turned_on a.others w.if-not-self.false) in
+          record {
+            passed = rw w.start-is (omega (arith, same));
+            left = rw w.start-is (omega (arith, asked_left c.args.group.now c.args.declared.now a.others a.next c.requires.at.asked, same));
+            went = rw w.pass-is (goes_none g.P.Meld.meld g.W.Words.alone (over g.P.Packed.pack (g.W.Words.name c.args.words.now)) _ (g.W.Words.sight c.args.pass.now) c.requires.of);
+          }
     ]
 
 -- a load was made, or somebody is asked about
@@ -138,7 +127,7 @@ some_step a b d X (inl lt) le on more = omega (arith, lt, on)
 some_step a b d X (inr x) le on more = omega (arith, le, more x)
 
 pub arrived_from-requires-2-clause-of : goal.arrived_from-requires-2-clause-of
-arrived_from-requires-2-clause-of g c = (went g (goal.at.arrived_from-requires-2-clause-of g c).Joined-not-self).of
+arrived_from-requires-2-clause-of g c = (reached g (goal.at.arrived_from-requires-2-clause-of g c).Joined-not-self).went.of
 
 pub arrived_from-requires-2-clause-within : goal.arrived_from-requires-2-clause-within
 arrived_from-requires-2-clause-within g c = begins g (goal.at.arrived_from-requires-2-clause-within g c).Joined-not-self
@@ -149,24 +138,24 @@ arrived_from-requires-2-clause-before g c = before g (goal.at.arrived_from-requi
 pub returns-then-not-arrived_from-2-clause-goes : goal.returns-then-not-arrived_from-2-clause-goes
 returns-then-not-arrived_from-2-clause-goes g c =
     let at = (goal.at.returns-then-not-arrived_from-2-clause-goes g c).Joined-not-self in
-    goes_then g.P.Meld.meld g.W.Words.alone (over g.P.Packed.pack (g.W.Words.name c.args.words.now)) _ _ _ (g.W.Words.sight c.args.pass.now) (g.W.Words.sight c.if-not-self.pass) (g.W.Words.sight c.arrived_from-2.new.pass) (passed g at) (left g at) (went g at)
+    goes_then g.P.Meld.meld g.W.Words.alone (over g.P.Packed.pack (g.W.Words.name c.args.words.now)) _ _ _ (g.W.Words.sight c.args.pass.now) (g.W.Words.sight c.if-not-self.pass) (g.W.Words.sight c.arrived_from-2.new.pass) (reached g at).passed (reached g at).left (reached g at).went
     c.arrived_from-2.ensures.goes
 
 pub returns-then-not-arrived_from-2-clause-more : goal.returns-then-not-arrived_from-2-clause-more
 returns-then-not-arrived_from-2-clause-more g c =
     let at = (goal.at.returns-then-not-arrived_from-2-clause-more g c).Joined-not-self in
-    some_step _ _ _ _ (stepped g at) (went g at).onward c.arrived_from-2.ensures.goes.onward c.arrived_from-2.ensures.more
+    some_step _ _ _ _ (stepped g at) (reached g at).went.onward c.arrived_from-2.ensures.goes.onward c.arrived_from-2.ensures.more
 
 pub returns-clause-goes : goal.returns-clause-goes
 returns-clause-goes g c =
     let at = (goal.at.returns-clause-goes g c).Joined-not-self in
-    goes_then g.P.Meld.meld g.W.Words.alone (over g.P.Packed.pack (g.W.Words.name c.args.words.now)) _ _ _ (g.W.Words.sight c.args.pass.now) (g.W.Words.sight c.if-not-self.pass) (g.W.Words.sight c.arrived_from-2.new.pass) (passed g at) (left g at) (went g at)
+    goes_then g.P.Meld.meld g.W.Words.alone (over g.P.Packed.pack (g.W.Words.name c.args.words.now)) _ _ _ (g.W.Words.sight c.args.pass.now) (g.W.Words.sight c.if-not-self.pass) (g.W.Words.sight c.arrived_from-2.new.pass) (reached g at).passed (reached g at).left (reached g at).went
     c.arrived_from-2.ensures.goes
 
 pub returns-clause-more : goal.returns-clause-more
 returns-clause-more g c =
     let at = (goal.at.returns-clause-more g c).Joined-not-self in
-    some_step _ _ _ _ (stepped g at) (went g at).onward c.arrived_from-2.ensures.goes.onward c.arrived_from-2.ensures.more
+    some_step _ _ _ _ (stepped g at) (reached g at).went.onward c.arrived_from-2.ensures.goes.onward c.arrived_from-2.ensures.more
 
 pub returns-then-not-arrived_from-2-clause-are : goal.returns-then-not-arrived_from-2-clause-are
 returns-then-not-arrived_from-2-clause-are g c =
