@@ -73,6 +73,12 @@ reads_on group count at old new whole stands done goes_on begins = record { goes
 pub fewer_found : (r : Bool) (found count : ℕ) → r ≡ (found == count) → r ≡ false → found ≤ count → found < count
 fewer_found r found count is out few = let apart = eqb-false found count (sym is ∙ out) in omega (arith, apart, few)
 
+-- the load of the place past a beginning of a longer list gives an element
+pub no_end : (seen whole later : List ℕ) → IsPrefix seen whole → length seen < length whole → IsPrefix whole later → slice_get later (length seen) ≡ None → ⊥
+no_end seen whole later begins more grown none =
+    let all = whole_found seen later (prefix_trans seen whole later begins grown) none in
+    absurd (omega (arith, more, length_prefix whole later grown, ap length all))
+
 module _ (group : List ℕ) (count : ℕ) (at : ReadOn) (seen whole : List ℕ) (may : MayReadOn group count seen whole) (stands : AtFailure group count at seen) (more : at.found < count) where
   -- the list goes on past what was seen
   pub list_goes_on : length seen < length whole
@@ -81,12 +87,6 @@ module _ (group : List ℕ) (count : ℕ) (at : ReadOn) (seen whole : List ℕ) 
       let fewer : length (filter (has group) (take at.reach seen)) < count = omega (arith, stands.counted, more) in
       let below = goes_further (has group) count at.reach seen whole may.begins stands.within fewer may.enough in
       omega (arith, below, last)
-
-  -- so the load of its next place gives a rank
-  pub no_end : (later : List ℕ) → IsPrefix whole later → slice_get later (length seen) ≡ None → ⊥
-  no_end later grown none =
-      let all = whole_found seen later (prefix_trans seen whole later may.begins grown) none in
-      absurd (omega (arith, list_goes_on, length_prefix whole later grown, ap length all))
 
   -- with that rank one failure more is gone through
   pub rank_further : (r : ℕ) (next : ReadOn) → next.reach ≡ at.reach + 1 → next.found ≡ at.found + cond (has group r) 1 0 → AtFailure group count next (seen ++ r ∷ [])

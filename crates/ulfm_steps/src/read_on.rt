@@ -1,6 +1,6 @@
 // Reading on in the list of failures, from what was seen, until so many members of a group are among the failures that were
 // seen. No place is loaded but those that have to be.
-ghost use Rattle.std.specs.Prelude.{◌≡◌, ◌==◌, ◌<◌, ◌≤◌, ◌+◌, false, true, vec_capacity, vec_len};
+ghost use Rattle.std.specs.Prelude.{◌≡◌, ◌==◌, ◌<◌, ◌≤◌, ◌+◌, ◌++◌, ◌∷◌, [], false, true, length, vec_capacity, vec_len};
 ghost use Rattle.std.specs.List.Sorted.{IsStrictlyIncreasing};
 ghost use mathlib.Core.List.{IsPrefix};
 ghost use Rattle.ulfm_model.specs.History.{failures};
@@ -19,6 +19,31 @@ pub struct ReadOn {
     pub reach: usize,
     /// How many members of the group are among these.
     pub found: u16,
+}
+
+// One load, of the list's next place, which has a rank: that rank, which then stands behind what was seen.
+#[inline(always)]
+fn load_next<P: Packed, A: Allocator, W: Words<P, A>, B: Allocator>(
+    words: &W,
+    pass: &mut W::Pass,
+    seen: &mut Vec<u16, B>,
+) -> u16
+    requires of { IsView P.meld (view_of P.pack (W.name words.now) (W.sight pass.old)) }
+    requires begins { IsPrefix seen.old.items (failures (seen_in (view_of P.pack (W.name words.now) (W.sight pass.old)))) }
+    requires more { length seen.old.items < length (failures (seen_in (view_of P.pack (W.name words.now) (W.sight pass.old)))) }
+    requires room { (limits_in (view_of P.pack (W.name words.now) (W.sight pass.old))).ranks ≤ vec_capacity seen.old }
+    ensures goes { Goes P.meld W.alone false 1 (view_of P.pack (W.name words.now) (W.sight pass.old)) (view_of P.pack (W.name words.now) (W.sight pass.new)) }
+    ensures takes { ReadOnTakesIn false seen.old.items seen.new.items (view_of P.pack (W.name words.now) (W.sight pass.old))
+        (view_of P.pack (W.name words.now) (W.sight pass.new)) }
+    ensures next { seen.new.items ≡ seen.old.items ++ result ∷ [] }
+    ensures begins { IsPrefix seen.new.items (failures (seen_in (view_of P.pack (W.name words.now) (W.sight pass.new)))) }
+    ensures room { vec_capacity seen.old ≤ vec_capacity seen.new }
+{
+    let Some(rank) = load_failure(words, pass, seen.len() as u16) else {
+        unreachable!()
+    };
+    let _ = seen.push(rank);
+    rank
 }
 
 impl ReadOn {
@@ -45,38 +70,6 @@ impl ReadOn {
         ensures { result ≡ (self.now.found == count) }
     {
         self.found == count
-    }
-
-    // One load, of the list's next place, which has a rank.
-    #[inline(always)]
-    fn step<P: Packed, A: Allocator, W: Words<P, A>, B: Allocator>(
-        &mut self,
-        words: &W,
-        pass: &mut W::Pass,
-        group: &[u16],
-        count: u16,
-        seen: &mut Vec<u16, B>,
-    )
-        requires of { IsView P.meld (view_of P.pack (W.name words.now) (W.sight pass.old)) }
-        requires may { MayReadOn group.now count seen.old.items (failures (seen_in (view_of P.pack (W.name words.now) (W.sight pass.old)))) }
-        requires at { AtFailure group.now count self.old seen.old.items }
-        requires more { self.old.found < count }
-        requires room { (limits_in (view_of P.pack (W.name words.now) (W.sight pass.old))).ranks ≤ vec_capacity seen.old }
-        ensures goes { Goes P.meld W.alone false 1 (view_of P.pack (W.name words.now) (W.sight pass.old)) (view_of P.pack (W.name words.now) (W.sight pass.new)) }
-        ensures takes { ReadOnTakesIn false seen.old.items seen.new.items (view_of P.pack (W.name words.now) (W.sight pass.old))
-            (view_of P.pack (W.name words.now) (W.sight pass.new)) }
-        ensures at { AtFailure group.now count self.new seen.new.items }
-        ensures further { vec_len seen.new ≡ vec_len seen.old + 1 }
-        ensures goes_on { IsPrefix seen.old.items seen.new.items }
-        ensures begins { IsPrefix seen.new.items (failures (seen_in (view_of P.pack (W.name words.now) (W.sight pass.new)))) }
-        ensures room { vec_capacity seen.old ≤ vec_capacity seen.new }
-    {
-        let Some(rank) = load_failure(words, pass, seen.len() as u16) else {
-            unreachable!()
-        };
-        let _ = seen.push(rank);
-        self.reach += 1;
-        self.found += u16::from(is_member(group, rank));
     }
 
     /// One step, or, where the whole call is made at once, all that are left: so many members were found then.
@@ -108,7 +101,9 @@ impl ReadOn {
         ensures done { whole ≡ true → self.new.found ≡ count }
     {
         loop {
-            self.step(words, pass, group, count, seen);
+            let rank = load_next(words, pass, seen);
+            self.reach += 1;
+            self.found += u16::from(is_member(group, rank));
             if !whole || self.is_done(count) {
                 return;
             }

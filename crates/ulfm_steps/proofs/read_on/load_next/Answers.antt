@@ -1,21 +1,19 @@
-use Rattle.std.proofs.Common.{◌≡◌, ◌<◌, ◌+◌, ◌-◌, cond, [], ◌∷◌, ◌++◌, length, slice_get, refl, ap, sym, ◌∙◌, arith, rules, length-append}
+use Rattle.std.proofs.Common.{◌≡◌, ◌<◌, ◌+◌, ◌-◌, [], ◌∷◌, ◌++◌, length, slice_get, ap, sym, ◌∙◌, arith, length-append}
 use Rattle.ulfm_words.specs.Steps.{over}
 use mathlib.Core.List.{IsPrefix}
-use Rattle.ulfm_model.specs.History.{failures, has}
+use Rattle.ulfm_model.specs.History.{failures}
 use Rattle.ulfm_model.specs.declared.place.Place.TheVariants.{List as ListAt}
 use Rattle.ulfm_model.proofs.{Histories.{failures_begin}, Lists.{prefix_trans}}
 use Rattle.ulfm_words.proofs.{Ranks.{failures_le}, Trails.{did_prefix}}
-use Rattle.ulfm_steps.proofs.{Looking.{more_found}, ReadingOn.{list_goes_on, no_end, put_behind, rank_further}, Turning.{takes_load}}
-use Rattle.ulfm_steps.proofs.read_on.ReadOn.step.Goals as goal
-use Rattle.ulfm_steps.proofs.read_on.ReadOn.step.Goals.{After-len, After-load_failure, After-push}
+use Rattle.ulfm_steps.proofs.{Looking.{more_found}, ReadingOn.{no_end, put_behind}, Turning.{takes_load}}
+use Rattle.ulfm_steps.proofs.read_on.load_next.Goals as goal
+use Rattle.ulfm_steps.proofs.read_on.load_next.Goals.{After-len, After-load_failure, After-push}
 
 -- what was seen doesn't have all ranks
 room_left : (g : _) (c : After-len g) → c.len.result < (g.W.Words.name c.args.words.now).limits.ranks
 room_left g c =
-    let h = (g.W.Words.sight c.args.pass.now).seen in
-    let below = list_goes_on c.args.group.now c.args.count c.args.self.now c.args.seen.now.items (failures h) c.requires.may c.requires.at c.requires.more in
-    let few = failures_le g.P.Meld.meld (g.W.Words.name c.args.words.now).limits h c.requires.of.legal in
-    omega (arith, below, few, c.len.ensures, c.args.seen.now.ok.0)
+    let few = failures_le g.P.Meld.meld (g.W.Words.name c.args.words.now).limits (g.W.Words.sight c.args.pass.now).seen c.requires.of.legal in
+    omega (arith, c.requires.more, few, c.len.ensures, c.args.seen.now.ok.0)
 
 pub overflow_cast-len : goal.overflow_cast-len
 overflow_cast-len g c =
@@ -40,8 +38,7 @@ grown g c =
 pub unreachable-requires : goal.unreachable-requires
 unreachable-requires g c =
     let before = (goal.at.unreachable-requires g c).After-load_failure in
-    no_end c.args.group.now c.args.count c.args.self.now c.args.seen.now.items (failures (g.W.Words.sight c.args.pass.now).seen) c.requires.may c.requires.at c.requires.more (failures (g.W.Words.sight c.load_failure.new.pass).seen) (grown g before)
-    (loaded g before ∙ c.in_default.is)
+    no_end c.args.seen.now.items (failures (g.W.Words.sight c.args.pass.now).seen) (failures (g.W.Words.sight c.load_failure.new.pass).seen) c.requires.begins c.requires.more (grown g before) (loaded g before ∙ c.in_default.is)
 
 -- the rank was put behind what was seen
 pushed : (g : _) (c : After-push g) → c.push.new.self.items ≡ c.args.seen.now.items ++ c.in-Some.rank ∷ []
@@ -49,29 +46,15 @@ pushed g c =
     let left = room_left g (goal.at.After-push g c).After-len in
     put_behind c.args.seen.now.items c.push.new.self.items c.in-Some.rank c.push.result c.push.ensures.items (c.push.ensures.succeeds (omega (arith, left, c.requires.room, c.len.ensures)))
 
-pub returns-clause-at : goal.returns-clause-at
-returns-clause-at g c =
-    let seen = c.args.seen.now.items in
-    let new = pushed g (goal.at.returns-clause-at g c).After-push in
-    let member : c.from.result ≡ cond (has c.args.group.now c.in-Some.rank) 1 0 = search rules in
-    rw new
-    (rank_further c.args.group.now c.args.count c.args.self.now seen (failures (g.W.Words.sight c.args.pass.now).seen) c.requires.may c.requires.at c.requires.more c.in-Some.rank (record { reach = c.args.self.now.reach + 1; found = c.args.self.now.found + c.from.result })
-    refl (ap (λ n. c.args.self.now.found + n) member))
-
-pub returns-clause-further : goal.returns-clause-further
-returns-clause-further g c =
-    let new = pushed g (goal.at.returns-clause-further g c).After-push in
-    omega (arith, ap length new, length-append c.args.seen.now.items (c.in-Some.rank ∷ []), c.args.seen.now.ok.0, c.push.new.self.ok.0)
-
-pub returns-clause-goes_on : goal.returns-clause-goes_on
-returns-clause-goes_on g c = (c.in-Some.rank ∷ [], sym (pushed g (goal.at.returns-clause-goes_on g c).After-push))
+pub returns-clause-next : goal.returns-clause-next
+returns-clause-next g c = pushed g (goal.at.returns-clause-next g c).After-push
 
 pub returns-clause-begins : goal.returns-clause-begins
 returns-clause-begins g c =
     let all = goal.at.returns-clause-begins g c in
     let whole = failures (g.W.Words.sight c.args.pass.now).seen in
     let later = failures (g.W.Words.sight c.load_failure.new.pass).seen in
-    let begins = prefix_trans c.args.seen.now.items whole later c.requires.may.begins (grown g all.After-load_failure) in
+    let begins = prefix_trans c.args.seen.now.items whole later c.requires.begins (grown g all.After-load_failure) in
     rw (pushed g all.After-push) (more_found c.args.seen.now.items later c.in-Some.rank begins (loaded g all.After-load_failure ∙ c.in-Some.is))
 
 pub returns-clause-takes : goal.returns-clause-takes
