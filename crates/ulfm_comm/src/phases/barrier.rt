@@ -26,7 +26,7 @@ impl<P: Packed, A: Allocator> LocalState<P, A> {
         words: &W,
         pass: &mut W::Pass,
         asked: &Call<P>,
-        arrivals: Arrivals,
+        mut arrivals: Arrivals,
         whole: bool,
     ) -> Next<P>
         requires of { IsView P.meld (view_of P.pack (W.name words.now) (W.sight pass.old)) }
@@ -41,7 +41,6 @@ impl<P: Packed, A: Allocator> LocalState<P, A> {
             (AtWaiting arrivals) result }
     {
         let x = self.held_comm(comm_of(asked));
-        let mut arrivals = arrivals;
         match arrivals.advance(words, pass, &x.group, self.failures(), whole) {
             None => Next::Goes(Phase::Waiting { arrivals }),
             Some(missing) => Next::Goes(Phase::Checking { missing }),

@@ -114,7 +114,7 @@ impl<P: Packed, A: Allocator + Copy> LocalState<P, A> {
         words: &W,
         pass: &mut W::Pass,
         asked: &Call<P>,
-        on: ReadOn,
+        mut on: ReadOn,
         made: Made,
         whole: bool,
         prepared: &mut NewComm<A>,
@@ -126,7 +126,6 @@ impl<P: Packed, A: Allocator + Copy> LocalState<P, A> {
             (local self.old (view_of P.pack (W.name words.now) (W.sight pass.old))) (coming result prepared.new)
             (local self.new (view_of P.pack (W.name words.now) (W.sight pass.new))) }
     {
-        let mut on = on;
         self.read_on(words, pass, comm_of(asked), &mut on, made.count, whole);
         if on.found < made.count {
             return Next::Goes(Phase::ReadingOn { on, made });
@@ -193,7 +192,7 @@ impl<P: Packed, A: Allocator + Copy> LocalState<P, A> {
         words: &W,
         pass: &mut W::Pass,
         asked: &Call<P>,
-        append: Append,
+        mut append: Append,
         context: u8,
         reach: usize,
         whole: bool,
@@ -209,7 +208,6 @@ impl<P: Packed, A: Allocator + Copy> LocalState<P, A> {
             (local self.old (view_of P.pack (W.name words.now) (W.sight pass.old))) result (view_of P.pack (W.name words.now) (W.sight pass.new)) }
     {
         let comm = comm_of(asked);
-        let mut append = append;
         match self.spawn(words, pass, comm, &mut append, context, whole, prepared) {
             Spawned::Unknown => Next::Goes(Phase::Spawning {
                 append,
