@@ -46,3 +46,5 @@ pub mod Unspread
 pub mod Runs
 pub mod Others
 pub mod Waiting
+pub mod Resumes
+pub mod Behind

@@ -166,15 +166,20 @@ abbrev pub RunsFrom : {P : Type 0} → (P → P → P) → Bool → Call P → L
 RunsFrom meld alone asked now (Goes phase) reply new = RunsOn meld alone (under_way asked phase unprepared) now reply new
 RunsFrom meld alone asked now (Ends answer) reply new = (answer ≡ reply) × (now.own ≡ new.own) × (now.view.pass ≡ new.view.pass)
 
--- A whole call behind its look, which has just ended: what comes next follows the look, and is run to the reply.
+-- What comes next behind a look that has just ended: it leads on from there, nearer to the reply, also beside the failures that the look found, and
+-- knows no block that isn't known to be set.
+pub record ComesBehind {P : Type 0} (meld : P → P → P) (asked : Call P) (now : Local P) (next : Next P) (new : Record) : Type 0 where
+  pub further : IsFurther Looking next
+  pub nearer : FewerLeft (with_look now.view.words.limits now.own asked) now.view.words.limits new asked next
+  pub also : AlsoFollows now.view.words.limits asked now.own next new
+  pub knows : (cached : List Beside) → KnowsNext now.own asked cached next
+  pub turns : FollowsLook meld asked now next new
+
+-- A whole call behind its look, which has just ended: what comes next is run to the reply.
 pub record RunsBehind {P : Type 0} (meld : P → P → P) (alone : Bool) (asked : Call P) (now : Local P) (reply : Reply P) (new : Local P) : Type 0 where
   pub next : Next P
   pub mid : Record
-  pub further : IsFurther Looking next
-  pub nearer : FewerLeft (with_look now.view.words.limits now.own asked) now.view.words.limits mid asked next
-  pub also : AlsoFollows now.view.words.limits asked now.own next mid
-  pub knows : (cached : List Beside) → KnowsNext now.own asked cached next
-  pub turns : FollowsLook meld asked now next mid
+  pub behind : ComesBehind meld asked now next mid
   pub runs : RunsFrom meld alone asked (local mid now.view) next reply new
 
 -- A whole call from a phase of its look on: it takes its turn there, which ends the look, and what comes next is run to the reply.

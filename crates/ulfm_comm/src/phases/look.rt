@@ -1,13 +1,11 @@
 // The look of a call, and what comes after it.
-ghost use Rattle.std.specs.Prelude.{ℕ, List, ◌≡◌, ◌<◌, filter, length, max, min, true, None, Some, MatchOption};
+ghost use Rattle.std.specs.Prelude.{ℕ, ◌≡◌, filter, length, max, min, true, None, Some, MatchOption};
 ghost use Rattle.std.specs.List.Sorted.{IsStrictlyIncreasing};
 ghost use Rattle.ulfm_model.specs.{History.{has}, Records.{Held, held_at, with_held}};
-ghost use Rattle.ulfm_model.specs.declared.{block.Beside.{Beside}, call.Call.TheVariants.{Poll as PollAsked}, call.Request.TheVariants.{Barrier as OfBarrier}};
-ghost use Rattle.ulfm_comm.specs.{Polls.{IsAgreement}, Phase.{IsFurther, IsPast, StillStands, left}, Look.{Passes}};
-ghost use Rattle.ulfm_comm.specs.{StepsLeft.{FewerLeft, steps_left, with_look}, Step.{FollowsLook, HasJustLooked, TakesTurn}};
-ghost use Rattle.ulfm_comm.specs.{AlsoLeft.{AlsoFollows}, Known.{KnowsNext}};
+ghost use Rattle.ulfm_model.specs.declared.call.{Call.TheVariants.{Poll as PollAsked}, Request.TheVariants.{Barrier as OfBarrier}};
+ghost use Rattle.ulfm_comm.specs.{Polls.{IsAgreement}, Phase.{IsPast, StillStands}, Look.{Passes}, Step.{ComesBehind, HasJustLooked, TakesTurn}};
 ghost use Rattle.ulfm_comm.specs.declared.phases.phase.Next.TheVariants.{Goes as NextGoes};
-ghost use Rattle.ulfm_comm.specs.declared.phases.phase.Phase.TheVariants.{Begun as AtBegun, Looking as AtLooking};
+ghost use Rattle.ulfm_comm.specs.declared.phases.phase.Phase.TheVariants.{Looking as AtLooking};
 ghost use Rattle.ulfm_comm.specs.Local.{local};
 ghost use Rattle.ulfm_comm.specs.Phase.{under_way};
 ghost use Rattle.ulfm_comm.specs.Step.{coming};
@@ -38,27 +36,6 @@ fn barrier(request: Option<Request>) -> Option<u16>
 }
 
 impl<P: Packed, A: Allocator> LocalState<P, A> {
-    // The first load of the list of failures, behind what was seen, or the whole look.
-    #[inline(always)]
-    pub(crate) fn go_begun<W: Words<P, A>>(
-        &mut self,
-        words: &W,
-        pass: &mut W::Pass,
-        asked: &Call<P>,
-        whole: bool,
-    ) -> Next<P>
-        requires of { IsView P.meld (view_of P.pack (W.name words.now) (W.sight pass.old)) }
-        requires stands { (prepared : Prepared) × StillStands P.meld (under_way asked.now AtBegun prepared)
-            (local self.old (view_of P.pack (W.name words.now) (W.sight pass.old))) }
-        ensures turn { (prepared : Prepared) → TakesTurn P.meld W.alone whole (under_way asked.now AtBegun prepared)
-            (local self.old (view_of P.pack (W.name words.now) (W.sight pass.old))) (coming result prepared)
-            (local self.new (view_of P.pack (W.name words.now) (W.sight pass.new))) }
-        ensures past { whole ≡ true → IsPast result }
-    {
-        self.resume();
-        self.go_looking(words, pass, asked, whole)
-    }
-
     // A load of the list of failures, or all that are left of the look. At its end it is known what comes next.
     #[inline(always)]
     pub(crate) fn go_looking<W: Words<P, A>>(
@@ -90,11 +67,7 @@ impl<P: Packed, A: Allocator> LocalState<P, A> {
     fn looked<W: Words<P, A>>(&mut self, words: &W, pass: &W::Pass, asked: &Call<P>) -> Next<P>
         requires of { IsView P.meld (view_of P.pack (W.name words.now) (W.sight pass.now)) }
         requires just { HasJustLooked P.meld asked.now (local self.old (view_of P.pack (W.name words.now) (W.sight pass.now))) }
-        ensures further { IsFurther AtLooking result }
-        ensures nearer { FewerLeft (with_look (W.name words.now).limits self.old asked.now) (W.name words.now).limits self.new asked.now result }
-        ensures also { AlsoFollows (W.name words.now).limits asked.now self.old result self.new }
-        ensures knows { (cached : List Beside) → KnowsNext self.old asked.now cached result }
-        ensures turns { FollowsLook P.meld asked.now (local self.old (view_of P.pack (W.name words.now) (W.sight pass.now))) result self.new }
+        ensures { ComesBehind P.meld asked.now (local self.old (view_of P.pack (W.name words.now) (W.sight pass.now))) result self.new }
     {
         let Some(x) = self.held(comm_of(asked)) else {
             return Next::Ends(Reply::Refused(Refusal::NoSuchComm));
@@ -116,11 +89,7 @@ impl<P: Packed, A: Allocator> LocalState<P, A> {
         requires passes { Passes self.old asked.now }
         requires of { IsView P.meld (view_of P.pack (W.name words.now) (W.sight pass.now)) }
         requires just { HasJustLooked P.meld asked.now (local self.old (view_of P.pack (W.name words.now) (W.sight pass.now))) }
-        ensures further { IsFurther AtLooking result }
-        ensures nearer { FewerLeft (with_look (W.name words.now).limits self.old asked.now) (W.name words.now).limits self.new asked.now result }
-        ensures also { AlsoFollows (W.name words.now).limits asked.now self.old result self.new }
-        ensures knows { (cached : List Beside) → KnowsNext self.old asked.now cached result }
-        ensures turns { FollowsLook P.meld asked.now (local self.old (view_of P.pack (W.name words.now) (W.sight pass.now))) result self.new }
+        ensures { ComesBehind P.meld asked.now (local self.old (view_of P.pack (W.name words.now) (W.sight pass.now))) result self.new }
     {
         let x = self.held_comm(comm_of(asked));
         match *asked {
@@ -195,11 +164,7 @@ impl<P: Packed, A: Allocator> LocalState<P, A> {
         requires just { HasJustLooked P.meld asked.now (local self.now (view_of P.pack (W.name words.now) (W.sight pass.now))) }
         requires passes { Passes self.now asked.now }
         requires polls { (rank : ℕ) × (comm : ℕ) × (asked.now ≡ PollAsked rank comm) }
-        ensures further { left result < 8 }
-        ensures nearer { steps_left (W.name words.now).limits self.now asked.now result < with_look (W.name words.now).limits self.now asked.now }
-        ensures also { AlsoFollows (W.name words.now).limits asked.now self.now (NextGoes result) self.now }
-        ensures knows { (cached : List Beside) → KnowsNext self.now asked.now cached (NextGoes result) }
-        ensures turns { FollowsLook P.meld asked.now (local self.now (view_of P.pack (W.name words.now) (W.sight pass.now))) (NextGoes result) self.now }
+        ensures { ComesBehind P.meld asked.now (local self.now (view_of P.pack (W.name words.now) (W.sight pass.now))) (NextGoes result) self.now }
     {
         let comm = comm_of(asked);
         let x = self.held_comm(comm);

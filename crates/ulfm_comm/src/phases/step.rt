@@ -10,7 +10,8 @@ ghost use Rattle.ulfm_words.specs.Steps.{view_at, view_of, IsView, Over, Sight};
 ghost use Rattle.ulfm_comm.specs.declared.phases.phase.Phase.TheVariants.{Begun as AtBegun, Over as AtOver, Looking as AtLooking, Peeking as AtPeeking, Spreading as AtSpreading};
 ghost use Rattle.ulfm_comm.specs.Local.{local, FitsView};
 ghost use Rattle.ulfm_comm.specs.{Proposals.{WinsNext}, Step.{coming}, Wings.{WingsIn, WingsNext}};
-ghost use Rattle.ulfm_model.specs.declared.call.Call.TheVariants.{Poll as PollAsked};
+ghost use Rattle.ulfm_model.specs.declared.{call.Call.TheVariants.{Poll as PollAsked}, call.Request.TheVariants.{Agree as OfAgree}};
+ghost use Rattle.ulfm_model.specs.declared.contribution.Offer.TheVariants.{Flag as OfFlag};
 ghost use Rattle.ulfm_comm.specs.Look.{Passes};
 ghost use Rattle.ulfm_comm.specs.Step.{HasJustLooked, RunsBehind, RunsOn, RunsThrough};
 ghost use Rattle.ulfm_comm.specs.Prepared.{unprepared};
@@ -76,7 +77,11 @@ impl<P: Packed, A: Allocator + Copy> LocalState<P, A> {
     {
         match phase {
             Phase::Over => Next::Ends(Reply::Refused(Refusal::SelfFailed)),
-            Phase::Begun => self.go_begun(words, pass, asked, whole),
+            // The first load comes behind what was seen.
+            Phase::Begun => {
+                self.resume();
+                self.go_looking(words, pass, asked, whole)
+            }
             Phase::Looking => self.go_looking(words, pass, asked, whole),
             Phase::Spreading { request, offer } => {
                 self.go_spreading(words, pass, asked, request, offer)
@@ -354,10 +359,8 @@ impl<P: Packed, A: Allocator + Copy> LocalState<P, A> {
         }
         match *asked {
             Call::Agree { value, .. } => {
-                let request = Request::Agree {
-                    round: x.next_agreement,
-                };
-                self.run_spreading(words, pass, asked, request, Offer::Flag(value))
+                let round = x.next_agreement;
+                self.run_agree(words, pass, asked, round, value)
             }
             Call::Poll { .. } => self.run_ready(words, pass, asked),
             Call::IsRevoked { .. } => self.go_asking(words, pass, asked),
@@ -407,24 +410,25 @@ impl<P: Packed, A: Allocator + Copy> LocalState<P, A> {
         }
     }
 
-    // The two exchanges of an agree or of a shrink.
+    // The two exchanges of an agree.
     #[inline(always)]
-    fn run_spreading<W: Words<P, A>>(
+    fn run_agree<W: Words<P, A>>(
         &mut self,
         words: &W,
         pass: &mut W::Pass,
         asked: &Call<P>,
-        request: Request,
-        offer: Offer<P>,
+        round: u16,
+        value: P,
     ) -> Reply<P>
         requires of { IsView P.meld (view_of P.pack (W.name words.now) (W.sight pass.old)) }
-        requires stands { StillStands P.meld (under_way asked.now (AtSpreading request offer) unprepared)
+        requires stands { StillStands P.meld (under_way asked.now (AtSpreading (OfAgree round) (OfFlag value)) unprepared)
             (local self.old (view_of P.pack (W.name words.now) (W.sight pass.old))) }
-        ensures { RunsOn P.meld W.alone (under_way asked.now (AtSpreading request offer) unprepared)
+        ensures { RunsOn P.meld W.alone (under_way asked.now (AtSpreading (OfAgree round) (OfFlag value)) unprepared)
             (local self.old (view_of P.pack (W.name words.now) (W.sight pass.old))) result
             (local self.new (view_of P.pack (W.name words.now) (W.sight pass.new))) }
     {
-        match self.go_spreading(words, pass, asked, request, offer) {
+        let request = Request::Agree { round };
+        match self.go_spreading(words, pass, asked, request, Offer::Flag(value)) {
             Next::Goes(next) => self.run_from(words, pass, asked, next),
             Next::Ends(reply) => reply,
         }

@@ -5,7 +5,7 @@ use Rattle.ulfm_words.proofs.Trails.{did_none}
 use Rattle.ulfm_comm.specs.declared.phases.phase.{Phase.{Phase}, Phase.TheVariants.{Over}}
 use Rattle.ulfm_comm.specs.{Local.{Local}, Missing.{AnsweredNow, AnswersMissing, FindsMissing, FoundNow, midway}, Phase.{StillStands, UnderWay, under_way}}
 use Rattle.ulfm_comm.specs.{Prepared.{Prepared}, Proposals.{WinsNext, proposes}, Step.{Coming, GoesOn, TakesTurn}}
-use Rattle.ulfm_comm.proofs.Wings.{turn_same}
+use Rattle.ulfm_comm.proofs.{Resumes.{resumed_stands, resumed_turn}, Wings.{turn_same}}
 use Rattle.ulfm_comm.proofs.rank.LocalState.go.Goals as goal
 
 -- where it stands is said of that phase
@@ -68,10 +68,12 @@ returns-in-Over g c =
     })
 
 pub returns-in-Begun : goal.returns-in-Begun
-returns-in-Begun g c = rw c.in-Begun.is (looks (λ at. absurd (cc at)) refl tt tt (c.go_begun.ensures.turn c.args.prepared.now))
+returns-in-Begun g c =
+    rw c.in-Begun.is (looks (λ at. absurd (cc at)) refl tt tt (resumed_turn c.requires.of c.resume.ensures (still c.in-Begun.is c.requires.stands)
+    (c.go_looking.ensures.turn c.args.prepared.now)))
 
 pub returns-in-Looking : goal.returns-in-Looking
-returns-in-Looking g c = rw c.in-Looking.is (looks (λ at. absurd (cc at)) refl tt tt (c.go_looking.ensures.turn c.args.prepared.now))
+returns-in-Looking g c = rw c.in-Looking.is (looks (λ at. absurd (cc at)) refl tt tt (c.go_looking-in-Looking.ensures.turn c.args.prepared.now))
 
 pub returns-in-Spreading : goal.returns-in-Spreading
 returns-in-Spreading g c =
@@ -117,11 +119,12 @@ returns-in-Checking g c =
     rw c.in-Checking.is (looks (λ at. absurd (cc at)) refl tt (c.go_checking.ensures.early c.args.prepared.now)
     (c.go_checking.ensures.turn c.args.prepared.now c.args.whole))
 
-pub go_begun-requires-clause-stands : goal.go_begun-requires-clause-stands
-go_begun-requires-clause-stands g c = still_so c.in-Begun.is c.requires.stands
-
 pub go_looking-requires-clause-stands : goal.go_looking-requires-clause-stands
-go_looking-requires-clause-stands g c = still_so c.in-Looking.is c.requires.stands
+go_looking-requires-clause-stands g c =
+    (c.args.prepared.now, resumed_stands c.requires.of c.resume.ensures (still c.in-Begun.is c.requires.stands))
+
+pub go_looking-requires-in-Looking-clause-stands : goal.go_looking-requires-in-Looking-clause-stands
+go_looking-requires-in-Looking-clause-stands g c = still_so c.in-Looking.is c.requires.stands
 
 pub go_spreading-requires-clause-stands : goal.go_spreading-requires-clause-stands
 go_spreading-requires-clause-stands g c = still_so c.in-Spreading.is c.requires.stands

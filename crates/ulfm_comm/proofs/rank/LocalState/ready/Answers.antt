@@ -1,4 +1,4 @@
-use Rattle.std.proofs.Common.{◌≡◌, ◌<◌, Some, false, length, ap, sym, ◌∙◌, subst}
+use Rattle.std.proofs.Common.{◌≡◌, ◌<◌, Some, arith, false, length, ap, sym, ◌∙◌, subst}
 use Rattle.ulfm_words.specs.Steps.{over}
 use Rattle.std.specs.List.Sorted.{IsStrictlyIncreasing}
 use Rattle.ulfm_model.specs.{Records.{Fits, Held, held_at}, Terms.{comm_of}}
@@ -40,64 +40,53 @@ new-arrivals-requires-clause-rises g c =
     (group_rises g.P.Meld.meld (g.W.Words.name c.args.words.now).limits (g.W.Words.sight c.args.pass.now).seen c.args.self.now c.comm_of-comm.result _
     (fits g at.After-held_comm-x) c.held_comm-x.ensures)
 
-pub returns-in-Some-clause-turns : goal.returns-in-Some-clause-turns
-returns-in-Some-clause-turns g c = λ here alone old before just.
+pub returns-in-Some : goal.returns-in-Some
+returns-in-Some g c =
+    let at = (goal.at.returns-in-Some g c).After-held_comm-x in
     let polls = c.requires.polls in
-    ready_waiting g.P.Meld.meld alone (over g.P.Packed.pack (g.W.Words.name c.args.words.now)) c.args.asked.now old before c.args.self.now
-    (g.W.Words.sight c.args.pass.now) just c.requires.of here c.held_comm-x.result.now c.comm_of-comm.result c.held_comm-x.ensures c.comm_of-comm.ensures
-    polls.0 polls.1 polls.2
-    c.deref.result.now c.failures.result.now (group g (goal.at.returns-in-Some-clause-turns g c).After-deref) c.failures.ensures c.new-arrivals.result
-    c.in-Some.round c.new-arrivals.ensures.comm c.new-arrivals.ensures.round
-    (sym (ap (λ (y : Held). y.request) c.x.view_is) ∙ c.in-Some.ensures) c.new-arrivals.ensures.asked c.new-arrivals.ensures.first
+    record {
+      further = omega arith;
+      nearer = waiting_after (g.W.Words.name c.args.words.now).limits c.args.self.now c.args.asked.now g.P.Meld.meld (g.W.Words.sight c.args.pass.now).seen
+          c.requires.of.legal (fits g at).seen c.requires.of.may_open.in_range.some_comms
+          (passes_none c.args.self.now c.args.asked.now c.requires.passes)
+          polls.0 polls.1 c.held_comm-x.result.now polls.2 (held g at) c.in-Some.round c.new-arrivals.result
+          (sym (ap (λ (y : Held). y.request) c.x.view_is) ∙ c.in-Some.ensures);
+      also = follows_waits (g.W.Words.name c.args.words.now).limits c.args.self.now c.args.asked.now polls.0 polls.1 polls.2
+          (passes_none c.args.self.now c.args.asked.now c.requires.passes)
+          c.held_comm-x.result.now (held g at)
+          g.P.Meld.meld (g.W.Words.sight c.args.pass.now).seen c.requires.of.legal (fits g at).seen
+          c.in-Some.round c.new-arrivals.result (sym (ap (λ (y : Held). y.request) c.x.view_is) ∙ c.in-Some.ensures);
+      knows = λ cached. tt;
+      turns = λ here alone old before just.
+          ready_waiting g.P.Meld.meld alone (over g.P.Packed.pack (g.W.Words.name c.args.words.now)) c.args.asked.now old before c.args.self.now
+          (g.W.Words.sight c.args.pass.now) just c.requires.of here c.held_comm-x.result.now c.comm_of-comm.result c.held_comm-x.ensures c.comm_of-comm.ensures
+          polls.0 polls.1 polls.2
+          c.deref.result.now c.failures.result.now (group g (goal.at.returns-in-Some g c).After-deref) c.failures.ensures c.new-arrivals.result
+          c.in-Some.round c.new-arrivals.ensures.comm c.new-arrivals.ensures.round
+          (sym (ap (λ (y : Held). y.request) c.x.view_is) ∙ c.in-Some.ensures) c.new-arrivals.ensures.asked c.new-arrivals.ensures.first;
+    }
 
-pub returns-clause-turns : goal.returns-clause-turns
-returns-clause-turns g c = λ here alone old before just.
+pub returns : goal.returns
+returns g c =
+    let at = (goal.at.returns g c).After-held_comm-x in
     let polls = c.requires.polls in
-    ready_peeking g.P.Meld.meld alone (over g.P.Packed.pack (g.W.Words.name c.args.words.now)) c.args.asked.now old before c.args.self.now
-    (g.W.Words.sight c.args.pass.now) just c.requires.of here c.held_comm-x.result.now c.comm_of-comm.result c.held_comm-x.ensures c.comm_of-comm.ensures
-    polls.0 polls.1 polls.2
-    c.new-peek.result c.in-Some-agreement.shrinks c.in-Some-agreement.round (sym (ap (λ (y : Held). y.request) c.x.view_is) ∙ c.in-Some-agreement.ensures)
-    c.new-peek.ensures.comm c.new-peek.ensures.round c.new-peek.ensures.side c.new-peek.ensures.none c.new-peek.ensures.first
-
-pub returns-in-Some-clause-nearer : goal.returns-in-Some-clause-nearer
-returns-in-Some-clause-nearer g c =
-    let at = (goal.at.returns-in-Some-clause-nearer g c).After-held_comm-x in
-    let polls = c.requires.polls in
-    waiting_after (g.W.Words.name c.args.words.now).limits c.args.self.now c.args.asked.now g.P.Meld.meld (g.W.Words.sight c.args.pass.now).seen
-    c.requires.of.legal (fits g at).seen c.requires.of.may_open.in_range.some_comms
-    (passes_none c.args.self.now c.args.asked.now c.requires.passes)
-    polls.0 polls.1 c.held_comm-x.result.now polls.2 (held g at) c.in-Some.round c.new-arrivals.result
-    (sym (ap (λ (y : Held). y.request) c.x.view_is) ∙ c.in-Some.ensures)
-
-pub returns-clause-nearer : goal.returns-clause-nearer
-returns-clause-nearer g c =
-    let at = (goal.at.returns-clause-nearer g c).After-held_comm-x in
-    let polls = c.requires.polls in
-    peeking_after (g.W.Words.name c.args.words.now).limits c.args.self.now c.args.asked.now g.P.Meld.meld (g.W.Words.sight c.args.pass.now).seen
-    c.requires.of.legal (fits g at).seen
-    c.requires.of.may_open.in_range.some_comms (passes_none c.args.self.now c.args.asked.now c.requires.passes)
-    polls.0 polls.1 c.held_comm-x.result.now polls.2 (held g at) c.in-Some-agreement.round c.in-Some-agreement.shrinks c.new-peek.result
-    (sym (ap (λ (y : Held). y.request) c.x.view_is) ∙ c.in-Some-agreement.ensures) (some g at)
-
-pub returns-in-Some-clause-also : goal.returns-in-Some-clause-also
-returns-in-Some-clause-also g c =
-    let at = (goal.at.returns-in-Some-clause-also g c).After-held_comm-x in
-    let polls = c.requires.polls in
-    follows_waits (g.W.Words.name c.args.words.now).limits c.args.self.now c.args.asked.now polls.0 polls.1 polls.2
-    (passes_none c.args.self.now c.args.asked.now c.requires.passes)
-    c.held_comm-x.result.now (held g at)
-    g.P.Meld.meld (g.W.Words.sight c.args.pass.now).seen c.requires.of.legal (fits g at).seen
-    c.in-Some.round c.new-arrivals.result (sym (ap (λ (y : Held). y.request) c.x.view_is) ∙ c.in-Some.ensures)
-
-pub returns-clause-also : goal.returns-clause-also
-returns-clause-also g c =
-    let at = (goal.at.returns-clause-also g c).After-held_comm-x in
-    let polls = c.requires.polls in
-    follows_peeks (g.W.Words.name c.args.words.now).limits c.args.self.now c.args.asked.now polls.0 polls.1 polls.2
-    (passes_none c.args.self.now c.args.asked.now c.requires.passes)
-    c.held_comm-x.result.now (held g at)
-    c.in-Some-agreement.round c.in-Some-agreement.shrinks c.new-peek.result (sym (ap (λ (y : Held). y.request) c.x.view_is) ∙ c.in-Some-agreement.ensures)
-    (c.new-peek.ensures.comm ∙ c.comm_of-comm.ensures) c.new-peek.ensures.round c.new-peek.ensures.side (some g at)
-
-pub returns-clause-knows : goal.returns-clause-knows
-returns-clause-knows g c = λ cached. knows_none cached c.new-peek.result.comm c.new-peek.result.round c.new-peek.result.blocks c.new-peek.ensures.none
+    record {
+      further = omega arith;
+      nearer = peeking_after (g.W.Words.name c.args.words.now).limits c.args.self.now c.args.asked.now g.P.Meld.meld (g.W.Words.sight c.args.pass.now).seen
+          c.requires.of.legal (fits g at).seen
+          c.requires.of.may_open.in_range.some_comms (passes_none c.args.self.now c.args.asked.now c.requires.passes)
+          polls.0 polls.1 c.held_comm-x.result.now polls.2 (held g at) c.in-Some-agreement.round c.in-Some-agreement.shrinks c.new-peek.result
+          (sym (ap (λ (y : Held). y.request) c.x.view_is) ∙ c.in-Some-agreement.ensures) (some g at);
+      also = follows_peeks (g.W.Words.name c.args.words.now).limits c.args.self.now c.args.asked.now polls.0 polls.1 polls.2
+          (passes_none c.args.self.now c.args.asked.now c.requires.passes)
+          c.held_comm-x.result.now (held g at)
+          c.in-Some-agreement.round c.in-Some-agreement.shrinks c.new-peek.result (sym (ap (λ (y : Held). y.request) c.x.view_is) ∙ c.in-Some-agreement.ensures)
+          (c.new-peek.ensures.comm ∙ c.comm_of-comm.ensures) c.new-peek.ensures.round c.new-peek.ensures.side (some g at);
+      knows = λ cached. knows_none cached c.new-peek.result.comm c.new-peek.result.round c.new-peek.result.blocks c.new-peek.ensures.none;
+      turns = λ here alone old before just.
+          ready_peeking g.P.Meld.meld alone (over g.P.Packed.pack (g.W.Words.name c.args.words.now)) c.args.asked.now old before c.args.self.now
+          (g.W.Words.sight c.args.pass.now) just c.requires.of here c.held_comm-x.result.now c.comm_of-comm.result c.held_comm-x.ensures c.comm_of-comm.ensures
+          polls.0 polls.1 polls.2
+          c.new-peek.result c.in-Some-agreement.shrinks c.in-Some-agreement.round (sym (ap (λ (y : Held). y.request) c.x.view_is) ∙ c.in-Some-agreement.ensures)
+          c.new-peek.ensures.comm c.new-peek.ensures.round c.new-peek.ensures.side c.new-peek.ensures.none c.new-peek.ensures.first;
+    }

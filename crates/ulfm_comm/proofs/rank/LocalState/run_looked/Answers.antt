@@ -2,10 +2,10 @@ use Rattle.std.proofs.Common.{Bool, false, true, ap, arith, refl, sym, ◌∙◌
 use Rattle.ulfm_words.specs.Steps.{over, view_of, Sight}
 use Rattle.ulfm_model.specs.{Records.{Held, Record, held_at}}
 use Rattle.ulfm_model.specs.declared.{call.Request.TheVariants.{Agree as OfAgree}, contribution.Offer.TheVariants.{Flag}, refusal.Refusal.TheVariants.{NoSuchComm}, reply.Reply.TheVariants.{Refused}}
-use Rattle.ulfm_comm.specs.{AlsoLeft.{also_behind_look}, Local.{local}, Look.{JustLooked, Passes}, Phase.{Stands, StillStands, under_way}, StepsLeft.{behind_look}}
+use Rattle.ulfm_comm.specs.{Local.{local}, Look.{JustLooked, Passes}, Phase.{Stands, StillStands, under_way}}
 use Rattle.ulfm_comm.specs.declared.phases.phase.Next.TheVariants.{Ends, Goes}
 use Rattle.ulfm_comm.specs.declared.phases.phase.Phase.TheVariants.{Asking, Spreading}
-use Rattle.ulfm_comm.proofs.{AlsoLeft.{follows_behind, follows_ends}, Known.{refused_stand}, Look.{just_missing, just_passed, just_refused, own_question, starts_agree}, StepsLeft.{behind_left}}
+use Rattle.ulfm_comm.proofs.{Behind.{ends_behind, goes_behind}, Known.{refused_stand}, Look.{just_missing, just_passed, just_refused, own_question, starts_agree}}
 use Rattle.ulfm_comm.proofs.Runs.{turn_ends}
 use Rattle.ulfm_comm.proofs.rank.LocalState.run_looked.Goals as goal
 use Rattle.ulfm_comm.proofs.rank.LocalState.run_looked.Goals.{In-Agree, In-IsRevoked}
@@ -15,14 +15,11 @@ pub returns-in_default : goal.returns-in_default
 returns-in_default g c = record {
   next = Ends (Refused NoSuchComm);
   mid = c.args.self.now;
-  further = tt;
-  nearer = tt;
-  also = follows_ends (g.W.Words.name c.args.words.now).limits c.args.self.now c.args.asked.now _ _ refl;
-  knows = λ cached of. absurd (cc of);
-  turns = λ prepared alone old before j.
+  behind = ends_behind refl (λ cached of. absurd (cc of))
+      (λ prepared alone old before j.
       just_missing g.P.Meld.meld alone (over g.P.Packed.pack (g.W.Words.name c.args.words.now)) c.args.asked.now old before c.args.self.now
       (g.W.Words.sight c.args.pass.now) j c.requires.of
-      (ap (held_at c.args.self.now) (sym c.comm_of.ensures) ∙ c.in_default.ensures.held);
+      (ap (held_at c.args.self.now) (sym c.comm_of.ensures) ∙ c.in_default.ensures.held));
   runs = (refl, refl, refl);
 }
 
@@ -30,16 +27,12 @@ pub returns-in-Some-refusal : goal.returns-in-Some-refusal
 returns-in-Some-refusal g c = record {
   next = Ends (Refused c.in-Some-refusal.refusal);
   mid = c.args.self.now;
-  further = tt;
-  nearer = tt;
-  also = follows_ends (g.W.Words.name c.args.words.now).limits c.args.self.now c.args.asked.now _ _ refl;
-  knows = λ cached of.
-      refused_stand c.args.self.now c.in-Some.x.now c.args.asked.now c.in-Some-refusal.refusal cached
-      (ap (held_at c.args.self.now) (sym c.comm_of.ensures) ∙ c.in-Some.ensures.held) (sym c.refusal.ensures ∙ c.in-Some-refusal.is);
-  turns = λ prepared alone old before j.
+  behind = ends_behind refl (λ cached of. refused_stand c.args.self.now c.in-Some.x.now c.args.asked.now c.in-Some-refusal.refusal cached
+      (ap (held_at c.args.self.now) (sym c.comm_of.ensures) ∙ c.in-Some.ensures.held) (sym c.refusal.ensures ∙ c.in-Some-refusal.is))
+      (λ prepared alone old before j.
       just_refused g.P.Meld.meld alone (over g.P.Packed.pack (g.W.Words.name c.args.words.now)) c.args.asked.now old before c.args.self.now
       (g.W.Words.sight c.args.pass.now) j c.requires.of c.in-Some.x.now
-      (ap (held_at c.args.self.now) (sym c.comm_of.ensures) ∙ c.in-Some.ensures.held) _ (sym c.refusal.ensures ∙ c.in-Some-refusal.is);
+      (ap (held_at c.args.self.now) (sym c.comm_of.ensures) ∙ c.in-Some.ensures.held) _ (sym c.refusal.ensures ∙ c.in-Some-refusal.is));
   runs = (refl, refl, refl);
 }
 
@@ -69,25 +62,20 @@ spreads g c prepared alone old before j =
       );
     }
 
-pub run_spreading-requires-clause-stands : goal.run_spreading-requires-clause-stands
-run_spreading-requires-clause-stands g c =
+pub run_agree-requires-clause-stands : goal.run_agree-requires-clause-stands
+run_agree-requires-clause-stands g c =
     let just = c.requires.just in
-    (just.0, just.1, spreads g (goal.at.run_spreading-requires-clause-stands g c).In-Agree unprepared false just.0 just.1 just.2)
+    (just.0, just.1, spreads g (goal.at.run_agree-requires-clause-stands g c).In-Agree unprepared false just.0 just.1 just.2)
 
 pub returns-in-Agree : goal.returns-in-Agree
 returns-in-Agree g c =
     let at = (goal.at.returns-in-Agree g c).In-Agree in
-    let limits = (g.W.Words.name c.args.words.now).limits in
     let own = c.args.self.now in
     record {
       next = Goes (Spreading (OfAgree c.x.inside.next_agreement) (Flag c.in-Agree.value));
       mid = own;
-      further = omega arith;
-      nearer = behind_left limits own c.args.asked.now _ (passes g at) (ap (behind_look limits own) c.in-Agree.is);
-      also = follows_behind limits own c.args.asked.now _ _ refl (λ cached. tt) (passes g at) (ap (also_behind_look limits own) c.in-Agree.is);
-      knows = λ cached. tt;
-      turns = spreads g at;
-      runs = c.run_spreading.ensures;
+      behind = goes_behind (passes g at) c.in-Agree.is (omega arith) refl refl (λ cached. tt) (λ cached. tt) (spreads g at);
+      runs = c.run_agree.ensures;
     }
 
 -- a question whether the communicator is revoked stands before its load
@@ -114,7 +102,6 @@ go_asking-requires-clause-stands g c =
 pub returns-in-IsRevoked : goal.returns-in-IsRevoked
 returns-in-IsRevoked g c =
     let at = (goal.at.returns-in-IsRevoked g c).In-IsRevoked in
-    let limits = (g.W.Words.name c.args.words.now).limits in
     let own = c.args.self.now in
     let just = c.requires.just in
     let may : Passes own c.args.asked.now = record {
@@ -127,10 +114,6 @@ returns-in-IsRevoked g c =
     record {
       next = Goes Asking;
       mid = own;
-      further = omega arith;
-      nearer = behind_left limits own c.args.asked.now _ may (ap (behind_look limits own) c.in-IsRevoked.is);
-      also = follows_behind limits own c.args.asked.now _ _ refl (λ cached. tt) may (ap (also_behind_look limits own) c.in-IsRevoked.is);
-      knows = λ cached. tt;
-      turns = asks g at;
+      behind = goes_behind may c.in-IsRevoked.is (omega arith) refl refl (λ cached. tt) (λ cached. tt) (asks g at);
       runs = turn_ends still refl refl (c.go_asking.ensures unprepared true);
     }

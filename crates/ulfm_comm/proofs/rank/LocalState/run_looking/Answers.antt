@@ -58,14 +58,14 @@ returns g c =
       next = r.next;
       mid = r.mid;
       looked = after;
-      turn = look_turns c.look_on.ensures.goes end c.args.asked.now unprepared r.mid r.next r.nearer r.also r.also.sees
+      turn = look_turns c.look_on.ensures.goes end c.args.asked.now unprepared r.mid r.next r.behind.nearer r.behind.also r.behind.also.sees
           (λ declared. absurd (false≢true (sym c.if-finds_itself.false ∙ (c.finds_itself.ensures.found ∙
-          (ap₂ has (sym r.also.sees) (ap (λ (w : Record). w.number) c.look_on.ensures.kept) ∙ declared))))) r.further
+          (ap₂ has (sym r.behind.also.sees) (ap (λ (w : Record). w.number) c.look_on.ensures.kept) ∙ declared))))) r.behind.further
           (next_same c.look_on.new.self c.args.self.now c.args.asked.now after.cached (λ comm. sym (ap (λ (w : Record). held_at w comm) c.look_on.ensures.kept))
-          r.next (r.knows after.cached))
+          r.next (r.behind.knows after.cached))
           (λ alone only old before u.
-          r.turns unprepared alone old before
+          r.behind.turns unprepared alone old before
           (has_looked end only c.look_on.ensures.goes.did c.look_on.ensures.goes.onward (sym c.finds_itself.ensures.found ∙ c.if-finds_itself.false) u));
-      past = below_past r.next r.further;
+      past = below_past r.next r.behind.further;
       runs = r.runs;
     }

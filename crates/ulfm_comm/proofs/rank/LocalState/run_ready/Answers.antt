@@ -36,17 +36,19 @@ returns g c =
     record {
       next = Goes (Peeking c.new.result c.in-Some.shrinks);
       mid = c.args.self.now;
-      further = omega arith;
-      nearer = peeking_after limits c.args.self.now c.args.asked.now g.P.Meld.meld now.seen c.requires.of.legal here.seen
-          c.requires.of.may_open.in_range.some_comms (passes_none c.args.self.now c.args.asked.now c.requires.passes)
-          polls.0 polls.1 c.held_comm-x.result.now polls.2 held c.in-Some.round c.in-Some.shrinks c.new.result open_is (some_member _ _ member);
-      also = follows_peeks limits c.args.self.now c.args.asked.now polls.0 polls.1 polls.2 (passes_none c.args.self.now c.args.asked.now c.requires.passes)
-          c.held_comm-x.result.now held c.in-Some.round c.in-Some.shrinks c.new.result open_is
-          (c.new.ensures.comm ∙ c.comm_of-comm.ensures) c.new.ensures.round c.new.ensures.side (some_member _ _ member);
-      knows = λ cached. knows_none cached c.new.result.comm c.new.result.round c.new.result.blocks c.new.ensures.none;
-      turns = λ prepared alone old before j.
-          ready_peeking g.P.Meld.meld alone name c.args.asked.now old before c.args.self.now now j c.requires.of prepared c.held_comm-x.result.now
-          c.comm_of-comm.result c.held_comm-x.ensures c.comm_of-comm.ensures polls.0 polls.1 polls.2 c.new.result c.in-Some.shrinks c.in-Some.round open_is
-          c.new.ensures.comm c.new.ensures.round c.new.ensures.side c.new.ensures.none c.new.ensures.first;
+      behind = record {
+        further = omega arith;
+        nearer = peeking_after limits c.args.self.now c.args.asked.now g.P.Meld.meld now.seen c.requires.of.legal here.seen
+            c.requires.of.may_open.in_range.some_comms (passes_none c.args.self.now c.args.asked.now c.requires.passes)
+            polls.0 polls.1 c.held_comm-x.result.now polls.2 held c.in-Some.round c.in-Some.shrinks c.new.result open_is (some_member _ _ member);
+        also = follows_peeks limits c.args.self.now c.args.asked.now polls.0 polls.1 polls.2 (passes_none c.args.self.now c.args.asked.now c.requires.passes)
+            c.held_comm-x.result.now held c.in-Some.round c.in-Some.shrinks c.new.result open_is
+            (c.new.ensures.comm ∙ c.comm_of-comm.ensures) c.new.ensures.round c.new.ensures.side (some_member _ _ member);
+        knows = λ cached. knows_none cached c.new.result.comm c.new.result.round c.new.result.blocks c.new.ensures.none;
+        turns = λ prepared alone old before j.
+            ready_peeking g.P.Meld.meld alone name c.args.asked.now old before c.args.self.now now j c.requires.of prepared c.held_comm-x.result.now
+            c.comm_of-comm.result c.held_comm-x.ensures c.comm_of-comm.ensures polls.0 polls.1 polls.2 c.new.result c.in-Some.shrinks c.in-Some.round open_is
+            c.new.ensures.comm c.new.ensures.round c.new.ensures.side c.new.ensures.none c.new.ensures.first;
+      };
       runs = c.run_peeking.ensures;
     }

@@ -1,7 +1,7 @@
 use Rattle.std.proofs.Common.{true, refl, subst}
 use Rattle.ulfm_comm.specs.Phase.{IsPast}
 use Rattle.ulfm_comm.proofs.Runs.{turn_ends, turn_goes, turn_stands}
-use Rattle.ulfm_comm.proofs.rank.LocalState.run_spreading.Goals as goal
+use Rattle.ulfm_comm.proofs.rank.LocalState.run_agree.Goals as goal
 use Rattle.ulfm_comm.specs.Prepared.{unprepared}
 
 pub run_from-requires-clause-of : goal.run_from-requires-clause-of
