@@ -1,4 +1,4 @@
-use Rattle.std.proofs.Common.{map}
+use Rattle.std.proofs.Common.{map, rules}
 use Rattle.ulfm_numbers.specs.Failed.{members_of}
 use Rattle.ulfm_numbers.proofs.Lasting.{by_round_put, done_put}
 use Rattle.ulfm_numbers.proofs.numbers.Numbers.note_decided.Goals as goal
@@ -15,14 +15,4 @@ invariant_of-self-clause-rounds_by_round g c =
     by_round_put old.rounds c.insert.new.self c.args.comm c.args.round c.in-Some.done c.insert.result old.rounds_by_round c.insert.ensures.updates c.insert.ensures.err
 
 pub returns : goal.returns
-returns g c = λ ranks h tells.
-    c.forget_earlier.ensures ranks h (record {
-      slots = tells.slots;
-      arrivals = tells.arrivals;
-      revocations = tells.revocations;
-      declared = tells.declared;
-      failures = tells.failures;
-      spawns = tells.spawns;
-      groups = tells.groups;
-      count = tells.count;
-    })
+returns g c = λ ranks h tells. c.forget_earlier.ensures ranks h (search rules)
