@@ -2,7 +2,7 @@
 use Rattle.std.specs.Prelude.{Bool}
 use Rattle.ulfm_model.specs.declared.limits.Limits.{Limits}
 use Rattle.ulfm_model.specs.Records.{Fits, Moment, Record, moment}
-use Rattle.ulfm_words.specs.Steps.{Sight, View}
+use Rattle.ulfm_words.specs.Steps.{IsView, Sight, View}
 
 -- a rank's local state, by which its calls go: its record (what it keeps between calls), and its caller's view of the words
 pub record Local (P : Type 0) : Type 0 where
@@ -15,6 +15,11 @@ local own view = record { own = own; view = view }
 -- a rank's record fits what its caller's view has seen of the words
 abbrev pub FitsView : {P : Type 0} → (P → P → P) → Local P → Type 0
 FitsView meld at = Fits meld at.view.words.limits at.view.pass.seen at.own
+
+-- what a rank's calls start from and leave: its caller's view is one of its words, and its record fits what that view has seen
+pub record IsAt {P : Type 0} (meld : P → P → P) (at : Local P) : Type 0 where
+  pub of : IsView meld at.view
+  pub fits : FitsView meld at
 
 -- the moment of a local state, as the model has it: the record, and the history that was seen by then
 abbrev pub moment_of : {P : Type 0} → Local P → Moment P

@@ -6,7 +6,7 @@ ghost use Rattle.ulfm_model.specs.declared.refusal.Refusal.TheVariants.{OutOfMem
 ghost use Rattle.ulfm_words.specs.{Blocks.{FindsSlot}, Places.{IsCell}};
 ghost use Rattle.ulfm_words.specs.Steps.{view_of, IsView, Goes, limits_in, seen_in, steps_in};
 ghost use Rattle.ulfm_steps.specs.Rounds.{IsRoundIn};
-ghost use Rattle.ulfm_comm.specs.Local.{local, FitsView};
+ghost use Rattle.ulfm_comm.specs.Local.{IsAt, local};
 ghost use Rattle.ulfm_comm.specs.Misses.{AreMissing, EndsHeld, TellsMissing, has_come, round_in, size_held};
 
 use crate::rank::Rank;
@@ -116,15 +116,13 @@ impl<P: Packed, A: Allocator> Rank<P, A> {
         comm: u16,
         found: &mut Vec<u16, B>,
     ) -> Result<(), Refusal>
-        requires of { IsView P.meld (view_of P.pack world.now (W.sight pass.old)) }
-        requires fits { FitsView P.meld (local self.now.own (view_of P.pack world.now (W.sight pass.old))) }
+        requires { IsAt P.meld (local self.now.own (view_of P.pack world.now (W.sight pass.old))) }
         ensures ends { EndsHeld (held_at self.now.own comm) result }
         ensures tells { IfOk result (λ _. TellsMissing P.meld W.alone self.now.own comm (view_of P.pack world.now (W.sight pass.old))
             (view_of P.pack world.now (W.sight pass.new)) found.new.items) }
         ensures kept { OnErr result ((found.new.items ≡ found.old.items) × (W.sight pass.new ≡ W.sight pass.old)) }
         ensures memory { result ≡ Err NoMemory → vec_capacity found.old < size_held (held_at self.now.own comm) }
-        ensures of { IsView P.meld (view_of P.pack world.now (W.sight pass.new)) }
-        ensures fits { FitsView P.meld (local self.now.own (view_of P.pack world.now (W.sight pass.new))) }
+        ensures at { IsAt P.meld (local self.now.own (view_of P.pack world.now (W.sight pass.new))) }
     {
         let Some(x) = self.own.held(comm) else {
             return Err(Refusal::NoSuchComm);

@@ -1,5 +1,5 @@
 use Rattle.std.proofs.Common.{◌≡◌, [], Some, ap, sym, ◌∙◌, subst}
-use Rattle.ulfm_words.specs.Steps.{Name}
+use Rattle.ulfm_words.specs.Steps.{IsView, Name, view_of}
 use Rattle.ulfm_model.specs.{History.{IsLegal}, Records.{Held, held_at}}
 use Rattle.ulfm_model.proofs.Stable.{fits_stays}
 use Rattle.ulfm_words.proofs.Trails.{did_prefix}
@@ -22,11 +22,14 @@ put_missing-requires-clause-round g c =
     subst (λ (n : Name). IsRoundOf n.limits seen c.args.comm (round_in request) c.deref.result.now) (sym c.world.view_is)
     (subst (λ w. IsRoundOf limits seen c.args.comm (round_in request) w) (sym group) round)
 
-pub returns-clause-fits : goal.returns-clause-fits
-returns-clause-fits g c =
+pub returns-clause-at : goal.returns-clause-at
+returns-clause-at g c =
     let meld = g.P.Meld.meld in
     let before = (g.W.Words.sight c.args.pass.now).seen in
     let after = (g.W.Words.sight c.put_missing.new.pass).seen in
     let goes = c.put_missing.ensures.goes in
     let legal = subst (λ (n : Name). IsLegal meld n.limits after) c.world.view_is goes.of.legal in
-    fits_stays meld c.args.world.now.limits before after c.args.self.now.own (did_prefix g.W.Words.alone [] before after goes.did) legal c.requires.fits
+    record {
+      of = subst (λ (n : Name). IsView meld (view_of g.P.Packed.pack n (g.W.Words.sight c.put_missing.new.pass))) c.world.view_is goes.of;
+      fits = fits_stays meld c.args.world.now.limits before after c.args.self.now.own (did_prefix g.W.Words.alone [] before after goes.did) legal c.requires.fits;
+    }
