@@ -57,10 +57,9 @@ first_noted eq old n (Some k) q = if is_some (old k) then old q else (if eq k q 
 abbrev pub Notes : {P T X E : Type 0} → (T → History P → Type 0) → T → T → ℕ → Entry P → Result X E → Type 0
 Notes {P} TellsIt old new n entry result = (h : History P) → TellsIt old h → n ≡ length h → OnOk result (TellsIt new (h ++ entry ∷ []))
 
--- the same of two lists: of what events give, and of the numbers of those that give something
-abbrev pub NotesLists : {P T X E : Type 0} → (List T → List ℕ → History P → Type 0) → List T → List ℕ → List T → List ℕ → ℕ → Entry P → Result X E → Type 0
-NotesLists {P} TellsIt given numbers more later n entry result =
-    (h : History P) → TellsIt given numbers h → n ≡ length h → OnOk result (TellsIt more later (h ++ entry ∷ []))
+-- what two lists tell together, said of them as a pair
+abbrev pub OfLists : {A B C : Type 0} → (A → B → C → Type 0) → A × B → C → Type 0
+OfLists TellsIt lists = TellsIt lists.0 lists.1
 
 -- the grid has, for each place, when it was settled first, and what settled it
 abbrev pub TellsSlots : {P A : Type 0} → Grid (Cell P) A → History P → Type 0

@@ -8,7 +8,7 @@ ghost use Rattle.ulfm_model.specs.{Members.{members_of as held_members}, Walked.
 ghost use Rattle.std.specs.Option.{option_map};
 ghost use Rattle.ulfm_numbers.specs.Failed.{AreFailed, members_of};
 ghost use Rattle.ulfm_numbers.specs.Numbers.{TellsArrivals, TellsDeclared, TellsFailures, TellsRevocations, TellsSlots, TellsSpawns};
-ghost use Rattle.ulfm_numbers.specs.Numbers.{AreBefore, Notes, NotesLists, before_then, by_then, count_by, first_noted};
+ghost use Rattle.ulfm_numbers.specs.Numbers.{AreBefore, Notes, OfLists, before_then, by_then, count_by, first_noted};
 ghost use Rattle.ulfm_numbers.specs.Seen.{decision_in, failed_in, is_decided_in, made_in, settled_in};
 ghost use Rattle.ulfm_numbers.specs.Cells.{number_at, told_at};
 ghost use Rattle.ulfm_numbers.specs.Grids.{cell_at};
@@ -225,7 +225,7 @@ fn note_failure<P: Copy, A: Allocator + Copy>(
     number: u64,
     entry: &Entry<P>,
 ) -> Result<(), AllocError>
-    ensures told { NotesLists TellsFailures ranks.old.items numbers.old.items ranks.new.items numbers.new.items number entry.now result }
+    ensures told { Notes (OfLists TellsFailures) (ranks.old.items, numbers.old.items) (ranks.new.items, numbers.new.items) number entry.now result }
     ensures before { AreBefore number numbers.old.items → OnOk result (AreBefore (number + 1) numbers.new.items) }
     ensures longer { OnOk result (ranks.new.items ≡ ranks.old.items ++ cons_option (says entry.now.event).declares []) }
     ensures members { map members_of groups.new ≡ map members_of groups.old }
@@ -248,7 +248,7 @@ fn note_spawn<P: Copy, A: Allocator + Copy>(
     number: u64,
     entry: &Entry<P>,
 ) -> Result<(), AllocError>
-    ensures told { NotesLists TellsSpawns made.old.items numbers.old.items made.new.items numbers.new.items number entry.now result }
+    ensures told { Notes (OfLists TellsSpawns) (made.old.items, numbers.old.items) (made.new.items, numbers.new.items) number entry.now result }
     ensures before { AreBefore number numbers.old.items → OnOk result (AreBefore (number + 1) numbers.new.items) }
 {
     let Some(of) = made_by(entry) else {
@@ -308,8 +308,8 @@ fn note_all<P: Packed, A: Allocator + Copy + Drop>(
     ensures arrivals { Notes TellsArrivals arrivals.old arrivals.new number entry.now result }
     ensures revocations { Notes TellsRevocations revocations.old revocations.new number entry.now result }
     ensures declared { Notes TellsDeclared declared.old declared.new number entry.now result }
-    ensures failures { NotesLists TellsFailures failures.old.items failed_at.old.items failures.new.items failed_at.new.items number entry.now result }
-    ensures spawns { NotesLists TellsSpawns spawns.old.items spawned_at.old.items spawns.new.items spawned_at.new.items number entry.now result }
+    ensures failures { Notes (OfLists TellsFailures) (failures.old.items, failed_at.old.items) (failures.new.items, failed_at.new.items) number entry.now result }
+    ensures spawns { Notes (OfLists TellsSpawns) (spawns.old.items, spawned_at.old.items) (spawns.new.items, spawned_at.new.items) number entry.now result }
     ensures kept { OnOk result (KeepsSlots slots.old slots.new) }
     ensures longer { OnOk result (failures.new.items ≡ failures.old.items ++ cons_option (says entry.now.event).declares []) }
     ensures members { OnOk result (map members_of groups.new.items ≡ map members_of groups.old.items ++ cons_option (items_of made) []) }
