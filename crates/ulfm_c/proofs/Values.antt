@@ -3,7 +3,7 @@ use Rattle.std.proofs.Common.{◌≡◌, ℕ, List, [], ◌∷◌, ◌++◌, ref
 use mathlib.Core.Bool.{true, ◌&&◌}
 use lib.Dec.{T}
 use seplogic.Ra.Ura.{Ura}
-use mir.Syntax.{impl, tnil, dnil}
+use mir.Syntax.{Dict, impl, tnil, dnil}
 use mir.Raw.{raw as bare}
 use mir.Val.{Val, vptr, vstruct, vcons, vnil, of_list, has_ty, WT}
 use base.Logic.{never, fst∗}
@@ -22,8 +22,13 @@ use Rattle.std.specs.declared.alloc.Allocator.{Ghosts}
 use Rattle.std.proofs.alloc.Calls.{Al, handle_tells}
 use Rattle.std.proofs.cell.Inside.{Good}
 use Rattle.std_alloc.specs.Box.Ownership.{box_owns}
+use Rattle.std_alloc.proofs.BoxSteps.Form.{Bx}
 use Rattle.std_alloc.proofs.ResultValues.{and_tt}
 use Rattle.ulfm_c.specs.contracts.loose.Loose as loose
+
+-- a box of a `T` that an allocator `A` has, as the steps of boxes take it
+abbrev pub boxed : (T : RattleType) → Laws T → (A : RattleType) → Laws A → Ghosts A.Denot → Dict → Dict → Bx
+boxed T L A LA g d dd = record { row = T; laws = L; al = record { row = A; laws = LA; g = g; d = d; drops = dd } }
 
 abbrev pub both : Val → Val → Val
 both v w = vstruct (vcons v (vcons w vnil))

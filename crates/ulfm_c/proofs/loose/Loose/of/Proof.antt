@@ -32,7 +32,7 @@ use Rattle.std_alloc.specs.Box.Ownership.{box_owns}
 use Rattle.std_alloc.proofs.BoxSteps.Form as box
 use Rattle.std_alloc.proofs.BoxSteps.Steps.{box_out, box_in}
 use Rattle.std.proofs.raw_atomic.Walks.{proved_at, leaves}
-use Rattle.ulfm_c.proofs.Values.{both, loose_good, loose_in}
+use Rattle.ulfm_c.proofs.Values.{both, boxed, loose_good, loose_in}
 use Rattle.std_alloc.specs.contracts.boxed.Box.into_raw_with_allocator as callee
 use Rattle.std_alloc.proofs.boxed.Box.into_raw_with_allocator.Met.{met}
 use Rattle.ulfm_c.specs.contracts.loose.Loose.of.{ended, clauses}
@@ -43,8 +43,7 @@ use Rattle.ulfm_c.proofs.loose.Loose.of.Code as code
 pub of_spec : {M : Type 1} → statement M
 of_spec 𝓤 𝓛 𝓜 𝓡 wired T A L LA g d dx dd allocator glue glued =
     let H = 𝓛.H in let 𝓣 = tables 𝓤 H 𝓜 𝓡 𝓡.env in let R : RattleType = param 0 T in let Z : RattleType = param 1 A in let LZ = param_laws 1 A LA in
-    let En = ended T A g d dx dd in let c = clauses T A g d dx dd 𝓛 𝓜.mem 𝓡.returns in
-    let E : box.Bx = record { row = T; laws = L; al = record { row = A; laws = LA; g = g; d = d; drops = dd } } in
+    let En = ended T A g d dx dd in let c = clauses T A g d dx dd 𝓛 𝓜.mem 𝓡.returns in let E = boxed T L A LA g d dd in
     let known = bounded (a_type ∷ a_type ∷ []) (T, (A, tt)) (dcons d (dcons dx (dcons dd dnil))) in let fn = inst_fn known code.function in
     let hs : Stays En.signature.params En.kept = (stay_dropped (plain (λ _. box.B E)) no, tt) in
     proved_at 𝓛 En hs c 𝓜 𝓡 (Goes-blank 𝓛 2 (plain (λ _. box.B E)) no (λ κs x f. tt), tt) (#self known) fn
