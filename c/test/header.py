@@ -124,7 +124,8 @@ def main():
     upper = lambda name: CODES.get(name, re.sub(r"(?<=[a-z])(?=[A-Z])", "_", name).upper())
     same("codes", {name: number for name, number in codes.items() if name not in OWN_CODES}, {upper(name): int(number) for name, number in refusals + own})
     kinds = {name: int(number) for name, number in re.findall(r"\bULFM_(PENDING|AGREED|SHRUNK|DONE|IDLE|WANTS|ANSWERED|LEFT_OUT|TAKEN|OWN) = (\d+)", code)}
-    same("kinds", kinds, {name: int(number) for name, number in re.findall(r"pub const (\w+): u32 = (\d+);", sources)})
+    numbered = re.findall(r"pub const (\w+): u32 = (\d+);", sources) + [(upper(name), number) for name, number in re.findall(r"Fed::(\w+) => (\d+),", sources)]
+    same("kinds", kinds, {name: int(number) for name, number in numbered})
 
     limits = {name: int(number) for name, number in re.findall(r"#define ULFM_(MAX_\w+) (\d+)", raw)}
     same("limits", limits, {name: int(number.replace("_", "")) for name, number in re.findall(r"pub const (MAX_\w+): \w+ = ([\d_]+);", read(TOP, "crates/ulfm_model/src/limits.rt"))})

@@ -27,23 +27,16 @@ pub const WANTS: u32 = 1;
 /// The call is answered.
 pub const ANSWERED: u32 = 2;
 
-/// The entry isn't legal behind those before it, or these are no entry's bytes: it is left out, here as everywhere.
-pub const LEFT_OUT: u32 = 0;
-
-/// The entry was taken.
-pub const TAKEN: u32 = 1;
-
-/// It was the one that the call waited for.
-pub const OWN: u32 = 2;
-
 // What an entry did, as C has it.
 fn fed_number(fed: Fed) -> u32
     ensures { result ≡ fed_code fed }
 {
     match fed {
-        Fed::LeftOut => LEFT_OUT,
-        Fed::Taken => TAKEN,
-        Fed::Own => OWN,
+        // It isn't legal behind those before it, or these are no entry's bytes: it is left out, here as everywhere.
+        Fed::LeftOut => 0,
+        Fed::Taken => 1,
+        // It was the one that the call waited for.
+        Fed::Own => 2,
     }
 }
 
