@@ -7,10 +7,10 @@ use Rattle.ulfm_c.specs.Written.{Lent, Lists}
 use Rattle.ulfm_c.specs.declared.party.Party.{Party}
 use Rattle.ulfm_c.specs.declared.party.Party.TheVariants.{Outside, Rank, Replica}
 
--- a reading by what the handle holds: 18 where that is nothing
-abbrev pub HandleReads : (Party → ℤ → Type 0) → Option Party → ℤ → Type 0
-HandleReads reads None answered = answered ≡ pos 18
-HandleReads reads (Some party) answered = reads party answered
+-- a reading by what the handle holds, which it holds still: 18 where that is nothing
+abbrev pub HandleReads : (Party → ℤ → Type 0) → Option Party → Option Party → ℤ → Type 0
+HandleReads reads None new answered = (new ≡ None) × (answered ≡ pos 18)
+HandleReads reads (Some party) new answered = (new ≡ Some party) × reads party answered
 
 -- a reading of a rank's record by what the party is: 19 where that is the outside, 23 where it is a replica that is lost
 abbrev pub PartyReads : (Record → ℤ → Type 0) → Party → ℤ → Type 0

@@ -12,10 +12,23 @@ ghost use Rattle.ulfm_comm.specs.Revokes.{revoked};
 ghost use Rattle.ulfm_model.specs.declared.call.Call.TheVariants.{Ack, Barrier, FailureAck, Free, IsRevoked, Revoke};
 ghost use Rattle.ulfm_model.specs.declared.reply.Reply.TheVariants.{Acked, Freed, Standing, Started};
 
-use crate::code::NO_HANDLE;
-use crate::handle::Handle;
+use crate::code::{NOT_A_RANK, code_of, refusal_code};
+use crate::handle::{Handle, held};
+use crate::party::Party;
 use crate::polled::{Flag, PolledReply};
+use crate::written::{tell, tell_found};
 use std::alloc::Global;
+use ulfm_laws::FlagAnd;
+
+/// The answer of the rank of threads that a handle holds; the code for another party, or for none.
+macro_rules! by_rank {
+    ($handle:ident, $member:ident => $answer:expr) => {
+        held!($handle, party => match party {
+            Party::Rank($member) => $answer,
+            Party::Outside(_) | Party::Replica(_) => NOT_A_RANK,
+        })
+    };
+}
 
 /// Starts an agree on a flag, in the rank's next agreement round of the communicator. The rank contributes the flag, how many failures it
 /// knows, and how many of them it has acknowledged. From then on the request is open, until a poll ends it. It makes the steps of a look
@@ -28,10 +41,7 @@ use std::alloc::Global;
 pub extern "C" fn ulfm_iagree(handle: &mut Handle, comm: u16, flag: Flag) -> i32
     ensures { HandleCalls (PartyCalls (RankAgrees comm flag)) handle.old.party handle.new.party result }
 {
-    match handle.party() {
-        None => NO_HANDLE,
-        Some(party) => party.iagree(comm, flag),
-    }
+    by_rank!(handle, member => code_of(member.iagree(comm, FlagAnd { bits: flag })))
 }
 
 /// Starts a shrink of a communicator, in the rank's next agreement round of it. The rank contributes the context ids that none of its
@@ -45,10 +55,7 @@ pub extern "C" fn ulfm_iagree(handle: &mut Handle, comm: u16, flag: Flag) -> i32
 pub extern "C" fn ulfm_ishrink(handle: &mut Handle, comm: u16) -> i32
     ensures { HandleCalls (PartyCalls (RankShrinks comm)) handle.old.party handle.new.party result }
 {
-    match handle.party() {
-        None => NO_HANDLE,
-        Some(party) => party.ishrink(comm),
-    }
+    by_rank!(handle, member => code_of(member.ishrink(comm)))
 }
 
 /// Starts a barrier, in the rank's next barrier round of the communicator: the rank has arrived. Barrier rounds are counted apart from
@@ -61,10 +68,7 @@ pub extern "C" fn ulfm_ishrink(handle: &mut Handle, comm: u16) -> i32
 pub extern "C" fn ulfm_ibarrier(handle: &mut Handle, comm: u16) -> i32
     ensures { HandleCalls (PartyCalls (RankDoes (λ r. Barrier r comm) Started)) handle.old.party handle.new.party result }
 {
-    match handle.party() {
-        None => NO_HANDLE,
-        Some(party) => party.ibarrier(comm),
-    }
+    by_rank!(handle, member => code_of(member.ibarrier(comm)))
 }
 
 /// Asks for the reply to the request that is open on a communicator, and writes it to `reply`. It never waits: where somebody is missing
@@ -83,10 +87,13 @@ pub extern "C" fn ulfm_poll(handle: &mut Handle, comm: u16, reply: &mut PolledRe
     ensures calls { HandleCalls (PartyCalls (RankPolls comm reply.new)) handle.old.party handle.new.party result }
     ensures kept { result ≢ pos 0 → reply.new ≡ reply.old }
 {
-    match handle.party() {
-        None => NO_HANDLE,
-        Some(party) => party.poll(comm, reply),
-    }
+    by_rank!(handle, member => match member.poll(comm) {
+        Ok(polled) => {
+            *reply = PolledReply::of(polled);
+            0
+        }
+        Err(refusal) => refusal_code(refusal),
+    })
 }
 
 /// Writes out the failed group of a communicator, in the order of the declarations: the members that are known to have failed. `ranks` gets
@@ -105,10 +112,8 @@ pub extern "C" fn ulfm_get_failed(
     ensures calls { HandleCalls (PartyCalls (RankGets false comm (lent ranks.old ranks.new count.new))) handle.old.party handle.new.party result }
     ensures kept { result ≢ pos 0 → (ranks.new ≡ ranks.old) × (count.new ≡ count.old) }
 {
-    match handle.party() {
-        None => NO_HANDLE,
-        Some(party) => party.get_failed(alloc, comm, ranks, count),
-    }
+    let mut found = Vec::new(alloc);
+    by_rank!(handle, member => tell_found(member.get_failed(comm, &mut found), &found, ranks, count))
 }
 
 /// Writes out who is missing in the round of the request that is open on a communicator, in the members' order: of an agree or a shrink the
@@ -130,10 +135,8 @@ pub extern "C" fn ulfm_missing(
     ensures calls { HandleCalls (PartyCalls (RankMisses comm (lent ranks.old ranks.new count.new))) handle.old.party handle.new.party result }
     ensures kept { result ≢ pos 0 → (ranks.new ≡ ranks.old) × (count.new ≡ count.old) }
 {
-    match handle.party() {
-        None => NO_HANDLE,
-        Some(party) => party.missing(alloc, comm, ranks, count),
-    }
+    let mut found = Vec::new(alloc);
+    by_rank!(handle, member => tell_found(member.missing(comm, &mut found), &found, ranks, count))
 }
 
 /// Acknowledges the first `count` known failures of a communicator, or all that are known where `count` is greater. `acknowledged` gets how
@@ -150,10 +153,7 @@ pub extern "C" fn ulfm_ack_failed(
     ensures calls { HandleCalls (PartyCalls (RankTells (λ r. Ack r comm count) Acked acknowledged.new)) handle.old.party handle.new.party result }
     ensures kept { result ≢ pos 0 → acknowledged.new ≡ acknowledged.old }
 {
-    match handle.party() {
-        None => NO_HANDLE,
-        Some(party) => party.ack_failed(comm, count, acknowledged),
-    }
+    by_rank!(handle, member => tell(member.ack_failed(comm, count), acknowledged))
 }
 
 /// Acknowledges all known failures of a communicator, as `ulfm_ack_failed` does where it asks for 1024. `acknowledged` gets how many are
@@ -165,10 +165,7 @@ pub extern "C" fn ulfm_failure_ack(handle: &mut Handle, comm: u16, acknowledged:
     ensures calls { HandleCalls (PartyCalls (RankTells (λ r. FailureAck r comm) Acked acknowledged.new)) handle.old.party handle.new.party result }
     ensures kept { result ≢ pos 0 → acknowledged.new ≡ acknowledged.old }
 {
-    match handle.party() {
-        None => NO_HANDLE,
-        Some(party) => party.failure_ack(comm, acknowledged),
-    }
+    by_rank!(handle, member => tell(member.failure_ack(comm), acknowledged))
 }
 
 /// Writes out the acknowledged failures of a communicator: of its failed group the first ranks, as many as the rank's calls have
@@ -187,10 +184,8 @@ pub extern "C" fn ulfm_failure_get_acked(
     ensures calls { HandleCalls (PartyCalls (RankGets true comm (lent ranks.old ranks.new count.new))) handle.old.party handle.new.party result }
     ensures kept { result ≢ pos 0 → (ranks.new ≡ ranks.old) × (count.new ≡ count.old) }
 {
-    match handle.party() {
-        None => NO_HANDLE,
-        Some(party) => party.failure_get_acked(alloc, comm, ranks, count),
-    }
+    let mut found = Vec::new(alloc);
+    by_rank!(handle, member => tell_found(member.failure_get_acked(comm, &mut found), &found, ranks, count))
 }
 
 /// Revokes a communicator, for all ranks and for good. `first` gets true where this call did so, false where it had been revoked before. A
@@ -203,10 +198,7 @@ pub extern "C" fn ulfm_revoke(handle: &mut Handle, comm: u16, first: &mut bool) 
     ensures calls { HandleCalls (PartyCalls (RankTells (λ r. Revoke r comm) revoked first.new)) handle.old.party handle.new.party result }
     ensures kept { result ≢ pos 0 → first.new ≡ first.old }
 {
-    match handle.party() {
-        None => NO_HANDLE,
-        Some(party) => party.revoke(comm, first),
-    }
+    by_rank!(handle, member => tell(member.revoke(comm), first))
 }
 
 /// Whether a communicator is revoked, when this call loads the communicator's word of revocation. It makes the steps of a look and one more.
@@ -217,10 +209,7 @@ pub extern "C" fn ulfm_is_revoked(handle: &mut Handle, comm: u16, answer: &mut b
     ensures calls { HandleCalls (PartyCalls (RankTells (λ r. IsRevoked r comm) Standing answer.new)) handle.old.party handle.new.party result }
     ensures kept { result ≢ pos 0 → answer.new ≡ answer.old }
 {
-    match handle.party() {
-        None => NO_HANDLE,
-        Some(party) => party.is_revoked(comm, answer),
-    }
+    by_rank!(handle, member => tell(member.is_revoked(comm), answer))
 }
 
 /// Gives a communicator back: the rank doesn't hold it any more, and its context id is free at this rank. Each rank gives back its own, and
@@ -232,8 +221,5 @@ pub extern "C" fn ulfm_is_revoked(handle: &mut Handle, comm: u16, answer: &mut b
 pub extern "C" fn ulfm_free(handle: &mut Handle, comm: u16) -> i32
     ensures { HandleCalls (PartyCalls (RankDoes (λ r. Free r comm) Freed)) handle.old.party handle.new.party result }
 {
-    match handle.party() {
-        None => NO_HANDLE,
-        Some(party) => party.free(comm),
-    }
+    by_rank!(handle, member => code_of(member.free(comm)))
 }

@@ -23,6 +23,18 @@ impl Model for Handle {
     ghost also_owns = { λ h. owned_at the_row h.at h.party };
 }
 
+/// The answer of the party that a handle holds; the code for none, where it holds nothing.
+macro_rules! held {
+    ($handle:ident, $party:ident => $answer:expr) => {
+        match $handle.party() {
+            None => $crate::code::NO_HANDLE,
+            Some($party) => $answer,
+        }
+    };
+}
+
+pub(crate) use held;
+
 impl Handle {
     ghost use Rattle.std.specs.Borrow.{sem};
     ghost use Rattle.ulfm_c.specs.Lends.{lends_party};

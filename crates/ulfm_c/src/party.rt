@@ -1,15 +1,11 @@
-//! The parties of a world, its ranks and its outside, and their calls with the codes that C sees.
-ghost use Rattle.std.specs.Prelude.{◌≡◌, ◌≢◌, false, pos, true};
-ghost use Rattle.ulfm_c.specs.Calls.{PartyCalls, PartyFails, RankAgrees, RankDoes, RankGets, RankMisses, RankPolls, RankShrinks, RankTells};
+//! The parties of a world, its ranks and its outside, and what is read of them, with the codes that C sees.
+ghost use Rattle.std.specs.Prelude.{◌≡◌, ◌≢◌, pos};
+ghost use Rattle.ulfm_c.specs.Calls.{PartyFails};
 ghost use Rattle.ulfm_c.specs.Reads.{MemberReads, PartyReads, RankHolds, RankLists, RankShows};
 ghost use Rattle.ulfm_c.specs.Written.{Lists, lent};
-ghost use Rattle.ulfm_comm.specs.Revokes.{revoked};
-ghost use Rattle.ulfm_model.specs.declared.call.Call.TheVariants.{Ack, Barrier, FailureAck, Free, IsRevoked, Revoke};
-ghost use Rattle.ulfm_model.specs.declared.reply.Reply.TheVariants.{Acked, Freed, Standing, Started};
 
-use crate::code::{LOST, NOT_A_RANK, code_of, refusal_code};
-use crate::polled::{Flag, PolledReply};
-use crate::written::write_list;
+use crate::code::{LOST, NOT_A_RANK, refusal_code};
+use crate::written::{tell, write_list};
 use std::alloc::Global;
 use ulfm_book::BookWords;
 use ulfm_comm::Rank;
@@ -37,197 +33,6 @@ pub enum Party {
 }
 
 impl Party {
-    pub(crate) fn iagree(&mut self, comm: u16, flag: Flag) -> i32
-        ensures { PartyCalls (RankAgrees comm flag) self.old self.new result }
-    {
-        match self {
-            Party::Rank(member) => code_of(member.iagree(comm, FlagAnd { bits: flag })),
-            Party::Outside(_) | Party::Replica(_) => NOT_A_RANK,
-        }
-    }
-
-    pub(crate) fn ishrink(&mut self, comm: u16) -> i32
-        ensures { PartyCalls (RankShrinks comm) self.old self.new result }
-    {
-        match self {
-            Party::Rank(member) => code_of(member.ishrink(comm)),
-            Party::Outside(_) | Party::Replica(_) => NOT_A_RANK,
-        }
-    }
-
-    pub(crate) fn ibarrier(&mut self, comm: u16) -> i32
-        ensures { PartyCalls (RankDoes (λ r. Barrier r comm) Started) self.old self.new result }
-    {
-        match self {
-            Party::Rank(member) => code_of(member.ibarrier(comm)),
-            Party::Outside(_) | Party::Replica(_) => NOT_A_RANK,
-        }
-    }
-
-    pub(crate) fn free(&mut self, comm: u16) -> i32
-        ensures { PartyCalls (RankDoes (λ r. Free r comm) Freed) self.old self.new result }
-    {
-        match self {
-            Party::Rank(member) => code_of(member.free(comm)),
-            Party::Outside(_) | Party::Replica(_) => NOT_A_RANK,
-        }
-    }
-
-    pub(crate) fn poll(&mut self, comm: u16, reply: &mut PolledReply) -> i32
-        ensures calls { PartyCalls (RankPolls comm reply.new) self.old self.new result }
-        ensures kept { result ≢ pos 0 → reply.new ≡ reply.old }
-    {
-        match self {
-            Party::Rank(member) => match member.poll(comm) {
-                Ok(polled) => {
-                    *reply = PolledReply::of(polled);
-                    0
-                }
-                Err(refusal) => refusal_code(refusal),
-            },
-            Party::Outside(_) | Party::Replica(_) => NOT_A_RANK,
-        }
-    }
-
-    pub(crate) fn revoke(&mut self, comm: u16, first: &mut bool) -> i32
-        ensures calls { PartyCalls (RankTells (λ r. Revoke r comm) revoked first.new) self.old self.new result }
-        ensures kept { result ≢ pos 0 → first.new ≡ first.old }
-    {
-        match self {
-            Party::Rank(member) => match member.revoke(comm) {
-                Ok(told) => {
-                    *first = told;
-                    0
-                }
-                Err(refusal) => refusal_code(refusal),
-            },
-            Party::Outside(_) | Party::Replica(_) => NOT_A_RANK,
-        }
-    }
-
-    pub(crate) fn is_revoked(&mut self, comm: u16, answer: &mut bool) -> i32
-        ensures calls { PartyCalls (RankTells (λ r. IsRevoked r comm) Standing answer.new) self.old self.new result }
-        ensures kept { result ≢ pos 0 → answer.new ≡ answer.old }
-    {
-        match self {
-            Party::Rank(member) => match member.is_revoked(comm) {
-                Ok(told) => {
-                    *answer = told;
-                    0
-                }
-                Err(refusal) => refusal_code(refusal),
-            },
-            Party::Outside(_) | Party::Replica(_) => NOT_A_RANK,
-        }
-    }
-
-    pub(crate) fn ack_failed(&mut self, comm: u16, count: u16, acknowledged: &mut u16) -> i32
-        ensures calls { PartyCalls (RankTells (λ r. Ack r comm count) Acked acknowledged.new) self.old self.new result }
-        ensures kept { result ≢ pos 0 → acknowledged.new ≡ acknowledged.old }
-    {
-        match self {
-            Party::Rank(member) => match member.ack_failed(comm, count) {
-                Ok(told) => {
-                    *acknowledged = told;
-                    0
-                }
-                Err(refusal) => refusal_code(refusal),
-            },
-            Party::Outside(_) | Party::Replica(_) => NOT_A_RANK,
-        }
-    }
-
-    pub(crate) fn get_failed(
-        &mut self,
-        alloc: Global,
-        comm: u16,
-        ranks: &mut [u16],
-        count: &mut usize,
-    ) -> i32
-        ensures calls { PartyCalls (RankGets false comm (lent ranks.old ranks.new count.new)) self.old self.new result }
-        ensures kept { result ≢ pos 0 → (ranks.new ≡ ranks.old) × (count.new ≡ count.old) }
-    {
-        match self {
-            Party::Rank(member) => {
-                let mut found = Vec::new(alloc);
-                match member.get_failed(comm, &mut found) {
-                    Ok(()) => {
-                        write_list(&found, ranks, count);
-                        0
-                    }
-                    Err(refusal) => refusal_code(refusal),
-                }
-            }
-            Party::Outside(_) | Party::Replica(_) => NOT_A_RANK,
-        }
-    }
-
-    pub(crate) fn failure_ack(&mut self, comm: u16, acknowledged: &mut u16) -> i32
-        ensures calls { PartyCalls (RankTells (λ r. FailureAck r comm) Acked acknowledged.new) self.old self.new result }
-        ensures kept { result ≢ pos 0 → acknowledged.new ≡ acknowledged.old }
-    {
-        match self {
-            Party::Rank(member) => match member.failure_ack(comm) {
-                Ok(told) => {
-                    *acknowledged = told;
-                    0
-                }
-                Err(refusal) => refusal_code(refusal),
-            },
-            Party::Outside(_) | Party::Replica(_) => NOT_A_RANK,
-        }
-    }
-
-    pub(crate) fn failure_get_acked(
-        &mut self,
-        alloc: Global,
-        comm: u16,
-        ranks: &mut [u16],
-        count: &mut usize,
-    ) -> i32
-        ensures calls { PartyCalls (RankGets true comm (lent ranks.old ranks.new count.new)) self.old self.new result }
-        ensures kept { result ≢ pos 0 → (ranks.new ≡ ranks.old) × (count.new ≡ count.old) }
-    {
-        match self {
-            Party::Rank(member) => {
-                let mut found = Vec::new(alloc);
-                match member.failure_get_acked(comm, &mut found) {
-                    Ok(()) => {
-                        write_list(&found, ranks, count);
-                        0
-                    }
-                    Err(refusal) => refusal_code(refusal),
-                }
-            }
-            Party::Outside(_) | Party::Replica(_) => NOT_A_RANK,
-        }
-    }
-
-    pub(crate) fn missing(
-        &mut self,
-        alloc: Global,
-        comm: u16,
-        ranks: &mut [u16],
-        count: &mut usize,
-    ) -> i32
-        ensures calls { PartyCalls (RankMisses comm (lent ranks.old ranks.new count.new)) self.old self.new result }
-        ensures kept { result ≢ pos 0 → (ranks.new ≡ ranks.old) × (count.new ≡ count.old) }
-    {
-        match self {
-            Party::Rank(member) => {
-                let mut found = Vec::new(alloc);
-                match member.missing(comm, &mut found) {
-                    Ok(()) => {
-                        write_list(&found, ranks, count);
-                        0
-                    }
-                    Err(refusal) => refusal_code(refusal),
-                }
-            }
-            Party::Outside(_) | Party::Replica(_) => NOT_A_RANK,
-        }
-    }
-
     pub(crate) fn fail(&mut self, rank: u16, first: &mut bool) -> i32
         ensures calls { PartyFails rank first.new self.old self.new result }
         ensures kept { result ≢ pos 0 → first.new ≡ first.old }
@@ -237,13 +42,7 @@ impl Party {
             Party::Outside(outside) => outside.fail(rank),
             Party::Replica(_) => return NOT_A_RANK,
         };
-        match answer {
-            Ok(is_first) => {
-                *first = is_first;
-                0
-            }
-            Err(refusal) => refusal_code(refusal),
-        }
+        tell(answer, first)
     }
 }
 

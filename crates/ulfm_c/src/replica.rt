@@ -12,8 +12,7 @@ ghost use Rattle.ulfm_c.specs.Replicas.{OpensReplica, PartyReplays, ReplicaAgree
 ghost use Rattle.ulfm_c.specs.Written.{lent};
 
 use crate::asked::Asked;
-use crate::code::NO_HANDLE;
-use crate::handle::Handle;
+use crate::handle::{Handle, held};
 use crate::opening::{no_replica_code, open_replica};
 use crate::polled::{Flag, PolledReply};
 use std::alloc::Global;
@@ -58,10 +57,7 @@ pub extern "C" fn ulfm_open_replica(
 pub extern "C" fn ulfm_begin_agree(handle: &mut Handle, comm: u16, flag: Flag) -> i32
     ensures { HandleCalls (PartyReplays (ReplicaAgrees comm flag)) handle.old.party handle.new.party result }
 {
-    match handle.party() {
-        None => NO_HANDLE,
-        Some(party) => party.begin_agree(comm, flag),
-    }
+    held!(handle, party => party.begin_agree(comm, flag))
 }
 
 /// Begins a shrink, as `ulfm_ishrink` starts one. `ulfm_run` makes it.
@@ -71,10 +67,7 @@ pub extern "C" fn ulfm_begin_agree(handle: &mut Handle, comm: u16, flag: Flag) -
 pub extern "C" fn ulfm_begin_shrink(handle: &mut Handle, comm: u16) -> i32
     ensures { HandleCalls (PartyReplays (ReplicaBegins (λ r. asks.Shrink r comm))) handle.old.party handle.new.party result }
 {
-    match handle.party() {
-        None => NO_HANDLE,
-        Some(party) => party.begin_asked(Asked::Shrink { comm }),
-    }
+    held!(handle, party => party.begin_asked(Asked::Shrink { comm }))
 }
 
 /// Begins a barrier, as `ulfm_ibarrier` starts one. `ulfm_run` makes it.
@@ -84,10 +77,7 @@ pub extern "C" fn ulfm_begin_shrink(handle: &mut Handle, comm: u16) -> i32
 pub extern "C" fn ulfm_begin_barrier(handle: &mut Handle, comm: u16) -> i32
     ensures { HandleCalls (PartyReplays (ReplicaBegins (λ r. asks.Barrier r comm))) handle.old.party handle.new.party result }
 {
-    match handle.party() {
-        None => NO_HANDLE,
-        Some(party) => party.begin_asked(Asked::Barrier { comm }),
-    }
+    held!(handle, party => party.begin_asked(Asked::Barrier { comm }))
 }
 
 /// Begins a poll of the request that is open on a communicator, as `ulfm_poll`. `ulfm_run` makes it.
@@ -97,10 +87,7 @@ pub extern "C" fn ulfm_begin_barrier(handle: &mut Handle, comm: u16) -> i32
 pub extern "C" fn ulfm_begin_poll(handle: &mut Handle, comm: u16) -> i32
     ensures { HandleCalls (PartyReplays (ReplicaBegins (λ r. asks.Poll r comm))) handle.old.party handle.new.party result }
 {
-    match handle.party() {
-        None => NO_HANDLE,
-        Some(party) => party.begin_asked(Asked::Poll { comm }),
-    }
+    held!(handle, party => party.begin_asked(Asked::Poll { comm }))
 }
 
 /// Begins a revocation, as `ulfm_revoke`. `ulfm_run` makes it.
@@ -110,10 +97,7 @@ pub extern "C" fn ulfm_begin_poll(handle: &mut Handle, comm: u16) -> i32
 pub extern "C" fn ulfm_begin_revoke(handle: &mut Handle, comm: u16) -> i32
     ensures { HandleCalls (PartyReplays (ReplicaBegins (λ r. asks.Revoke r comm))) handle.old.party handle.new.party result }
 {
-    match handle.party() {
-        None => NO_HANDLE,
-        Some(party) => party.begin_asked(Asked::Revoke { comm }),
-    }
+    held!(handle, party => party.begin_asked(Asked::Revoke { comm }))
 }
 
 /// Begins the question whether a communicator is revoked, as `ulfm_is_revoked`. `ulfm_run` makes it.
@@ -123,10 +107,7 @@ pub extern "C" fn ulfm_begin_revoke(handle: &mut Handle, comm: u16) -> i32
 pub extern "C" fn ulfm_begin_is_revoked(handle: &mut Handle, comm: u16) -> i32
     ensures { HandleCalls (PartyReplays (ReplicaBegins (λ r. asks.IsRevoked r comm))) handle.old.party handle.new.party result }
 {
-    match handle.party() {
-        None => NO_HANDLE,
-        Some(party) => party.begin_asked(Asked::IsRevoked { comm }),
-    }
+    held!(handle, party => party.begin_asked(Asked::IsRevoked { comm }))
 }
 
 /// Begins the question for the size of the failed group, as `ulfm_get_failed`. `ulfm_run` makes it.
@@ -136,10 +117,7 @@ pub extern "C" fn ulfm_begin_is_revoked(handle: &mut Handle, comm: u16) -> i32
 pub extern "C" fn ulfm_begin_get_failed(handle: &mut Handle, comm: u16) -> i32
     ensures { HandleCalls (PartyReplays (ReplicaBegins (λ r. asks.GetFailed r comm))) handle.old.party handle.new.party result }
 {
-    match handle.party() {
-        None => NO_HANDLE,
-        Some(party) => party.begin_asked(Asked::GetFailed { comm }),
-    }
+    held!(handle, party => party.begin_asked(Asked::GetFailed { comm }))
 }
 
 /// Begins an acknowledgement of so many failures, as `ulfm_ack_failed`. `ulfm_run` makes it.
@@ -149,10 +127,7 @@ pub extern "C" fn ulfm_begin_get_failed(handle: &mut Handle, comm: u16) -> i32
 pub extern "C" fn ulfm_begin_ack_failed(handle: &mut Handle, comm: u16, count: u16) -> i32
     ensures { HandleCalls (PartyReplays (ReplicaBegins (λ r. asks.Ack r comm count))) handle.old.party handle.new.party result }
 {
-    match handle.party() {
-        None => NO_HANDLE,
-        Some(party) => party.begin_asked(Asked::Ack { comm, count }),
-    }
+    held!(handle, party => party.begin_asked(Asked::Ack { comm, count }))
 }
 
 /// Begins an acknowledgement of all failures, as `ulfm_failure_ack`. `ulfm_run` makes it.
@@ -162,10 +137,7 @@ pub extern "C" fn ulfm_begin_ack_failed(handle: &mut Handle, comm: u16, count: u
 pub extern "C" fn ulfm_begin_failure_ack(handle: &mut Handle, comm: u16) -> i32
     ensures { HandleCalls (PartyReplays (ReplicaBegins (λ r. asks.FailureAck r comm))) handle.old.party handle.new.party result }
 {
-    match handle.party() {
-        None => NO_HANDLE,
-        Some(party) => party.begin_asked(Asked::FailureAck { comm }),
-    }
+    held!(handle, party => party.begin_asked(Asked::FailureAck { comm }))
 }
 
 /// Begins the question for the size of the acknowledged group, as `ulfm_failure_get_acked`. `ulfm_run` makes it.
@@ -175,10 +147,7 @@ pub extern "C" fn ulfm_begin_failure_ack(handle: &mut Handle, comm: u16) -> i32
 pub extern "C" fn ulfm_begin_failure_get_acked(handle: &mut Handle, comm: u16) -> i32
     ensures { HandleCalls (PartyReplays (ReplicaBegins (λ r. asks.FailureGetAcked r comm))) handle.old.party handle.new.party result }
 {
-    match handle.party() {
-        None => NO_HANDLE,
-        Some(party) => party.begin_asked(Asked::FailureGetAcked { comm }),
-    }
+    held!(handle, party => party.begin_asked(Asked::FailureGetAcked { comm }))
 }
 
 /// Begins the giving back of a communicator, as `ulfm_free`. `ulfm_run` makes it.
@@ -188,10 +157,7 @@ pub extern "C" fn ulfm_begin_failure_get_acked(handle: &mut Handle, comm: u16) -
 pub extern "C" fn ulfm_begin_free(handle: &mut Handle, comm: u16) -> i32
     ensures { HandleCalls (PartyReplays (ReplicaBegins (λ r. asks.Free r comm))) handle.old.party handle.new.party result }
 {
-    match handle.party() {
-        None => NO_HANDLE,
-        Some(party) => party.begin_asked(Asked::Free { comm }),
-    }
+    held!(handle, party => party.begin_asked(Asked::Free { comm }))
 }
 
 /// Steps on as far as no entry is waited for. `ran` gets 0 where no call is under way, 1 where the call waits for an entry, whose bytes `entry`
@@ -210,10 +176,7 @@ pub extern "C" fn ulfm_run(
     ensures { HandleCalls (PartyReplays (ReplicaRuns (record { entry = entry.new.bytes; reply = reply.new; code = code.new; ran = ran.new })))
         handle.old.party handle.new.party result }
 {
-    match handle.party() {
-        None => NO_HANDLE,
-        Some(party) => party.run(entry, reply, code, ran),
-    }
+    held!(handle, party => party.run(entry, reply, code, ran))
 }
 
 /// Feeds the entry of this number of the world's log, counted from 0. `fed` gets 0 where it is left out, since it isn't legal behind those before
@@ -229,10 +192,7 @@ pub extern "C" fn ulfm_feed(
 ) -> i32
     ensures { HandleCalls (PartyReplays (ReplicaFeeds index entry.now.bytes fed.new)) handle.old.party handle.new.party result }
 {
-    match handle.party() {
-        None => NO_HANDLE,
-        Some(party) => party.feed(index, entry, fed),
-    }
+    held!(handle, party => party.feed(index, entry, fed))
 }
 
 /// With how many entries it was fed: the number of the next one.
@@ -240,10 +200,7 @@ pub extern "C" fn ulfm_feed(
 pub extern "C" fn ulfm_fed(handle: &mut Handle, count: &mut u64) -> i32
     ensures { HandleCalls (PartyReplays (ReplicaCounts count.new)) handle.old.party handle.new.party result }
 {
-    match handle.party() {
-        None => NO_HANDLE,
-        Some(party) => party.fed(count),
-    }
+    held!(handle, party => party.fed(count))
 }
 
 /// Writes out the failed group of a communicator as the replica's calls have seen it, in the order of the declarations: behind `get_failed` it is
@@ -261,8 +218,5 @@ pub extern "C" fn ulfm_replica_group(
 ) -> i32
     ensures { HandleCalls (PartyReplays (ReplicaLists comm (lent ranks.old ranks.new count.new))) handle.old.party handle.new.party result }
 {
-    match handle.party() {
-        None => NO_HANDLE,
-        Some(party) => party.replica_group(alloc, comm, ranks, count),
-    }
+    held!(handle, party => party.replica_group(alloc, comm, ranks, count))
 }

@@ -4,7 +4,7 @@ ghost use Rattle.ulfm_c.specs.Calls.{HandleCalls, PartyFails};
 ghost use Rattle.ulfm_c.specs.Opens.{OpenFails, Opens, limits_of, parties_in};
 
 use crate::code::NO_HANDLE;
-use crate::handle::Handle;
+use crate::handle::{Handle, held};
 use crate::opening::open_in;
 use std::alloc::Global;
 use ulfm_model::Limits;
@@ -47,10 +47,7 @@ pub extern "C" fn ulfm_fail(handle: &mut Handle, rank: u16, first: &mut bool) ->
     ensures calls { HandleCalls (PartyFails rank first.new) handle.old.party handle.new.party result }
     ensures kept { result ≢ pos 0 → first.new ≡ first.old }
 {
-    match handle.party() {
-        None => NO_HANDLE,
-        Some(party) => party.fail(rank, first),
-    }
+    held!(handle, party => party.fail(rank, first))
 }
 
 /// Gives back what the handle holds, a rank or the outside: from then on it holds nothing. A world's memory goes with the last of its
