@@ -1,5 +1,5 @@
 // What a call's reply is to its caller.
-ghost use Rattle.std.specs.Prelude.{◌≡◌};
+ghost use Rattle.std.specs.Prelude.{◌≡◌, ◌⊎◌};
 ghost use Rattle.ulfm_model.specs.declared.reply.Reply.TheVariants.{Started, FailedGroup, Acked, Freed, Refused, Standing};
 ghost use Rattle.ulfm_comm.specs.Calls.{reply_of};
 ghost use Rattle.ulfm_comm.specs.Polls.{polled};
@@ -22,15 +22,22 @@ fn refusal_in<P>(reply: Reply<P>) -> Refusal
     }
 }
 
+// The answer that a reply of such a form is; any other reply is a refusal.
+macro_rules! answer {
+    ($reply:ident, $($form:pat => $told:expr),+) => {
+        match $reply {
+            $($form => Ok($told),)+
+            _ => Err(refusal_in($reply)),
+        }
+    };
+}
+
 // That of a start.
 pub(crate) fn started<P>(reply: Reply<P>) -> Result<(), Refusal>
     requires { IsOfKind Kind.Starts reply }
     ensures { reply_of (λ _. Started) result ≡ reply }
 {
-    match reply {
-        Reply::Started => Ok(()),
-        _ => Err(refusal_in(reply)),
-    }
+    answer!(reply, Reply::Started => ())
 }
 
 // That of a query of the failed group: how many ranks it has.
@@ -38,10 +45,7 @@ pub(crate) fn counted<P>(reply: Reply<P>) -> Result<u16, Refusal>
     requires { IsOfKind Kind.Counts reply }
     ensures { reply_of FailedGroup result ≡ reply }
 {
-    match reply {
-        Reply::FailedGroup { count } => Ok(count),
-        _ => Err(refusal_in(reply)),
-    }
+    answer!(reply, Reply::FailedGroup { count } => count)
 }
 
 // That of an acknowledgement: how many failures are acknowledged now.
@@ -49,10 +53,7 @@ pub(crate) fn acked<P>(reply: Reply<P>) -> Result<u16, Refusal>
     requires { IsOfKind Kind.Acknowledges reply }
     ensures { reply_of Acked result ≡ reply }
 {
-    match reply {
-        Reply::Acked { count } => Ok(count),
-        _ => Err(refusal_in(reply)),
-    }
+    answer!(reply, Reply::Acked { count } => count)
 }
 
 // That of a communicator given back.
@@ -60,33 +61,16 @@ pub(crate) fn freed<P>(reply: Reply<P>) -> Result<(), Refusal>
     requires { IsOfKind Kind.Frees reply }
     ensures { reply_of (λ _. Freed) result ≡ reply }
 {
-    match reply {
-        Reply::Freed => Ok(()),
-        _ => Err(refusal_in(reply)),
-    }
+    answer!(reply, Reply::Freed => ())
 }
 
-// That of a revocation: whether it was this call's.
-pub(crate) fn revoked<P>(reply: Reply<P>) -> Result<bool, Refusal>
-    requires { IsOfKind Kind.Revokes reply }
-    ensures { reply_of revoked result ≡ reply }
+// Whether a communicator was revoked: by this call, or at all.
+pub(crate) fn told<P>(reply: Reply<P>) -> Result<bool, Refusal>
+    requires { IsOfKind Kind.Revokes reply ⊎ IsOfKind Kind.Asks reply }
+    ensures revokes { IsOfKind Kind.Revokes reply → reply_of revoked result ≡ reply }
+    ensures asks { IsOfKind Kind.Asks reply → reply_of Standing result ≡ reply }
 {
-    match reply {
-        Reply::Revoked => Ok(true),
-        Reply::AlreadyRevoked => Ok(false),
-        _ => Err(refusal_in(reply)),
-    }
-}
-
-// Whether a communicator is revoked.
-pub(crate) fn standing<P>(reply: Reply<P>) -> Result<bool, Refusal>
-    requires { IsOfKind Kind.Asks reply }
-    ensures { reply_of Standing result ≡ reply }
-{
-    match reply {
-        Reply::Standing { revoked } => Ok(revoked),
-        _ => Err(refusal_in(reply)),
-    }
+    answer!(reply, Reply::Revoked => true, Reply::AlreadyRevoked => false, Reply::Standing { revoked } => revoked)
 }
 
 // That of a poll.
@@ -94,27 +78,11 @@ pub(crate) fn polled<P>(reply: Reply<P>) -> Result<Polled<P>, Refusal>
     requires { IsOfKind Kind.Polls reply }
     ensures { reply_of polled result ≡ reply }
 {
-    match reply {
-        Reply::Pending => Ok(Polled::Pending),
-        Reply::Agreed {
-            value,
-            failed,
-            raised,
-        } => Ok(Polled::Agreed {
-            value,
-            failed,
-            raised,
-        }),
-        Reply::Shrunk {
-            comm,
-            context,
-            size,
-        } => Ok(Polled::Shrunk {
-            comm,
-            context,
-            size,
-        }),
-        Reply::Done => Ok(Polled::Done),
-        _ => Err(refusal_in(reply)),
-    }
+    answer!(
+        reply,
+        Reply::Pending => Polled::Pending,
+        Reply::Agreed { value, failed, raised } => Polled::Agreed { value, failed, raised },
+        Reply::Shrunk { comm, context, size } => Polled::Shrunk { comm, context, size },
+        Reply::Done => Polled::Done
+    )
 }

@@ -13,7 +13,7 @@ ghost use Rattle.ulfm_comm.specs.Queries.{acked_in};
 ghost use Rattle.ulfm_comm.specs.Revokes.{revoked};
 
 use crate::calls::polled::Polled;
-use crate::calls::replies::{acked, counted, freed, polled, revoked, standing, started};
+use crate::calls::replies::{acked, counted, freed, polled, started, told};
 use crate::rank::Rank;
 use crate::world::World;
 use std::alloc::Allocator;
@@ -396,7 +396,7 @@ impl<P: Packed, A: Allocator + Copy> Rank<P, A> {
             self.new.last (local self.new.own (view_of P.pack world.now (W.sight pass.new))) }
     {
         let rank = self.number();
-        revoked(self.call(world, pass, Call::Revoke { rank, comm }))
+        told(self.call(world, pass, Call::Revoke { rank, comm }))
     }
 
     /// Whether a communicator is revoked, when this call loads the communicator's word of revocation. It makes the steps of a look (see
@@ -424,6 +424,6 @@ impl<P: Packed, A: Allocator + Copy> Rank<P, A> {
             self.new.last (local self.new.own (view_of P.pack world.now (W.sight pass.new))) }
     {
         let rank = self.number();
-        standing(self.call(world, pass, Call::IsRevoked { rank, comm }))
+        told(self.call(world, pass, Call::IsRevoked { rank, comm }))
     }
 }
