@@ -199,34 +199,21 @@ one_header text a b x y =
     let other : header_of Trace text ≡ Ok b = header_again Trace text b y.may_open y.text_is in
     cc
 
--- a trace that breaks off, behind its header
-pub record Behind (lines : List (List ℕ)) (cut : List ℕ) (number : ℕ) (why : Why) : Type 0 where
-  pub header : List ℕ
-  pub limits : Limits
-  pub is_header : IsHeader header limits
-  pub texts : List (List ℕ)
-  pub behind : List (List ℕ)
-  pub lines_are : lines ≡ header ∷ (texts ++ behind)
-  pub breaks : Breaks (nothing limits) 2 texts behind cut number why
+-- behind its header a legal trace runs to its end
+runs_behind : (lines : List (List ℕ)) (limits : Limits) (trace : TraceLines) (t : Tell lines limits trace) → Runs (nothing limits) 2 t.texts trace
+runs_behind lines limits trace t =
+    let size : length lines ≡ length (t.header ∷ t.texts) = ap length t.lines_are in
+    record { told = t.told; legal = t.legal; few = omega (arith, t.few, size) }
 
-behind_header : (lines : List (List ℕ)) (cut : List ℕ) (number : ℕ) (why : Why) → BreaksOff lines cut number why → Behind lines cut number why
-behind_header lines cut number why b =
-    let t = b.tell in
-    let size : length b.before ≡ length (t.header ∷ t.texts) = ap length t.lines_are in
-    record {
-      header = t.header;
-      limits = b.limits;
-      is_header = t.is_header;
-      texts = t.texts;
-      behind = b.behind;
-      lines_are = b.lines_are ∙ ap (λ (ts : List (List ℕ)). ts ++ b.behind) t.lines_are;
-      breaks = record {
-        trace = b.trace;
-        runs = record { told = t.told; legal = t.legal; few = omega (arith, t.few, size) };
-        at_is = omega (arith, b.number_is, size);
-        bad = b.bad;
-      };
-    }
+-- a trace that breaks off begins with a header
+lines_behind : (lines : List (List ℕ)) (cut : List ℕ) (number : ℕ) (why : Why) (b : BreaksOff lines cut number why) → lines ≡ b.tell.header ∷ (b.tell.texts ++ b.behind)
+lines_behind lines cut number why b = b.lines_are ∙ ap (λ (ts : List (List ℕ)). ts ++ b.behind) b.tell.lines_are
+
+-- and breaks off behind it
+breaks_behind : (lines : List (List ℕ)) (cut : List ℕ) (number : ℕ) (why : Why) (b : BreaksOff lines cut number why) → Breaks (nothing b.limits) 2 b.tell.texts b.behind cut number why
+breaks_behind lines cut number why b =
+    let size : length b.before ≡ length (b.tell.header ∷ b.tell.texts) = ap length b.tell.lines_are in
+    record { trace = b.trace; runs = runs_behind b.before b.limits b.trace b.tell; at_is = omega (arith, b.number_is, size); bad = b.bad }
 
 -- with such a header, the trace breaks off so
 breaks_off : (header : List ℕ) (limits : Limits) (texts behind lines : List (List ℕ)) (cut : List ℕ) (number : ℕ) (why : Why) → IsHeader header limits → lines ≡ texts ++ behind
@@ -256,25 +243,24 @@ has_header lines header texts limits e is lacks = subst LacksHeader e lacks (lim
 -- a legal trace breaks off nowhere
 pub legal_stays : (lines : List (List ℕ)) (cut : List ℕ) (number : ℕ) (why : Why) (limits : Limits) (trace : TraceLines) → Tell lines limits trace → cut ≡ [] → BreaksOff lines cut number why → ⊥
 legal_stays lines cut number why limits trace t none b =
-    let d = behind_header lines cut number why b in
-    let e = sym t.lines_are ∙ d.lines_are in
-    let same : t.header ≡ d.header = first_same t.header d.header t.texts (d.texts ++ d.behind) e in
-    let one : d.limits ≡ limits = one_header t.header d.limits limits (subst (λ (h : List ℕ). IsHeader h d.limits) (sym same) d.is_header) t.is_header in
-    let size : length lines ≡ length (t.header ∷ t.texts) = ap length t.lines_are in
-    legal_or_breaks (nothing limits) 2 t.texts d.texts d.behind cut number why trace (rest_same t.header d.header t.texts (d.texts ++ d.behind) e)
-    (record { told = t.told; legal = t.legal; few = omega (arith, t.few, size) }) none
-    (subst (λ (l : Limits). Breaks (nothing l) 2 d.texts d.behind cut number why) one d.breaks)
+    let d = b.tell in
+    let e = sym t.lines_are ∙ lines_behind lines cut number why b in
+    let same : t.header ≡ d.header = first_same t.header d.header t.texts (d.texts ++ b.behind) e in
+    let one : b.limits ≡ limits = one_header t.header b.limits limits (subst (λ (h : List ℕ). IsHeader h b.limits) (sym same) d.is_header) t.is_header in
+    legal_or_breaks (nothing limits) 2 t.texts d.texts b.behind cut number why trace (rest_same t.header d.header t.texts (d.texts ++ b.behind) e)
+    (runs_behind lines limits trace t) none
+    (subst (λ (l : Limits). Breaks (nothing l) 2 d.texts b.behind cut number why) one (breaks_behind lines cut number why b))
 
 -- a text breaks off at one line
 pub one_break : (lines : List (List ℕ)) (cut : List ℕ) (n m : ℕ) (why other : Why) → BreaksOff lines cut n why → BreaksOff lines cut m other → (n ≡ m) × (why ≡ other)
 one_break lines cut n m why other b c =
-    let d = behind_header lines cut n why b in
-    let f = behind_header lines cut m other c in
-    let e = sym d.lines_are ∙ f.lines_are in
-    let same : d.header ≡ f.header = first_same d.header f.header (d.texts ++ d.behind) (f.texts ++ f.behind) e in
-    let one : f.limits ≡ d.limits = one_header d.header f.limits d.limits (subst (λ (h : List ℕ). IsHeader h f.limits) (sym same) f.is_header) d.is_header in
-    two_breaks (nothing d.limits) 2 d.texts f.texts d.behind f.behind cut n m why other (rest_same d.header f.header (d.texts ++ d.behind) (f.texts ++ f.behind) e) d.breaks
-    (subst (λ (l : Limits). Breaks (nothing l) 2 f.texts f.behind cut m other) one f.breaks)
+    let d = b.tell in
+    let f = c.tell in
+    let e = sym (lines_behind lines cut n why b) ∙ lines_behind lines cut m other c in
+    let same : d.header ≡ f.header = first_same d.header f.header (d.texts ++ b.behind) (f.texts ++ c.behind) e in
+    let one : c.limits ≡ b.limits = one_header d.header c.limits b.limits (subst (λ (h : List ℕ). IsHeader h c.limits) (sym same) f.is_header) d.is_header in
+    two_breaks (nothing b.limits) 2 d.texts f.texts b.behind c.behind cut n m why other (rest_same d.header f.header (d.texts ++ b.behind) (f.texts ++ c.behind) e)
+    (breaks_behind lines cut n why b) (subst (λ (l : Limits). Breaks (nothing l) 2 f.texts c.behind cut m other) one (breaks_behind lines cut m other c))
 
 -- lines that are no legal trace aren't without a bad one
 pub some_bad : (lines : List (List ℕ)) (cut : List ℕ) → ((limits : Limits) (trace : TraceLines) → Tell lines limits trace → cut ≢ []) → ¬ LacksHeader lines
@@ -301,8 +287,7 @@ some_bad (header ∷ lines) cut no_run has no_break =
     )
 
 lacks_or_breaks : (lines : List (List ℕ)) (cut : List ℕ) (n : ℕ) (why : Why) → LacksHeader lines → BreaksOff lines cut n why → ⊥
-lacks_or_breaks lines cut n why lacks b =
-    let d = behind_header lines cut n why b in has_header lines d.header (d.texts ++ d.behind) d.limits d.lines_are d.is_header lacks
+lacks_or_breaks lines cut n why lacks b = has_header lines b.tell.header (b.tell.texts ++ b.behind) b.limits (lines_behind lines cut n why b) b.tell.is_header lacks
 
 pub one_verdict : (text : List ℕ) (n m : ℕ) (why other : Why) → IsFirstBad text n why → IsFirstBad text m other → (n ≡ m) × (why ≡ other)
 one_verdict text n m why other (inl one) (inl two) = (one.0 ∙ sym two.0, one.1 ∙ sym two.1)
