@@ -339,12 +339,12 @@ failing_begins limits r at steps trace rest lt (inr left) fits =
 after_legal : (at r number : ℕ) (limits : Limits) (items : List ScriptStep) (out : List ℕ) → r < 1024 → Spells limits items → FailsAfter at r number limits items out → IsFoundLegal out
 after_legal at r number limits items out lt spells failed =
     let begins = follows_begins (nothing limits) items failed.rest spells.steps failed.follows in
-    let all = failing_begins limits r at failed.steps failed.trace failed.rest lt failed.left_out begins.0 in
+    let all = failing_begins limits r at failed.counted.steps failed.trace failed.rest lt failed.left_out begins.0 in
     let few = begins.1 in
     let most = spells.few in
     let one = all.1 in
     let small = spells.wide.small in
-    let legal = legal_text limits spells.wide failed.trace failed.legal all.0 (omega (arith, few, most, one, small)) in
+    let legal = legal_text limits spells.wide failed.trace failed.counted.legal all.0 (omega (arith, few, most, one, small)) in
     found_legal out (subst IsLegalText (sym failed.out_is) legal)
 
 -- what a run to its end has written in which a rank was declared in between

@@ -14,7 +14,7 @@ use Rattle.ulfm_lines.proofs.{Calls.{opens_all, opens_append, said_opens}, Joine
 use Rattle.ulfm_lines.specs.{LineTexts.{lines_text}, StepLines.{ScriptStep, step_line_of}, Stepped.{IsOpenCall, TellsStep, TraceState}, Walked.{IsCountOf, IsTaken, TellsSteps, to_the_end}}
 use Rattle.ulfm_lines.specs.declared.step_machine.{Reach.{Reach}, Taken.{Taken}, Taken.TheVariants.{Open as IsOpenStill, Run}}
 use Rattle.ulfm_script.proofs.RunLemmas.{ran_all_as}
-use Rattle.ulfm_run.specs.{FailingScripts.{DeclaresIfDue, EngineState, FailsAfter, FindsOpenBehind, HasFailed, LeavesDue, LeavesOut, LeavesSoFar, Lines, RestsAt, RunsFailing, RunsStep, StandsSoFar, TakesStepLine, TellsWalk, behind_of, failing_scripts, fewer, ranks_event, ranks_events, up_to}, StepScripts.{first_line, trace_text}}
+use Rattle.ulfm_run.specs.{FailingScripts.{DeclaresIfDue, EngineState, FailsAfter, FindsOpenBehind, HasFailed, IsCounted, LeavesDue, LeavesOut, LeavesSoFar, Lines, RestsAt, RunsFailing, RunsStep, StandsSoFar, TakesStepLine, TellsWalk, behind_of, failing_scripts, fails_after, fewer, ranks_event, ranks_events, up_to}, StepScripts.{first_line, trace_text}}
 use Rattle.ulfm_run.specs.declared.plan.Failing.{Failing}
 use Rattle.ulfm_run.proofs.TraceLemmas.{follows_append}
 
@@ -181,17 +181,17 @@ leaves_due limits plan true steps trace rest l early = inl (early refl, l.1)
 leaves_due limits plan false steps trace rest l early = inr l
 
 -- lines that are told where the declaration isn't due
-rests_at : (now : EngineState) (limits : Limits) (trace rest : Lines) (at : StandsSoFar now limits trace rest) → (now.waits ≡ true → at.steps < now.plan.at)
+rests_at : (now : EngineState) (limits : Limits) (trace rest : Lines) (at : StandsSoFar now limits trace rest) → (now.waits ≡ true → at.counted.steps < now.plan.at)
     → RestsAt now limits trace rest
 rests_at now limits trace rest at early =
-    record { stands = at; early = early; left_out = leaves_due limits now.plan now.waits at.steps trace rest at.left_out early }
+    record { stands = at; early = early; left_out = leaves_due limits now.plan now.waits at.counted.steps trace rest at.left_out early }
 
 -- what was told last doesn't matter
 retold : (now : EngineState) (text : List ℕ) (limits : Limits) (trace rest : Lines) → RestsAt now limits trace rest → RestsAt (record now { text = text }) limits trace rest
 retold now text limits trace rest at =
     let s = at.stands in
     record {
-      stands = record { legal = s.legal; steps = s.steps; made_is = s.made_is; left_out = s.left_out; counted = s.counted; says = s.says };
+      stands = record { counted = s.counted; left_out = s.left_out; says = s.says };
       early = at.early;
       left_out = at.left_out;
     }
@@ -210,7 +210,7 @@ module _ (was : EngineState) (After : TraceState → Type 0) (limits : Limits) (
 
   -- steps of a rank's call, no more than come before the declaration, if it is still to come
   pub stands_stepped : (q : ℕ) (reach : Reach) (n sum : ℕ) (new : List ℕ) (t : TellsSteps After now q reach n was.text new) → IsCountOf (was.made + n) sum
-      → (was.waits ≡ true → at.steps + t.count ≤ was.plan.at) → StandsSoFar (further was After sum new) limits (trace ++ t.piece) (rest ++ t.piece)
+      → (was.waits ≡ true → at.counted.steps + t.count ≤ was.plan.at) → StandsSoFar (further was After sum new) limits (trace ++ t.piece) (rest ++ t.piece)
   stands_stepped q reach n sum new t all within =
       let said = said_append (nothing limits) trace t.piece in
       let more = ranks_append trace t.piece in
@@ -219,42 +219,51 @@ module _ (was : EngineState) (After : TraceState → Type 0) (limits : Limits) (
       let second = ranks_room now t.piece in
       let few = t.few in
       let room = t.room in
-      let counted = counted_on (ranks_events trace) (ranks_events t.piece) t.count n was.made sum at.counted (omega (arith, fewer_events, few)) t.counted all (omega (arith, first, second, room)) in
+      let counted = counted_on (ranks_events trace) (ranks_events t.piece) t.count n was.made sum at.counted.few (omega (arith, fewer_events, few)) t.counted all (omega (arith, first, second, room)) in
       record {
-        legal = legal_append flag_meld (nothing limits) trace t.piece at.legal t.legal;
-        steps = at.steps + t.count;
-        made_is = made_on at.steps t.count n was.made sum at.made_is t.counted all;
-        left_out = leaves_more limits was.plan was.waits at.steps t.count trace rest t.piece at.left_out (omega (arith, fewer_events, few)) within;
-        counted = omega (arith, more, counted);
+        counted = record {
+          steps = at.counted.steps + t.count;
+          legal = legal_append flag_meld (nothing limits) trace t.piece at.counted.legal t.legal;
+          number_is = made_on at.counted.steps t.count n was.made sum at.counted.number_is t.counted all;
+          few = omega (arith, more, counted);
+        };
+        left_out = leaves_more limits was.plan was.waits at.counted.steps t.count trace rest t.piece at.left_out (omega (arith, fewer_events, few)) within;
         says = subst After (sym said) t.stands;
       }
 
   -- no step
-  left_same : (piece : Lines) → ranks_events piece ≡ 0 → LeavesSoFar limits was.plan was.waits at.steps (trace ++ piece) (rest ++ piece)
+  left_same : (piece : Lines) → ranks_events piece ≡ 0 → LeavesSoFar limits was.plan was.waits at.counted.steps (trace ++ piece) (rest ++ piece)
   left_same piece none =
-      subst (λ n. LeavesSoFar limits was.plan was.waits n (trace ++ piece) (rest ++ piece)) (add-zero at.steps)
-      (leaves_more limits was.plan was.waits at.steps 0 trace rest piece at.left_out (omega (arith, none)) (λ is. within was.waits is at.left_out))
+      subst (λ n. LeavesSoFar limits was.plan was.waits n (trace ++ piece) (rest ++ piece)) (add-zero at.counted.steps)
+      (leaves_more limits was.plan was.waits at.counted.steps 0 trace rest piece at.left_out (omega (arith, none)) (λ is. within was.waits is at.left_out))
     where
-      within : (b : Bool) → b ≡ true → LeavesSoFar limits was.plan b at.steps trace rest → at.steps + 0 ≤ was.plan.at
+      within : (b : Bool) → b ≡ true → LeavesSoFar limits was.plan b at.counted.steps trace rest → at.counted.steps + 0 ≤ was.plan.at
       within true is l = let below = l.0 in omega (arith, below)
       within false is l = absurd (cc is)
+
+  -- lines that tell no event of a rank are counted as no step
+  abbrev counted_told : (piece : Lines) → AreLegalAfter flag_meld now piece → ranks_events piece ≡ 0 → IsCounted limits was.made (trace ++ piece)
+  counted_told piece legal none =
+      let more = ranks_append trace piece in
+      let few = at.counted.few in
+      record {
+        steps = at.counted.steps;
+        legal = legal_append flag_meld (nothing limits) trace piece at.counted.legal legal;
+        number_is = at.counted.number_is;
+        few = omega (arith, more, none, few);
+      }
 
   -- a line of the script that makes no step
   stands_told : (piece : Lines) (new : List ℕ) → AreLegalAfter flag_meld now piece → ranks_events piece ≡ 0 → After (said_by now piece)
       → StandsSoFar (further was After was.made new) limits (trace ++ piece) (rest ++ piece)
   stands_told piece new legal none stands =
-      let more = ranks_append trace piece in
-      let counted = at.counted in
       record {
-        legal = legal_append flag_meld (nothing limits) trace piece at.legal legal;
-        steps = at.steps;
-        made_is = at.made_is;
+        counted = counted_told piece legal none;
         left_out = left_same piece none;
-        counted = omega (arith, more, none, counted);
         says = subst After (sym (said_append (nothing limits) trace piece)) stands;
       }
 
-  pub runs_told : (was.waits ≡ true → at.steps < was.plan.at) → (step : ScriptStep) → ((piece : Lines) → IsPiece now step piece → ranks_events piece ≡ 0) → (new : List ℕ)
+  pub runs_told : (was.waits ≡ true → at.counted.steps < was.plan.at) → (step : ScriptStep) → ((piece : Lines) → IsPiece now step piece → ranks_events piece ≡ 0) → (new : List ℕ)
       → TellsStep After now step Run was.text new → RunsStep was (further was After was.made new) limits trace rest step
   unfolding stands_told
   runs_told early step none new t =
@@ -271,13 +280,13 @@ module _ (was : EngineState) (After : TraceState → Type 0) (limits : Limits) (
 
   -- the declaration, where it was still to come, and is due
   module _ (due : was.plan.at ≤ was.made) where
-    declares_here : (declaration : Lines) → IsPiece now (Failed was.plan.rank) declaration → (b : Bool) → b ≡ true → LeavesSoFar limits was.plan b at.steps trace rest
-        → LeavesOut limits was.plan.rank was.plan.at at.steps (trace ++ declaration) rest
+    declares_here : (declaration : Lines) → IsPiece now (Failed was.plan.rank) declaration → (b : Bool) → b ≡ true → LeavesSoFar limits was.plan b at.counted.steps trace rest
+        → LeavesOut limits was.plan.rank was.plan.at at.counted.steps (trace ++ declaration) rest
     declares_here declaration is false same l = absurd (cc same)
     declares_here declaration is true same l =
         let all = l.1.few in
         let below = l.0 in
-        let made_steps = made_below at.steps was.made at.made_is in
+        let made_steps = made_below at.counted.steps was.made at.counted.number_is in
         record {
           before = trace;
           declaration = declaration;
@@ -295,19 +304,14 @@ module _ (was : EngineState) (After : TraceState → Type 0) (limits : Limits) (
         let f = t.2.follows in
         let whole : t.0 ≡ f.0 = f.2 ∙ (ap (λ (x : Lines). f.0 ++ x) f.4 ∙ append-nil f.0) in
         let piece : IsPiece now (Failed was.plan.rank) t.0 = subst (IsPiece now (Failed was.plan.rank)) (sym whole) f.3 in
-        let more = ranks_append trace t.0 in
-        let none = failed_events now was.plan.rank t.0 piece in
-        let counted = at.counted in (
+        let none = failed_events now was.plan.rank t.0 piece in (
           refl,
           t.0,
           piece,
           rests_at (declared was After new) limits (trace ++ t.0) rest
               (record {
-                legal = legal_append flag_meld (nothing limits) trace t.0 at.legal t.2.legal;
-                steps = at.steps;
-                made_is = at.made_is;
+                counted = counted_told t.0 t.2.legal none;
                 left_out = declares_here t.0 piece was.waits is at.left_out;
-                counted = omega (arith, more, none, counted);
                 says = subst After (sym (said_append (nothing limits) trace t.0)) (subst After t.2.new_is t.3);
               }) (λ same. absurd (cc same)),
           t.4,
@@ -337,7 +341,7 @@ took_other was After limits trace rest at step none new (Err fault) t = tt
 module _ (old new : EngineState) (limits : Limits) (trace rest : Lines) where
   -- a declaration that isn't due, since it was made or fewer steps were
   pub none_due : StandsSoFar new limits trace rest → (new.waits ≡ true → (new.made < new.plan.at) × (new.plan.at ≤ 4294967295)) → new.text ≡ old.text → DeclaresIfDue old new limits trace rest false
-  none_due at early same = (rests_at new limits trace rest at (λ is. let before = early is in still_early at.steps new.made new.plan.at at.made_is before.0 before.1), same)
+  none_due at early same = (rests_at new limits trace rest at (λ is. let before = early is in still_early at.counted.steps new.made new.plan.at at.counted.number_is before.0 before.1), same)
 
   -- one that wasn't due
   pub not_due : (due : Bool) → due ≡ false → DeclaresIfDue old new limits trace rest due → DeclaresIfDue old new limits trace rest false
@@ -426,11 +430,11 @@ stands_first_part : (was : EngineState) (After : TraceState → Type 0) (limits 
 stands_first_part was After limits trace rest at q reach left n sum new t all left_is fits =
     stands_stepped was After limits trace rest at q (up_to left reach) n sum new t all (λ is. go was.waits is at.left_out)
   where
-    go : (b : Bool) → b ≡ true → LeavesSoFar limits was.plan b at.steps trace rest → at.steps + t.count ≤ was.plan.at
+    go : (b : Bool) → b ≡ true → LeavesSoFar limits was.plan b at.counted.steps trace rest → at.counted.steps + t.count ≤ was.plan.at
     go true is l =
         let one = t.within (fewer left reach.most) refl in
         let two = fewer_left left reach.most in
-        within_plan at.steps was.made was.plan.at t.count left at.made_is l.0 fits left_is (omega (arith, one, two))
+        within_plan at.counted.steps was.made was.plan.at t.count left at.counted.number_is l.0 fits left_is (omega (arith, one, two))
     go false is l = absurd (cc is)
 
 module _ (limits : Limits) (q : ℕ) (reach : Reach) (trace rest : Lines) where
@@ -535,11 +539,8 @@ walk_step old new limits trace rest q reach step w is = record { whole = w.whole
 pub stands_first : (Says : TraceState → Type 0) (limits : Limits) (plan : Failing) (text : List ℕ) → Says (nothing limits)
     → StandsSoFar (record { Says = Says; plan = plan; waits = true; made = 0; text = text }) limits [] []
 stands_first Says limits plan text says = record {
-  legal = tt;
-  steps = 0;
-  made_is = inl (refl, omega arith);
+  counted = record { steps = 0; legal = tt; number_is = inl (refl, omega arith); few = omega arith };
   left_out = (omega arith, record { same = refl; few = omega arith });
-  counted = omega arith;
   says = says;
 }
 
@@ -563,23 +564,6 @@ has_opened plan old new limits false same first d = record {
   out_is = d.1 ∙ (first ∙ sym (append-nil (first_line limits)));
 }
 
--- so much was written of lines that were run
-fails_after : (plan : Failing) (own : EngineState) (limits : Limits) (lines : List ScriptStep) (out : List ℕ) → HasFailed plan own limits lines out
-    → FailsAfter own.plan.at own.plan.rank own.made limits lines out
-fails_after plan own limits lines out h =
-    let s = h.rests.stands in
-    record {
-      trace = h.trace;
-      rest = h.rest;
-      steps = s.steps;
-      legal = s.legal;
-      number_is = s.made_is;
-      left_out = h.rests.left_out;
-      follows = h.follows;
-      counted = s.counted;
-      out_is = h.out_is;
-    }
-
 -- the state before a line, with nothing told of it yet
 abbrev cleared : EngineState → List ℕ → EngineState
 cleared was text = record was { text = text }
@@ -600,7 +584,7 @@ module _ (plan : Failing) (was own : EngineState) (before : RunSoFar failing_scr
       let told : own.text ≡ lines_text t.whole = t.told ∙ ap (λ (x : List ℕ). x ++ lines_text t.whole) none in
       let follows : Follows (nothing limits) (before.items ++ step ∷ []) (h.rest ++ t.piece) =
       follows_append (nothing limits) before.items (step ∷ []) h.rest t.piece h.follows
-      (t.piece, [], sym (append-nil t.piece), piece_without limits was.plan was.waits h.rests.stands.steps h.trace h.rest h.rests.stands.left_out step t.piece t.is_piece, refl) in (
+      (t.piece, [], sym (append-nil t.piece), piece_without limits was.plan was.waits h.rests.stands.counted.steps h.trace h.rest h.rests.stands.left_out step t.piece t.is_piece, refl) in (
         step,
         e,
         record {
@@ -618,7 +602,6 @@ module _ (plan : Failing) (was own : EngineState) (before : RunSoFar failing_scr
   -- a line begins a call of a rank that has one under way
   pub finds_failing : (text : List ℕ) → (RestsAt (cleared was text) before.heading.limits h.trace h.rest → IsOpenCall (said_by (nothing before.heading.limits) h.trace) step × (own.text ≡ text))
       → HasFault failing_scripts before (step_line_of line) Open
-  unfolding fails_after
   finds_failing text finds =
       let is = (finds (rests_cleared text)).0 in
       let lines : List ScriptStep = before.items in
@@ -633,7 +616,7 @@ module _ (plan : Failing) (was own : EngineState) (before : RunSoFar failing_scr
         at = was.plan.at;
         r = was.plan.rank;
         made = was.made;
-        fails = fails_after plan was before.heading.limits lines before.out h;
+        fails = fails_after h;
         is_open = is.2;
       } in
       inr (step, e, found)
@@ -641,5 +624,4 @@ module _ (plan : Failing) (was own : EngineState) (before : RunSoFar failing_scr
 -- what was run by a plan fails its rank
 pub all_failing : (plan : Failing) (own : EngineState) (known old new : KnownText) → HasRunAll failing_scripts (λ heading. HasFailed plan own heading.limits) known (Appends old new)
     → RunsFailing plan.at plan.rank own.made known old new
-all_failing plan own known old new h = ran_all_as h (λ heading items out has. subst (λ (x : Failing). FailsAfter x.at x.rank own.made heading.limits items out) has.plan_is
-    (fails_after plan own heading.limits items out has)) (λ out told. told)
+all_failing plan own known old new h = ran_all_as h (λ heading items out has. subst (λ (x : Failing). FailsAfter x.at x.rank own.made heading.limits items out) has.plan_is (fails_after has)) (λ out told. told)

@@ -52,17 +52,21 @@ pub record LeavesAll (steps : ℕ) (trace rest : Lines) : Type 0 where
 abbrev pub LeavesDue : Limits → ℕ → ℕ → ℕ → Lines → Lines → Type 0
 LeavesDue limits r at steps trace rest = ((steps < at) × LeavesAll steps trace rest) ⊎ LeavesOut limits r at steps trace rest
 
+-- a legal trace of so many steps: this number is theirs, or the greatest that there is, and the trace has no more events of ranks
+pub record IsCounted (limits : Limits) (number : ℕ) (trace : Lines) : Type 0 where
+  pub steps : ℕ
+  pub legal : IsLegalTrace flag_meld limits trace
+  pub number_is : IsCountOf steps number
+  pub few : ranks_events trace ≤ number
+
 -- The text of a legal trace that follows these lines of a script, but for one whole declaration of rank r right behind step `at`, or for nothing,
 -- where fewer steps were made. This number is that of the steps, or the greatest that there is; the trace has no more events of ranks.
 pub record FailsAfter (at r number : ℕ) (limits : Limits) (lines : List ScriptStep) (out : List ℕ) : Type 0 where
   pub trace : Lines
   pub rest : Lines
-  pub steps : ℕ
-  pub legal : IsLegalTrace flag_meld limits trace
-  pub number_is : IsCountOf steps number
-  pub left_out : LeavesDue limits r at steps trace rest
+  pub counted : IsCounted limits number trace
+  pub left_out : LeavesDue limits r at counted.steps trace rest
   pub follows : Follows (nothing limits) lines rest
-  pub counted : ranks_events trace ≤ number
   pub out_is : out ≡ trace_text limits trace
 
 -- the same for some rank that a script can name, behind some step
@@ -116,18 +120,15 @@ state_of Stands it =
 -- Lines that the machine stands for, and what is left of them without the declaration that was planned, if it isn't still to come. So many steps
 -- were made, and this was counted.
 pub record StandsSoFar (now : EngineState) (limits : Limits) (trace rest : Lines) : Type 0 where
-  pub legal : IsLegalTrace flag_meld limits trace
-  pub steps : ℕ
-  pub made_is : IsCountOf steps now.made
-  pub left_out : LeavesSoFar limits now.plan now.waits steps trace rest
-  pub counted : ranks_events trace ≤ now.made
+  pub counted : IsCounted limits now.made trace
+  pub left_out : LeavesSoFar limits now.plan now.waits counted.steps trace rest
   pub says : now.Says (said_by (nothing limits) trace)
 
 -- the same, where the declaration isn't due
 pub record RestsAt (now : EngineState) (limits : Limits) (trace rest : Lines) : Type 0 where
   pub stands : StandsSoFar now limits trace rest
-  pub early : now.waits ≡ true → stands.steps < now.plan.at
-  pub left_out : LeavesDue limits now.plan.rank now.plan.at stands.steps trace rest
+  pub early : now.waits ≡ true → stands.counted.steps < now.plan.at
+  pub left_out : LeavesDue limits now.plan.rank now.plan.at stands.counted.steps trace rest
 
 -- the lines of a script were run by this plan, and this was told
 pub record HasFailed (plan : Failing) (now : EngineState) (limits : Limits) (lines : List ScriptStep) (out : List ℕ) : Type 0 where
@@ -137,6 +138,18 @@ pub record HasFailed (plan : Failing) (now : EngineState) (limits : Limits) (lin
   pub rests : RestsAt now limits trace rest
   pub follows : Follows (nothing limits) lines rest
   pub out_is : out ≡ trace_text limits trace
+
+-- what was told then is of lines that were run
+abbrev pub fails_after : {plan : Failing} {now : EngineState} {limits : Limits} {lines : List ScriptStep} {out : List ℕ} → HasFailed plan now limits lines out
+    → FailsAfter now.plan.at now.plan.rank now.made limits lines out
+fails_after h = record {
+  trace = h.trace;
+  rest = h.rest;
+  counted = h.rests.stands.counted;
+  left_out = h.rests.left_out;
+  follows = h.follows;
+  out_is = h.out_is;
+}
 
 -- at most so many steps, and no more than before
 abbrev pub fewer : ℕ → Option ℕ → ℕ

@@ -5,7 +5,7 @@ ghost use Rattle.ulfm_script.specs.Ends.{EndsAlone, ended};
 ghost use Rattle.ulfm_lines.specs.Stepped.{IsSpelledStep};
 ghost use Rattle.ulfm_run.specs.FailingScripts.{ComesAsSaid, ComesFar, DeclaresIfDue, HasFailed, Lines, RestsAt, RunsFailing, StandsSoFar};
 ghost use Rattle.ulfm_run.specs.FailingScripts.{TakesStepLine};
-ghost use Rattle.ulfm_run.specs.FailingScripts.{CountsAsSaid, CountsOn, TellsWalk, behind_of, failing_scripts, fewer, state_of, up_to};
+ghost use Rattle.ulfm_run.specs.FailingScripts.{CountsAsSaid, CountsOn, TellsWalk, behind_of, failing_scripts, fails_after, fewer, state_of, up_to};
 
 use crate::engine::tell_header;
 use crate::plan::Failing;
@@ -212,16 +212,6 @@ impl<M: StepMachine<A>, A: Allocator + Copy> Interpreter<A> for FailingLines<M, 
       it.plan.rank,
       it.made,
       it.plan.fits,
-      record {
-        trace = ran.trace;
-        rest = ran.rest;
-        steps = ran.rests.stands.steps;
-        legal = ran.rests.stands.legal;
-        number_is = ran.rests.stands.made_is;
-        left_out = ran.rests.left_out;
-        follows = ran.follows;
-        counted = ran.rests.stands.counted;
-        out_is = ran.out_is;
-      },
+      fails_after ran,
     ) };
 }
