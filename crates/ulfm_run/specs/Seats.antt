@@ -9,12 +9,12 @@ use Rattle.ulfm_model.specs.Records.{Fits, Held, Record, held_at, is_shrink, new
 use Rattle.ulfm_words.specs.Steps.{IsView, Sight, View, Over, view_at, over}
 use Rattle.ulfm_comm.specs.{Calls.{wants_memory}, Counts.{Counted}, Phase.{UnderWay, is_looking, next_step}, StepsLeft.{MakesStep, steps_left}}
 use Rattle.ulfm_comm.specs.declared.phases.phase.Phase.{Phase}
-use Rattle.ulfm_model.specs.declared.line.Line.TheVariants.{Looked}
+use Rattle.ulfm_model.specs.declared.line.{Line.{Line}, Line.TheVariants.{Happened, Looked}}
 use Rattle.ulfm_model.specs.Follows.{AreOf, EndsInReply, IsAtOnce, called, steps_in, told_by}
 use Rattle.ulfm_model.specs.Traces.{AreLegalAfter, Told, Traced, listed, nothing, said_by, same_caller}
 use Rattle.ulfm_lines.specs.Callers.{line_by}
 use Rattle.ulfm_run.specs.declared.told.{Answer.{Answer}, StepTold.{StepTold}}
-use Rattle.ulfm_run.specs.Stepping.{HasBegun, HasCalled, IsIdle, happened, reply_told}
+use Rattle.ulfm_run.specs.Stepping.{HasBegun, HasCalled, IsIdle, reply_told}
 
 -- a rank; its call that is under way, if there is one; and how many events there were when its last step went on
 pub record Seated (P : Type 0) : Type 0 where
@@ -69,15 +69,24 @@ Sits meld name now pass seat = SitsAt meld name now pass seat.own seat.found sea
 abbrev pub SitsIn : {P : Type 0} → (P → P → P) → Traced P → View P → Seated P → Type 0
 SitsIn meld now view seat = Sits meld view.words now view.pass seat
 
+-- a line with the ranks that it lists, if there is one
+abbrev pub line_piece : {P : Type 0} → Option (Line P) → List ℕ → List (Told P)
+line_piece None group = []
+line_piece (Some line) group = record { line = line; group = group } ∷ []
+
 -- the line of a look that has ended in so many failures, if one has
 abbrev pub look_piece : {P : Type 0} → ℕ → Option ℕ → List (Told P)
 look_piece r None = []
 look_piece r (Some count) = record { line = Looked r count; group = [] } ∷ []
 
--- the line of an event, if there is one
+-- the line of an event of a caller, if there is one
+abbrev pub event_by : {P : Type 0} → Caller → Option (Event P) → List (Told P)
+event_by by None = []
+event_by by (Some event) = record { line = Happened by (Some event); group = [] } ∷ []
+
+-- the line of an event of a rank, if there is one
 abbrev pub event_piece : {P : Type 0} → ℕ → Option (Event P) → List (Told P)
-event_piece r None = []
-event_piece r (Some event) = happened r event ∷ []
+event_piece r event = event_by (Rank r) event
 
 -- the line of a reply, if there is one, with the ranks that it lists
 abbrev pub reply_piece : {P : Type 0} → ℕ → List ℕ → Option (Answer P) → List (Told P)

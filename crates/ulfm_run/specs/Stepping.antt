@@ -9,17 +9,13 @@ use Rattle.ulfm_words.specs.Steps.{Sight, Over, view_at}
 use Rattle.ulfm_comm.specs.{Barrier.{IsChecking}, Phase.{Stands, UnderWay, Waits, is_looking, is_making}}
 use Rattle.ulfm_comm.specs.declared.phases.phase.{Phase.{Phase}, Phase.TheVariants.{Checking}}
 use Rattle.ulfm_comm.specs.Local.{frame, local}
-use Rattle.ulfm_model.specs.declared.line.Line.TheVariants.{Happened, Replied}
+use Rattle.ulfm_model.specs.declared.line.Line.TheVariants.{Replied}
 use Rattle.ulfm_model.specs.Traces.{Told, Traced, Under, call_by, record_in, same_caller}
 
 -- the events of one caller, in order
 abbrev pub events_by : {P : Type 0} → Caller → History P → List (Event P)
 events_by by [] = []
 events_by by (x ∷ xs) = if same_caller x.by by then x.event ∷ events_by by xs else events_by by xs
-
--- the line of an event in a rank's name
-abbrev pub happened : {P : Type 0} → ℕ → Event P → Told P
-happened r event = record { line = Happened (Rank r) (Some event); group = [] }
 
 -- the line of a reply to a rank's call, at a point, with the group that it lists
 abbrev pub reply_told : {P : Type 0} → ℕ → ℕ → List ℕ → Reply P → Told P

@@ -1,12 +1,13 @@
 // The lines of a trace that calls tell.
-ghost use Rattle.std.specs.Prelude.{◌≡◌, ◌++◌, ℕ, OnOk};
+ghost use Rattle.std.specs.Prelude.{◌≡◌, ◌++◌, ℕ, List, [], OnOk};
 ghost use Rattle.ulfm_lines.specs.LineTexts.{lines_text};
 ghost use Rattle.ulfm_laws.specs.declared.flag_and.FlagAnd.{FlagAnd};
 ghost use Rattle.ulfm_model.specs.History.{History};
 ghost use Rattle.ulfm_comm.specs.{Calls.{reply_of}, Fails.{declared}};
 ghost use Rattle.ulfm_model.specs.Follows.{fail_event, fail_piece};
 ghost use Rattle.ulfm_run.specs.{StepLines.{unknown_piece}, Walks.{KnowsGroup}};
-ghost use Rattle.ulfm_run.specs.Seats.{begun_piece, event_piece, group_in, look_piece, piece_of, reply_piece};
+ghost use Rattle.ulfm_model.specs.declared.event.Caller.TheVariants.{Outside};
+ghost use Rattle.ulfm_run.specs.Seats.{begun_piece, event_by, group_in, line_piece, look_piece, piece_of, reply_piece};
 
 use crate::{Answer, Seat, StepTold};
 use std::alloc::{AllocError, Allocator};
@@ -16,54 +17,48 @@ use ulfm_model::event::{Caller, Event};
 use ulfm_model::refusal::Refusal;
 use ulfm_model::{Call, Line, Reply};
 
-// The end of a look, if it came.
-fn tell_look<A: Allocator>(
-    rank: u16,
-    look: Option<u16>,
-    teller: &mut Teller<A>,
-) -> Result<(), AllocError>
-    ensures { OnOk result (teller.new.text.items ≡ teller.old.text.items ++ lines_text (look_piece rank look)) }
-{
-    match look {
-        None => Ok(()),
-        Some(failures) => teller.tell(&Line::Looked { rank, failures }, &[]),
-    }
-}
-
-// An event, if one came.
-fn tell_event<A: Allocator>(
-    rank: u16,
-    event: Option<Event<FlagAnd>>,
-    teller: &mut Teller<A>,
-) -> Result<(), AllocError>
-    ensures { OnOk result (teller.new.text.items ≡ teller.old.text.items ++ lines_text (event_piece rank event)) }
-{
-    match event {
-        None => Ok(()),
-        Some(_) => {
-            let by = Caller::Rank(rank);
-            teller.tell(&Line::Happened { by, event }, &[])
-        }
-    }
-}
-
-// A reply, if it came, with the ranks that it lists.
-fn tell_reply<A: Allocator>(
-    rank: u16,
-    reply: Option<Answer<FlagAnd>>,
+// A line with the ranks that it lists, if it came.
+fn tell_any<A: Allocator>(
+    line: Option<Line<FlagAnd>>,
     group: &[u16],
     teller: &mut Teller<A>,
 ) -> Result<(), AllocError>
-    ensures { OnOk result (teller.new.text.items ≡ teller.old.text.items ++ lines_text (reply_piece rank group.now reply)) }
+    ensures { OnOk result (teller.new.text.items ≡ teller.old.text.items ++ lines_text (line_piece line group.now)) }
 {
-    match reply {
+    match line {
         None => Ok(()),
-        Some(Answer { point, reply }) => {
-            let by = Caller::Rank(rank);
-            let reply = Some(reply);
-            teller.tell(&Line::Replied { by, point, reply }, group)
-        }
+        Some(line) => teller.tell(&line, group),
     }
+}
+
+// The line of a look's end, if it came.
+fn look_line(rank: u16, look: Option<u16>) -> Option<Line<FlagAnd>>
+    ensures { line_piece result [] ≡ look_piece rank look }
+{
+    let failures = look?;
+    Some(Line::Looked { rank, failures })
+}
+
+// The line of a caller's event, if one came.
+fn event_line(by: Caller, event: Option<Event<FlagAnd>>) -> Option<Line<FlagAnd>>
+    ensures { line_piece result [] ≡ event_by by event }
+{
+    if event.is_none() {
+        return None;
+    }
+    Some(Line::Happened { by, event })
+}
+
+// The line of a reply, if it came.
+fn reply_line(rank: u16, reply: Option<Answer<FlagAnd>>) -> Option<Line<FlagAnd>>
+    ensures { (group : List ℕ) → line_piece result group ≡ reply_piece rank group reply }
+{
+    let Answer { point, reply } = reply?;
+    Some(Line::Replied {
+        by: Caller::Rank(rank),
+        point,
+        reply: Some(reply),
+    })
 }
 
 // The ranks that a reply of this rank's lists, which named this communicator.
@@ -96,9 +91,9 @@ pub(crate) fn tell_step<A: Allocator + Copy + Drop>(
 {
     let rank = seat.number();
     list_ranks(seat, comm, told.reply, group)?;
-    tell_look(rank, told.look, teller)?;
-    tell_event(rank, told.event, teller)?;
-    tell_reply(rank, told.reply, group, teller)
+    tell_any(look_line(rank, told.look), &[], teller)?;
+    tell_any(event_line(Caller::Rank(rank), told.event), &[], teller)?;
+    tell_any(reply_line(rank, told.reply), group, teller)
 }
 
 /// A rank's call begins, and is answered at once, if it is.
@@ -116,7 +111,7 @@ pub(crate) fn tell_begun<A: Allocator>(
         padded,
     };
     teller.tell(&line, &[])?;
-    tell_reply(rank, answer, &[], teller)
+    tell_any(reply_line(rank, answer), &[], teller)
 }
 
 /// A call of a rank that the world doesn't have, where there were so many events.
@@ -151,20 +146,12 @@ fn reply_to(told: Result<bool, Refusal>) -> Reply<FlagAnd>
 }
 
 // The event of a declaration, where it declared the rank.
-fn tell_declared<A: Allocator>(
-    rank: u16,
-    reply: Reply<FlagAnd>,
-    teller: &mut Teller<A>,
-) -> Result<(), AllocError>
-    ensures { OnOk result (teller.new.text.items ≡ teller.old.text.items ++ lines_text (fail_event rank reply)) }
+fn declared_event(rank: u16, reply: Reply<FlagAnd>) -> Option<Event<FlagAnd>>
+    ensures { event_by Outside result ≡ fail_event rank reply }
 {
     match reply {
-        Reply::Declared => {
-            let by = Caller::Outside;
-            let event = Some(Event::Fail { rank });
-            teller.tell(&Line::Happened { by, event }, &[])
-        }
-        _ => Ok(()),
+        Reply::Declared => Some(Event::Fail { rank }),
+        _ => None,
     }
 }
 
@@ -183,8 +170,8 @@ pub(crate) fn tell_declaration<A: Allocator>(
         padded: false,
     };
     teller.tell(&line, &[])?;
-    tell_declared(rank, answer, teller)?;
     let by = Caller::Outside;
+    tell_any(event_line(by, declared_event(rank, answer)), &[], teller)?;
     let reply = Some(answer);
     teller.tell(&Line::Replied { by, point, reply }, &[])
 }
