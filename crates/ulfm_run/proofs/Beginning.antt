@@ -21,10 +21,10 @@ module _ {P : Type 0} (meld : P → P → P) (name : Over P) (now : Traced P) (p
   u = record { asked = asked; begun = length now.history; look = None; own = [] }
 
   pub may_call : MayCome meld now [] (Called asked false)
-  may_call = ap (call_by now) mine ∙ idle.free
+  may_call = ap (call_by now) mine ∙ idle.said.call_is
 
   call_is : call_by told (Rank own.number) ≡ Some u
-  call_is = find_push (λ (v : Under P). same_caller (traits_of v.asked).by (Rank own.number)) now.calls u idle.free (ap (λ by. same_caller by (Rank own.number)) mine ∙ same_rank own.number)
+  call_is = find_push (λ (v : Under P). same_caller (traits_of v.asked).by (Rank own.number)) now.calls u idle.said.call_is (ap (λ by. same_caller by (Rank own.number)) mine ∙ same_rank own.number)
 
   -- it looks next
   pub begun : (doing : UnderWay P) → doing.asked ≡ asked → own.refused ≡ false → doing.phase ≡ Begun → Stands meld false (local own (view_at name pass)) doing (local own (view_at name pass)) → HasBegun meld name told pass own doing
@@ -33,18 +33,14 @@ module _ {P : Type 0} (meld : P → P → P) (name : Over P) (now : Traced P) (p
         u = u;
         old = own;
         known = record {
-          limits = idle.limits;
-          history = idle.history;
-          call = call_is;
+          said = record { limits = idle.said.limits; history = idle.said.history; call_is = call_is; seen = idle.said.seen; record_is = idle.said.record_is };
           asked_is = sym asked_is;
-          seen = idle.seen;
-          record_is = idle.record_is;
           in_use = in_use;
         };
         number = refl;
         looking = ap is_looking phase;
         stands = stands;
-        begun = omega (arith, ap length idle.history);
+        begun = omega (arith, ap length idle.said.history);
         look = refl;
         own_is = refl;
       }
@@ -54,30 +50,32 @@ module _ {P : Type 0} (meld : P → P → P) (name : Over P) (now : Traced P) (p
     abbrev answer : Reply P
     answer = Refused SelfFailed
 
-    same : taken_in told u (length pass.seen) answer (reseen own idle.seen) ≡ reseen own idle.seen
-    same = ap (λ (b : Bool). record own { seen = idle.seen; refused = b }) (sym is)
+    same : taken_in told u (length pass.seen) answer (reseen own idle.said.seen) ≡ reseen own idle.said.seen
+    same = ap (λ (b : Bool). record own { seen = idle.said.seen; refused = b }) (sym is)
 
     stays : IsIdle meld name (after_reply told (Rank own.number) (length pass.seen) answer (Some u)) pass own
     stays =
         record {
-          limits = idle.limits;
-          history = idle.history;
-          free = find_left_out (Rank own.number) told.calls;
-          seen = idle.seen;
-          record_is = own_record told own.number u (length pass.seen) answer (reseen own idle.seen) idle.record_is ∙ ap Some same;
+          said = record {
+            limits = idle.said.limits;
+            history = idle.said.history;
+            call_is = find_left_out (Rank own.number) told.calls;
+            seen = idle.said.seen;
+            record_is = own_record told own.number u (length pass.seen) answer (reseen own idle.said.seen) idle.said.record_is ∙ ap Some same;
+          };
           fits = idle.fits;
         }
 
     pub refused : EndsSo meld name told pass own.number (comm_of asked) (length pass.seen) answer own
     refused =
-        let as_long = ap length idle.history in
+        let as_long = ap length idle.said.history in
         record {
           may = record {
             call = u;
             is_open = call_is;
             since_begin = omega (arith, as_long);
             by_now = omega (arith, as_long);
-            answers = subst (λ o. AnswersRank meld told u (length pass.seen) answer o) (sym idle.record_is) (inl (is, refl));
+            answers = subst (λ o. AnswersRank meld told u (length pass.seen) answer o) (sym idle.said.record_is) (inl (is, refl));
             lists = refl;
           };
           number = refl;

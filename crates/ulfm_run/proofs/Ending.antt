@@ -120,12 +120,14 @@ module _ {P : Type 0} (meld : P → P → P) (name : Over P) (t : Traced P) (aft
   idle : IsIdle meld name (after_reply t (Rank r) (length at) reply (Some u)) after_it new
   idle =
       record {
-        limits = limits_t;
-        history = history_t;
-        free = subst (λ n. find (λ v. same_caller (caller_of v) (Rank n)) (filter (λ v. not (same_caller (caller_of v) (Rank r))) t.calls) ≡ None) (sym number_is) (find_left_out (Rank r) t.calls);
-        seen = failures start;
-        record_is = subst (λ n. find (λ own. own.number == n) (map (λ own. if own.number == r then taken_in t u (length at) reply own else own) t.records) ≡ Some (reseen new (failures start))) (sym number_is)
-            (own_record t r u (length at) reply (reseen old seen) record_t ∙ ap Some taken);
+        said = record {
+          limits = limits_t;
+          history = history_t;
+          call_is = subst (λ n. find (λ v. same_caller (caller_of v) (Rank n)) (filter (λ v. not (same_caller (caller_of v) (Rank r))) t.calls) ≡ None) (sym number_is) (find_left_out (Rank r) t.calls);
+          seen = failures start;
+          record_is = subst (λ n. find (λ own. own.number == n) (map (λ own. if own.number == r then taken_in t u (length at) reply own else own) t.records) ≡ Some (reseen new (failures start))) (sym number_is)
+              (own_record t r u (length at) reply (reseen old seen) record_t ∙ ap Some taken);
+        };
         fits = fits;
       }
 

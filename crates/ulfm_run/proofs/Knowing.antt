@@ -11,11 +11,13 @@ pub known_then : {P : Type 0} {name : Over P} {now : Traced P} {pass later : Sig
     → KnowsCall name now pass own asked u old → own.number ≡ new.number → asked ≡ other → pass.seen ≡ later.seen → KnowsCall name now later new other u old
 known_then {now = now} {u = u} {old = old} k number asks still =
     record {
-      limits = k.limits;
-      history = k.history ∙ still;
-      call = subst (λ n. call_by now (Rank n) ≡ Some u) number k.call;
+      said = record {
+        limits = k.said.limits;
+        history = k.said.history ∙ still;
+        call_is = subst (λ n. call_by now (Rank n) ≡ Some u) number k.said.call_is;
+        seen = k.said.seen;
+        record_is = subst (λ n. record_in now n ≡ Some (reseen old k.said.seen)) number k.said.record_is;
+      };
       asked_is = k.asked_is ∙ asks;
-      seen = k.seen;
-      record_is = subst (λ n. record_in now n ≡ Some (reseen old k.seen)) number k.record_is;
       in_use = k.in_use;
     }

@@ -115,13 +115,13 @@ module _ (name : Name) (pass : Sight FlagAnd) (seats : List FlagSeat) (now : Tra
 
     -- a call is under way exactly where the seat has one
     open_there : (t : Traced FlagAnd) (later : Sight FlagAnd) (own : Record) (found : ℕ) (call : Option (UnderWay FlagAnd)) → SitsWith flag_meld (flag_words name) t later own found call → IsOpen t (Caller.Rank own.number) → IsTrue (is_some call)
-    open_there t later own found None sits is_open = absurd (cc (ap is_some sits.free, is_open))
+    open_there t later own found None sits is_open = absurd (cc (ap is_some sits.said.call_is, is_open))
     open_there t later own found (Some doing) sits is_open = refl
 
     there_open : (t : Traced FlagAnd) (later : Sight FlagAnd) (own : Record) (found : ℕ) (call : Option (UnderWay FlagAnd)) → SitsWith flag_meld (flag_words name) t later own found call → IsTrue (is_some call) → IsOpen t (Caller.Rank own.number)
     there_open t later own found None sits is = absurd (cc is)
-    there_open t later own found (Some doing) (inl begun) is = ap is_some begun.known.call
-    there_open t later own found (Some doing) (inr called) is = ap is_some called.known.call
+    there_open t later own found (Some doing) (inl begun) is = ap is_some begun.known.said.call_is
+    there_open t later own found (Some doing) (inr called) is = ap is_some called.known.said.call_is
 
     -- a call of a rank that has one under way
     pub open_tells : (asked : Call FlagAnd) (padded : Bool) (text : List ℕ) (left : List FlagSeat) → (traits_of asked).by ≡ Caller.Rank r → IsTrue (is_some seat.call) → TellsStep (StandsFor name pass left) now (Called asked padded) Open text text
@@ -130,9 +130,9 @@ module _ (name : Name) (pass : Sight FlagAnd) (seats : List FlagSeat) (now : Tra
 
     -- what lines say is what the pass has seen
     said_seen : (t : Traced FlagAnd) (later : Sight FlagAnd) (own : Record) (found : ℕ) (call : Option (UnderWay FlagAnd)) → SitsWith flag_meld (flag_words name) t later own found call → t.history ≡ later.seen
-    said_seen t later own found None sits = sits.history
-    said_seen t later own found (Some doing) (inl begun) = begun.known.history
-    said_seen t later own found (Some doing) (inr called) = called.known.history
+    said_seen t later own found None sits = sits.said.history
+    said_seen t later own found (Some doing) (inl begun) = begun.known.said.history
+    said_seen t later own found (Some doing) (inr called) = called.known.said.history
 
     -- no step of a rank without a call
     pub closed_there : seat.call ≡ None → ¬ IsOpen now (Caller.Rank r)

@@ -55,7 +55,7 @@ module _ {P : Type 0} (meld : P → P → P) (name : Over P) (now : Traced P) (p
   still = sym (no_event own doing.asked doing.phase result pass.seen after_it.seen h.looking adds)
 
   history' : now.history ≡ after_it.seen
-  history' = h.known.history ∙ still
+  history' = h.known.said.history ∙ still
 
   -- the look goes on
   goes_on : is_looking doing'.phase ≡ true → Stands meld false (local h.old (view_at name pass)) doing' (local own' (view_at name after_it)) → (own'.number ≡ own.number) × HasBegun meld name now after_it own' doing'
@@ -84,20 +84,16 @@ module _ {P : Type 0} (meld : P → P → P) (name : Over P) (now : Traced P) (p
     u' = record h.u { look = Some (length own'.seen) }
 
     may_look : MayCome meld now [] (Looked own.number (length own'.seen))
-    may_look = (record { call = h.u; is_open = h.known.call; first = h.look; own = reseen h.old h.known.seen; has_record = h.known.record_is; in_use = h.known.in_use }, ap length (seen' ∙ ap failures (sym history')))
+    may_look = (record { call = h.u; is_open = h.known.said.call_is; first = h.look; own = reseen h.old h.known.said.seen; has_record = h.known.said.record_is; in_use = h.known.in_use }, ap length (seen' ∙ ap failures (sym history')))
 
     call' : call_by told (Rank own.number) ≡ Some u'
-    call' = find_change (Rank own.number) (λ u. record u { look = Some (length own'.seen) }) (λ u. refl) now.calls h.u h.known.call
+    call' = find_change (Rank own.number) (λ u. record u { look = Some (length own'.seen) }) (λ u. refl) now.calls h.u h.known.said.call_is
 
     known' : KnowsCall name told after_it own doing.asked u' h.old
     known' =
         record {
-          limits = h.known.limits;
-          history = history';
-          call = call';
+          said = record { limits = h.known.said.limits; history = history'; call_is = call'; seen = h.known.said.seen; record_is = h.known.said.record_is };
           asked_is = h.known.asked_is;
-          seen = h.known.seen;
-          record_is = h.known.record_is;
           in_use = h.known.in_use;
         }
 
@@ -139,7 +135,7 @@ module _ {P : Type 0} (meld : P → P → P) (name : Over P) (now : Traced P) (p
     ends_reply reply ended fits =
         let answers = reply_answers meld name.limits pass.seen after_it.seen h.old doing.asked reply own' ended [] (append-nil pass.seen ∙ still) [] refl (λ no_poll. inl refl) (λ other. seen' ∙ ap failures (sym still)) in
         let there = subst (λ es. IsSelfFailed (record { look = failures pass.seen; history = after_it.seen; own = es; spread = true }) h.old doing.asked reply ⊎ IsReply meld name.limits (record { look = failures pass.seen; history = after_it.seen; own = es; spread = true }) h.old doing.asked reply) (sym h.own_is) answers in
-        ends_so meld name told after_it own.number h.old h.known.seen u' doing.asked pass.seen after_it.seen [] [] reply own' h.known.limits history' call' h.known.record_is h.number h.known.in_use h.known.asked_is h.begun look' (append-nil pass.seen ∙ still) (append-nil after_it.seen)
+        ends_so meld name told after_it own.number h.old h.known.said.seen u' doing.asked pass.seen after_it.seen [] [] reply own' h.known.said.limits history' call' h.known.said.record_is h.number h.known.in_use h.known.asked_is h.begun look' (append-nil pass.seen ∙ still) (append-nil after_it.seen)
         there ended fits (may_list meld name.limits pass.seen after_it.seen h.old doing.asked own' fits reply ended)
 
   -- what the reply says was seen

@@ -10,10 +10,6 @@ pub sits_new : {P : Type 0} (meld : P → P → P) (name : Over P) (pass : Sight
     → Sits meld name (nothing name.limits) pass (record { own = new_record name.limits r; call = None; found = found })
 sits_new meld name pass found r seen below fits =
     record {
-      limits = refl;
-      history = sym seen;
-      free = refl;
-      seen = [];
-      record_is = new_found name.limits name.limits.ranks r below;
+      said = record { limits = refl; history = sym seen; call_is = refl; seen = []; record_is = new_found name.limits name.limits.ranks r below };
       fits = subst (λ h. Fits meld name.limits h (new_record name.limits r)) (sym seen) fits;
     }

@@ -14,7 +14,7 @@ use Rattle.ulfm_comm.proofs.{Stands.{stands_lasts}, AmongOthers.{did_among}}
 use Rattle.ulfm_model.specs.Follows.{AreOf}
 use Rattle.ulfm_model.specs.Traces.{Told, Traced, Under, call_by, record_in, said_by, same_caller}
 use Rattle.ulfm_model.proofs.Kept.{limits_stay}
-use Rattle.ulfm_run.specs.{Seats.{AreOthers, Seated, Sits, SitsAt}, Stepping.{FoundAt, HasBegun, HasCalled, IsIdle, KnowsCall, events_by}}
+use Rattle.ulfm_run.specs.{Seats.{AreOthers, Seated, Sits, SitsAt}, Stepping.{FoundAt, HasBegun, HasCalled, IsIdle, IsSaid, KnowsCall, events_by}}
 use Rattle.ulfm_run.proofs.{ByPhase.{found_by_check}, LookedAt.{begins_again}, Pieces.{are_by, others_of, piece_call, piece_entries, piece_events, piece_history, piece_record}, Replying.{by_append}}
 
 -- what a line of another changes for rank n: nothing but the history, which gets no event of its
@@ -52,34 +52,21 @@ module _ {P : Type 0} (meld : P → P → P) (name : Over P) (now t : Traced P) 
   waits_from : now.history ≡ pass.seen → Waits false pass later
   waits_from history = record { did = did_among pass.seen later.seen (s.more, grown_from history); cached = keeps; onward = onward }
 
+  said_lasts : {call : Option (Under P)} {old : Record} → IsSaid name now pass own.number call old → IsSaid name t later own.number call old
+  said_lasts k = record { limits = limits_t ∙ k.limits; history = history_t; call_is = s.call ∙ k.call_is; seen = k.seen; record_is = s.record_is ∙ k.record_is }
+
   idle_lasts : IsIdle meld name now pass own → IsIdle meld name t later own
   idle_lasts h =
-      record {
-        limits = limits_t ∙ h.limits;
-        history = history_t;
-        free = s.call ∙ h.free;
-        seen = h.seen;
-        record_is = s.record_is ∙ h.record_is;
-        fits = fits_stays meld name.limits pass.seen later.seen own (s.more, grown_from h.history) of.legal h.fits;
-      }
+      record { said = said_lasts h.said; fits = fits_stays meld name.limits pass.seen later.seen own (s.more, grown_from h.said.history) of.legal h.fits }
 
   known_lasts : {asked : Call P} {u : Under P} {old : Record} → KnowsCall name now pass own asked u old → KnowsCall name t later own asked u old
-  known_lasts k =
-      record {
-        limits = limits_t ∙ k.limits;
-        history = history_t;
-        call = s.call ∙ k.call;
-        asked_is = k.asked_is;
-        seen = k.seen;
-        record_is = s.record_is ∙ k.record_is;
-        in_use = k.in_use;
-      }
+  known_lasts k = record { said = said_lasts k.said; asked_is = k.asked_is; in_use = k.in_use }
 
   called_lasts : (found : ℕ) (doing : UnderWay P) → HasCalled meld name now pass own found doing → HasCalled meld name t later own found doing
   called_lasts found doing h =
       let first = h.waits.onward in
-      let grown = grown_from h.known.history in
-      let waits = waits_from h.known.history in
+      let grown = grown_from h.known.said.history in
+      let waits = waits_from h.known.said.history in
       record {
         known = known_lasts h.known;
         waits = record {
@@ -108,8 +95,8 @@ module _ {P : Type 0} (meld : P → P → P) (name : Over P) (now t : Traced P) 
 
   begun_lasts : (doing : UnderWay P) → HasBegun meld name now pass own doing → HasBegun meld name t later own doing
   begun_lasts doing h =
-      let grown = grown_from h.known.history in
-      let still = stands_lasts meld false name h.old pass doing own pass later h.stands (waits_from h.known.history) of in
+      let grown = grown_from h.known.said.history in
+      let still = stands_lasts meld false name h.old pass doing own pass later h.stands (waits_from h.known.said.history) of in
       let longer : length pass.seen ≤ length later.seen = omega (arith, ap length grown, length-append pass.seen s.more) in
       let first = h.begun in
       record {
@@ -144,13 +131,13 @@ pub sits_history : {P : Type 0} (meld : P → P → P) (name : Over P) (now : Tr
 sits_history {P} meld name now pass seat sits = go seat.call sits
   where
     go : (call : Option (UnderWay P)) → SitsAt meld name now pass seat.own seat.found call → (now.limits ≡ name.limits) × (now.history ≡ pass.seen)
-    go None h = (h.limits, h.history)
-    go (Some doing) (inl h) = (h.known.limits, h.known.history)
-    go (Some doing) (inr h) = (h.known.limits, h.known.history)
+    go None h = (h.said.limits, h.said.history)
+    go (Some doing) (inl h) = (h.known.said.limits, h.known.said.history)
+    go (Some doing) (inr h) = (h.known.said.limits, h.known.said.history)
 
 -- and no call is under way that the seat doesn't have
 pub sits_free : {P : Type 0} (meld : P → P → P) (name : Over P) (now : Traced P) (pass : Sight P) (seat : Seated P) → Sits meld name now pass seat → seat.call ≡ None → call_by now (Rank seat.own.number) ≡ None
-sits_free {P} meld name now pass seat sits none = let h = subst (SitsAt meld name now pass seat.own seat.found) none sits in h.free
+sits_free {P} meld name now pass seat sits none = let h = subst (SitsAt meld name now pass seat.own seat.found) none sits in h.said.call_is
 
 -- nor none where it has one
 pub sits_open : {P : Type 0} (meld : P → P → P) (name : Over P) (now : Traced P) (pass : Sight P) (seat : Seated P) → Sits meld name now pass seat → IsTrue (is_some seat.call) → IsTrue (is_some (call_by now (Rank seat.own.number)))
@@ -158,5 +145,5 @@ sits_open {P} meld name now pass seat sits some = go seat.call sits some
   where
     go : (call : Option (UnderWay P)) → SitsAt meld name now pass seat.own seat.found call → IsTrue (is_some call) → IsTrue (is_some (call_by now (Rank seat.own.number)))
     go None h some = absurd (cc some)
-    go (Some doing) (inl h) some = ap is_some h.known.call
-    go (Some doing) (inr h) some = ap is_some h.known.call
+    go (Some doing) (inl h) some = ap is_some h.known.said.call_is
+    go (Some doing) (inr h) some = ap is_some h.known.said.call_is

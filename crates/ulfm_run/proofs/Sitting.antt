@@ -348,7 +348,7 @@ module _ {P : Type 0} (meld : P → P → P) (name : Over P) (before later : Sig
           let stays = ap (λ b. has_looked b result doing'.phase) h.looking ∙ (ap (λ q. has_looked true q doing'.phase) none ∙ ap not begins.looking) in absurd (cc (stays, ended))
       go (inr (may, next)) =
           let range = of.may_open.in_range.ranks in
-          let few = failures_le meld name.limits before.seen of.legal in omega (arith, may.1, ap (λ (w : History P). length (failures w)) h.known.history, few, range)
+          let few = failures_le meld name.limits before.seen of.legal in omega (arith, may.1, ap (λ (w : History P). length (failures w)) h.known.said.history, few, range)
 
 -- a step that doesn't lack memory
 pub memory_is : {P : Type 0} (result : Option (Reply P)) → wants_in result ≡ false → (reply : Reply P) → result ≡ Some reply → wants_memory reply ≡ false

@@ -98,7 +98,7 @@ module _ {P : Type 0} (meld : P → P → P) (name : Named P) (now : Traced P) (
   own_held c = sym (ap (λ (w : Record). held_at w c) h.own_same)
 
   begins_now : IsPrefix start now.history
-  begins_now = (h.rest, h.since ∙ sym h.known.history)
+  begins_now = (h.rest, h.since ∙ sym h.known.said.history)
 
   added : Adds true look own doing.asked result pass.seen after_it.seen
   added = adds_of look own doing.asked result pass.seen after_it.seen doing.phase h.sees (subst (λ r. StepAdds true own doing.asked doing.phase r pass.seen after_it.seen) (reply_next result doing'.phase) s.adds)
@@ -113,10 +113,10 @@ module _ {P : Type 0} (meld : P → P → P) (name : Named P) (now : Traced P) (
 
   -- the event of a step
   module _ (event : Event P) (makes : Makes look own doing.asked result event) (one_more : pass.seen ++ record { by = Rank own.number; event = event } ∷ [] ≡ after_it.seen) where
-    may_own : MayOwn (found_by now h.u) (reseen h.old h.known.seen) h.u.asked event
+    may_own : MayOwn (found_by now h.u) (reseen h.old h.known.said.seen) h.u.asked event
     may_own =
         let found_there = found_is now h.u start h.look begins_now in
-        own_reseen (found_by now h.u) h.old h.known.seen h.u.asked event (subst (λ (a : Call P). MayOwn (found_by now h.u) h.old a event) (sym h.known.asked_is)
+        own_reseen (found_by now h.u) h.old h.known.said.seen h.u.asked event (subst (λ (a : Call P). MayOwn (found_by now h.u) h.old a event) (sym h.known.asked_is)
         (subst (λ s. MayOwn s h.old doing.asked event) (sym found_there) (record {
           not_declared = h.not_declared;
           not_refused = h.not_refused;
@@ -127,10 +127,10 @@ module _ {P : Type 0} (meld : P → P → P) (name : Named P) (now : Traced P) (
     may_follow =
         let legal = subst (IsLegal meld name.limits) (sym one_more) s.of.legal in
         let last = (legal_parts meld name.limits pass.seen (record { by = Rank own.number; event = event } ∷ []) legal).1.0 in
-        subst (λ l. MayFollow meld l now.history event) (sym h.known.limits) (subst (λ w. MayFollow meld name.limits w event) (sym h.known.history) last)
+        subst (λ l. MayFollow meld l now.history event) (sym h.known.said.limits) (subst (λ w. MayFollow meld name.limits w event) (sym h.known.said.history) last)
 
     may_happen : MayCome meld now [] (Happened (Rank own.number) (Some event))
-    may_happen = (may_follow, record { call = h.u; is_open = h.known.call; looked = subst (λ o. IsTrue (is_some o)) (sym h.look) refl; own = reseen h.old h.known.seen; has_record = h.known.record_is; may_own = may_own })
+    may_happen = (may_follow, record { call = h.u; is_open = h.known.said.call_is; looked = subst (λ o. IsTrue (is_some o)) (sym h.look) refl; own = reseen h.old h.known.said.seen; has_record = h.known.said.record_is; may_own = may_own })
 
     abbrev next : Traced P
     next = after now (Happened (Rank own.number) (Some event))
@@ -139,7 +139,7 @@ module _ {P : Type 0} (meld : P → P → P) (name : Named P) (now : Traced P) (
     u_next = record h.u { own = h.u.own ++ event ∷ [] }
 
     history_then : next.history ≡ after_it.seen
-    history_then = ap (λ w. w ++ record { by = Rank own.number; event = event } ∷ []) h.known.history ∙ one_more
+    history_then = ap (λ w. w ++ record { by = Rank own.number; event = event } ∷ []) h.known.said.history ∙ one_more
 
     owned : (traits_of h.u.asked).by ≡ Rank own.number
     owned = ap (λ (a : Call P). (traits_of a).by) h.known.asked_is ∙ (h.stands.mine ∙ ap Rank (sym own_number))
@@ -152,7 +152,7 @@ module _ {P : Type 0} (meld : P → P → P) (name : Named P) (now : Traced P) (
         by_owner Outside is = absurd (cc is)
 
     call_then : call_by next (Rank own.number) ≡ Some u_next
-    call_then = find_change (Rank own.number) (with_event event) (keeps_asked event) now.calls h.u h.known.call ∙ ap Some u_then
+    call_then = find_change (Rank own.number) (with_event event) (keeps_asked event) now.calls h.u h.known.said.call_is ∙ ap Some u_then
 
     own_then : events_by (Rank own.number) (h.rest ++ record { by = Rank own.number; event = event } ∷ []) ≡ h.u.own ++ event ∷ []
     own_then = by_append (Rank own.number) h.rest (record { by = Rank own.number; event = event } ∷ []) ∙ ap₂ (λ a b. a ++ b) h.own_is (ap (λ (b : Bool). if b then event ∷ [] else []) (same_rank own.number))
@@ -219,7 +219,7 @@ module _ {P : Type 0} (meld : P → P → P) (name : Named P) (now : Traced P) (
         → EndsSo meld name t after_it own.number (comm_of doing.asked) (length after_it.seen) reply own'
     ends_now reply is ended fits =
         let answers = reply_answers meld name.limits start after_it.seen h.old doing.asked reply own' ended rest x.since u.own (subst (λ n. events_by (Rank n) rest ≡ u.own) own_number x.own_is) (λ no_poll. few no_poll x.adds) seen_then in
-        ends_so meld name t after_it own.number h.old x.known.seen u doing.asked start after_it.seen rest [] reply own' x.known.limits x.known.history x.known.call x.known.record_is own_number x.known.in_use x.known.asked_is x.begun x.look_is x.since
+        ends_so meld name t after_it own.number h.old x.known.said.seen u doing.asked start after_it.seen rest [] reply own' x.known.said.limits x.known.said.history x.known.said.call_is x.known.said.record_is own_number x.known.in_use x.known.asked_is x.begun x.look_is x.since
         (append-nil after_it.seen) answers ended fits (may_list meld name.limits start after_it.seen h.old doing.asked own' fits reply ended)
       where
         how : (result ≡ Some Started) ⊎ (result ≡ Some Revoked) → (reply ≡ Started) ⊎ (reply ≡ Revoked)
@@ -276,12 +276,14 @@ module _ {P : Type 0} (meld : P → P → P) (name : Named P) (now : Traced P) (
           h.rest ++ record { by = Rank own.number; event = event } ∷ [],
           record {
             known = record {
-              limits = h.known.limits;
-              history = history_then event makes more;
-              call = call_then event makes more;
+              said = record {
+                limits = h.known.said.limits;
+                history = history_then event makes more;
+                call_is = call_then event makes more;
+                seen = h.known.said.seen;
+                record_is = h.known.said.record_is;
+              };
               asked_is = h.known.asked_is;
-              seen = h.known.seen;
-              record_is = h.known.record_is;
               in_use = h.known.in_use;
             };
             begun = h.begun;
@@ -313,7 +315,7 @@ module _ {P : Type 0} (meld : P → P → P) (name : Named P) (now : Traced P) (
         let answers = reply_answers meld name.limits start earlier h.old doing.asked reply own' ended from_start.0 from_start.1 (events_by (Rank h.old.number) from_start.0) refl (λ no_poll. absurd (cc (polling, no_poll))) seen_then in
         let swapped = answer_swaps meld name.limits (record { look = look; history = earlier; own = events_by (Rank h.old.number) from_start.0; spread = true }) h.old h.u.own doing.asked reply
         (record { one = λ no_poll e is. absurd (cc (polling, no_poll)); none = λ no_poll not_started not_revoked. absurd (cc (polling, no_poll)) }) answers in
-        ends_so meld name now after_it own.number h.old h.known.seen h.u doing.asked start earlier from_start.0 to_now.0 reply own' h.known.limits (h.known.history ∙ still) h.known.call h.known.record_is own_number h.known.in_use h.known.asked_is h.begun h.look from_start.1 (to_now.1 ∙ still)
+        ends_so meld name now after_it own.number h.old h.known.said.seen h.u doing.asked start earlier from_start.0 to_now.0 reply own' h.known.said.limits (h.known.said.history ∙ still) h.known.said.call_is h.known.said.record_is own_number h.known.in_use h.known.asked_is h.begun h.look from_start.1 (to_now.1 ∙ still)
         swapped ended fits (lists_none name.limits.ranks earlier (comm_of doing.asked) reply own' early)
 
   stands_now : Stands meld false (local h.old (view_at name h.before)) doing (local own (view_at name pass))

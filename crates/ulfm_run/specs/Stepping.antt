@@ -1,5 +1,5 @@
 -- What a machine of single steps knows of each rank, beside what the lines so far say.
-use Rattle.std.specs.Prelude.{◌≡◌, ℕ, ◌≤◌, Bool, true, false, ⊤, List, [], ◌∷◌, ◌++◌, length, Some, None, IsFalse, if◌then◌else◌}
+use Rattle.std.specs.Prelude.{◌≡◌, ℕ, ◌≤◌, Bool, true, false, ⊤, List, [], ◌∷◌, ◌++◌, length, Option, Some, None, IsFalse, if◌then◌else◌}
 use Rattle.ulfm_model.specs.declared.{call.Call.{Call}, event.Caller.{Caller}, event.Caller.TheVariants.{Rank}, event.Event.{Event}, reply.Reply.{Reply}}
 use Rattle.ulfm_model.specs.declared.{limits.Limits.{Limits}, refusal.Refusal.TheVariants.{ProcFailed}}
 use Rattle.ulfm_model.specs.declared.reply.Reply.TheVariants.{Pending, Refused}
@@ -21,25 +21,26 @@ events_by by (x ∷ xs) = if same_caller x.by by then x.event ∷ events_by by x
 abbrev pub reply_told : {P : Type 0} → ℕ → ℕ → List ℕ → Reply P → Told P
 reply_told r point group reply = record { line = Replied (Rank r) point (Some reply); group = group }
 
+-- What the lines so far say of rank n: the limits and the history are what a pass sees, the rank has this call under way, or none, and its
+-- record was this one, but for the failures that it had seen.
+pub record IsSaid {P : Type 0} (name : Over P) (now : Traced P) (pass : Sight P) (n : ℕ) (call : Option (Under P)) (old : Record) : Type 0 where
+  pub limits : now.limits ≡ name.limits
+  pub history : now.history ≡ pass.seen
+  pub call_is : call_by now (Rank n) ≡ call
+  pub seen : List ℕ
+  pub record_is : record_in now n ≡ Some (record old { seen = seen })
+
 -- A rank without a call: its record is what the lines so far say, but for the failures that it has seen, since the poll of a shrink
 -- may have read on.
 pub record IsIdle {P : Type 0} (meld : P → P → P) (name : Over P) (now : Traced P) (pass : Sight P) (own : Record) : Type 0 where
-  pub limits : now.limits ≡ name.limits
-  pub history : now.history ≡ pass.seen
-  pub free : call_by now (Rank own.number) ≡ None
-  pub seen : List ℕ
-  pub record_is : record_in now own.number ≡ Some (record own { seen = seen })
+  pub said : IsSaid name now pass own.number None own
   pub fits : Fits meld name.limits pass.seen own
 
 -- What the lines so far say of a rank's call that is under way, of what it asks, and of the rank's record, which was `old` when the call began.
 pub record KnowsCall {P : Type 0} (name : Over P) (now : Traced P) (pass : Sight P) (own : Record) (asked : Call P) (u : Under P) (old : Record)
     : Type 0 where
-  pub limits : now.limits ≡ name.limits
-  pub history : now.history ≡ pass.seen
-  pub call : call_by now (Rank own.number) ≡ Some u
+  pub said : IsSaid name now pass own.number (Some u) old
   pub asked_is : u.asked ≡ asked
-  pub seen : List ℕ
-  pub record_is : record_in now own.number ≡ Some (record old { seen = seen })
   pub in_use : IsFalse old.refused
 
 -- A call of a rank that is in its look: it has told nothing yet, and may as well have begun at the present history. The rank's record
