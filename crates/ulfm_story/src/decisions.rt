@@ -1,12 +1,11 @@
 //! What a round decides, in words.
 ghost use Rattle.std.specs.Prelude.{◌≡◌, ◌++◌, IfOk, OnOk};
-ghost use Rattle.ulfm_model.specs.Walked.{decision_of};
-ghost use Rattle.ulfm_story.specs.Decisions.{TellsDecision, decided_text};
+ghost use Rattle.ulfm_story.specs.Decisions.{TellsDecision, round_text};
 
 use std::alloc::{AllocError, Allocator};
 use ulfm_laws::FlagAnd;
 use ulfm_lines::print_outcome;
-use ulfm_model::decide::{Decided, decision, is_decided};
+use ulfm_model::decide::{decision, is_decided};
 use ulfm_model::event::Entry;
 use ulfm_script::print_number;
 
@@ -28,23 +27,18 @@ pub fn decision_words<A: Allocator + Copy + Drop>(
     }
     let made = decision(alloc, ranks, history, comm, round)?;
     let mut words = Vec::new(alloc);
-    print_decided(&mut words, comm, round, &made)?;
+    print_round(&mut words, round, comm)?;
+    print_outcome(&mut words, &made, b"agreed ", b"ids ")?;
     Ok(Some(words))
 }
 
-/// A decision, behind the round and the communicator that it is of.
-fn print_decided<A: Allocator, B: Allocator>(
-    text: &mut Vec<u8, A>,
-    comm: u16,
-    round: u16,
-    made: &Decided<FlagAnd, B>,
-) -> Result<(), AllocError>
-    ensures { OnOk result (text.new.items ≡ text.old.items ++ decided_text comm round (decision_of made.now)) }
+/// A round, with the communicator that it is of.
+fn print_round<A: Allocator>(text: &mut Vec<u8, A>, round: u16, comm: u16) -> Result<(), AllocError>
+    ensures { OnOk result (text.new.items ≡ text.old.items ++ round_text round comm) }
 {
     text.extend_from_slice(b"round ")?;
     print_number(text, round)?;
     text.extend_from_slice(b" of ")?;
     print_number(text, comm)?;
-    text.extend_from_slice(b": ")?;
-    print_outcome(text, made, b"agreed ", b"ids ")
+    text.extend_from_slice(b": ")
 }
