@@ -159,8 +159,7 @@ module _ {P : Type 0} (meld : P → P → P) (pack : P → ℕ) where
           caches = ap caches_in is ∙ caches_set trail block found;
           steps = one_more (made (Site.Block block) found false) is;
           last = last_is (made (Site.Block block) found false) is ∙ ap (λ n. Some (made (Site.Block block) n false).0) told;
-          set = added.set;
-          stood = stood added;
+          stands = record { set = added.set; stood = stood added };
         })
 
     -- what it stands beside still stands
@@ -198,10 +197,7 @@ module _ {P : Type 0} (meld : P → P → P) (pack : P → ℕ) where
           caches = ap caches_in is ∙ caches_wing_set trail x (standing word result);
           steps = one_more (made (Site.Wing x) (standing word result) false) is;
           last = last_is (made (Site.Wing x) (standing word result) false) is;
-          set = added.0;
-          some = added.1;
-          was = added.2;
-          before = λ here. absurd (cc here);
+          stands = record { set = added.0; some = added.1; was = added.2; before = λ here. absurd (cc here) };
         })
 
   module _ (b b' t : Book) (old told new : List (Line P)) (trail : List (Last × Bool)) where

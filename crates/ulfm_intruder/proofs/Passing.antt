@@ -109,8 +109,8 @@ module _ {P : Type 0} (meld : P → P → P) (pack : P → ℕ) (name : Name) (o
   caches_after block word result met e =
       let more = noted_found (Site.Block block) result met in
       let tried = noted_cache was.log.items is.log.items (found result) block (noted_since _ _ _ more) in
-      let stood = stood_before block word result e.stood in
-      record { of = view e.of; did = among e.did; cached = knows e.cached; caches = tried; steps = count _ _ _ more; last = ends _ _ _ more; set = e.set; stood = stood }
+      let stood = stood_before block word result e.stands.stood in
+      record { of = view e.of; did = among e.did; cached = knows e.cached; caches = tried; steps = count _ _ _ more; last = ends _ _ _ more; stands = record { set = e.stands.set; stood = stood } }
 
   -- .. of a wing
   pub sets_wing_after : (wing : Wing) (word : ℕ) (result : Result (Unit {0}) ℕ) → is.log.items ≡ trail.log.items ++ noted (Site.Wing wing) (standing word result) false ∷ []
@@ -125,8 +125,5 @@ module _ {P : Type 0} (meld : P → P → P) (pack : P → ℕ) (name : Name) (o
         caches = tried;
         steps = count _ _ _ more;
         last = ends _ _ _ more;
-        set = e.set;
-        some = e.some;
-        was = e.was;
-        before = λ here. absurd (cc here);
+        stands = record { set = e.stands.set; some = e.stands.some; was = e.stands.was; before = λ here. absurd (cc here) };
       }

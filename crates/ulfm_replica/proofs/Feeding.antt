@@ -20,7 +20,7 @@ spreads meld pack x y c k r given word result of settled free is sets =
     record {
       of = sets.of;
       seen = sym sets.did.goes_on ∙ (ap (λ w. x.seen ++ w) (sets.did.quiet refl) ∙ append-nil x.seen);
-      winged = subst (λ w. has_wing y.cached (Wing.Slot c k r) w ≡ true) is (by result sets.set (sets.before refl));
+      winged = subst (λ w. has_wing y.cached (Wing.Slot c k r) w ≡ true) is (by result sets.stands.set (sets.stands.before refl));
       cached = sets.cached;
       caches = sets.caches;
       onward = omega (arith, sets.steps);

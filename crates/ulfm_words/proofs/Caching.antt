@@ -105,8 +105,7 @@ module _ {P : Type 0} (meld : P → P → P) (pack : P → ℕ) (unpack : ℕ �
             caches = ap caches_in is ∙ caches_set ts b v;
             steps = ap length is ∙ length-append ts (at_block b v false ∷ []);
             last = ap last_of is ∙ (last_of-push ts (at_block b v false) ∙ ap (λ n. Some (at_block b n false).0) is_found);
-            set = set;
-            stood = stood_there;
+            stands = record { set = set; stood = stood_there };
           })
 
       pub lost_tells : v ≢ 0 → Caches meld true b w (view_of pack old.name old) (Err v) (view_of pack old.name (sight_of unpack limits ws ms ts'))
@@ -179,10 +178,7 @@ module _ {P : Type 0} (meld : P → P → P) (pack : P → ℕ) (unpack : ℕ �
             caches = ap caches_in is ∙ caches_wing_set ts x n;
             steps = ap length is ∙ length-append ts (at_wing x n false ∷ []);
             last = ap last_of is ∙ last_of-push ts (at_wing x n false);
-            set = subst (λ xs. has_wing xs x n ≡ true) (sym more) (now_has_wing (cached_by ts) x n);
-            some = some;
-            was = was;
-            before = before;
+            stands = record { set = subst (λ xs. has_wing xs x n ≡ true) (sym more) (now_has_wing (cached_by ts) x n); some = some; was = was; before = before };
           })
 
       pub lost_wing_stood : v ≢ 0 → ts' ≡ ts ++ at_wing x v false ∷ [] → AreStood meld pack seen sides ts'

@@ -110,34 +110,41 @@ abbrev pub WasWing : Wing → ℕ → ℕ → Type 0
 WasWing (Wing.Slot c k r) word w = ⊤
 WasWing (Wing.Block b) word w = w ≡ word
 
--- One compare-exchange of a wing from 0: it is known to be set afterwards, to this word or to the one that stood. Where nobody else steps, one that
--- stood was tried before.
-pub record SetsWing {P : Type 0} (meld : P → P → P) (alone : Bool) (wing : Wing) (word : ℕ) (old : View P) (result : Exchanged) (new : View P) : Type 0 where
+-- one compare-exchange from 0 of a word that no event sets, the word that is noted behind it, and what is known then
+pub record TriesBeside {P : Type 0} (meld : P → P → P) (alone : Bool) (at : Site) (word : ℕ) (Is : Type 0) (old new : View P) : Type 0 where
   pub of : IsView meld new
   pub did : Did alone [] old.pass.seen new.pass.seen
   pub cached : IsPrefix old.pass.cached new.pass.cached
-  pub caches : new.pass.caches ≡ old.pass.caches ++ Site.Wing wing ∷ []
+  pub caches : new.pass.caches ≡ old.pass.caches ++ at ∷ []
   pub steps : new.pass.steps ≡ old.pass.steps + 1
-  pub last : new.pass.last ≡ Some (record { at = Site.Wing wing; word = standing word result; load = false })
+  pub last : new.pass.last ≡ Some (record { at = at; word = word; load = false })
+  pub stands : Is
+
+-- A wing after an exchange: it is known to be set, to this word or to the one that stood. Where nobody else steps, one that stood was tried before.
+pub record IsWingSet {P : Type 0} (alone : Bool) (wing : Wing) (word : ℕ) (old : View P) (result : Exchanged) (new : View P) : Type 0 where
   pub set : has_wing new.pass.cached wing (standing word result) ≡ true
   pub some : 0 < standing word result
   pub was : MatchResult result (λ _. ⊤) (WasWing wing word)
   pub before : IsTrue alone → MatchResult result (λ _. ⊤) (λ w. Contains old.pass.caches (Site.Wing wing))
 
+-- one compare-exchange of a wing from 0
+abbrev pub SetsWing : {P : Type 0} → (P → P → P) → Bool → Wing → ℕ → View P → Exchanged → View P → Type 0
+SetsWing meld alone wing word old result new =
+    TriesBeside meld alone (Site.Wing wing) (standing word result) (IsWingSet alone wing word old result new) old new
+
 -- a block's wing is known to be set
 abbrev pub IsSpreadBlock : {P : Type 0} → View P → Block → Type 0
 IsSpreadBlock view b = (w : ℕ) × (0 < w) × (has_wing view.pass.cached (Wing.Block b) w ≡ true)
 
--- one compare-exchange of a block's word from 0: the block is set afterwards, by this step or with the same word before
-pub record Caches {P : Type 0} (meld : P → P → P) (alone : Bool) (block : Block) (word : ℕ) (old : View P) (result : Exchanged) (new : View P) : Type 0 where
-  pub of : IsView meld new
-  pub did : Did alone [] old.pass.seen new.pass.seen
-  pub cached : IsPrefix old.pass.cached new.pass.cached
-  pub caches : new.pass.caches ≡ old.pass.caches ++ Site.Block block ∷ []
-  pub steps : new.pass.steps ≡ old.pass.steps + 1
-  pub last : new.pass.last ≡ Some (record { at = Site.Block block; word = found result; load = false })
+-- a block after an exchange of its word: it is set, by this step or with the same word before
+pub record IsBlockSet {P : Type 0} (block : Block) (word : ℕ) (old : View P) (result : Exchanged) (new : View P) : Type 0 where
   pub set : has_block new.pass.cached block ≡ true
   pub stood : MatchResult result (λ _. has_block old.pass.cached block ≡ false) (λ w. w ≡ word)
+
+-- one compare-exchange of a block's word from 0
+abbrev pub Caches : {P : Type 0} → (P → P → P) → Bool → Block → ℕ → View P → Exchanged → View P → Type 0
+Caches meld alone block word old result new =
+    TriesBeside meld alone (Site.Block block) (found result) (IsBlockSet block word old result new) old new
 
 -- the round has the block, and this is what its members say together, each of whom is settled
 pub record BlockSays {P : Type 0} (meld : P → P → P) (ranks : ℕ) (h : History P) (b : Block) (all : Summary P) : Type 0 where

@@ -56,7 +56,7 @@ known_set : (g : _) (c : Joined-self g) → AreSet (g.W.Words.sight c.args.pass.
     → AreSet (g.W.Words.sight c.cache.new.pass).cached c.args.self.now.comm c.args.self.now.round (known_with c.args.self.now.blocks c.args.self.now.side c.args.self.now.all)
 known_set g c are =
     let r = c.args.self.now in
-    set_known (g.W.Words.sight c.args.pass.now).cached (g.W.Words.sight c.cache.new.pass).cached r.comm r.round r.blocks c.cache.ensures.cached are r.side r.all c.cache.ensures.set
+    set_known (g.W.Words.sight c.args.pass.now).cached (g.W.Words.sight c.cache.new.pass).cached r.comm r.round r.blocks c.cache.ensures.cached are r.side r.all c.cache.ensures.stands.set
 
 pub returns-in-Some : goal.returns-in-Some
 returns-in-Some g c =

@@ -29,7 +29,7 @@ returns g c =
       comm = search rules;
       round = search rules;
       tells = at_block_later meld before.seen after.seen group (record r { winged = true }) begins (record { are = at.are; unknown = at.unknown; side = at.side; front = at.front; wide = at.wide; begins = at.begins; within = at.within; read = at.read });
-      half = λ _. record { first = rw none tt; more = c.requires.may.half.more; winged = λ _. (_, s.some, s.set) };
+      half = λ _. record { first = rw none tt; more = c.requires.may.half.more; winged = λ _. (_, s.stands.some, s.stands.set) };
       sets = λ are. set_later before.cached after.cached r.comm r.round r.blocks s.cached are;
       ends = search rules;
     }

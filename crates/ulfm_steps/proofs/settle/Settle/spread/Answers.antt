@@ -43,7 +43,7 @@ returns g c =
       step = record { steps = s.steps; word = _; last = s.last };
       set = λ won.
           let offer = c.slot_wing-word.ensures ∙ given_wing g.P.Packed.pack c.args.self.now.given in
-          set_by c.set_wing.result (sym c.is_ok.ensures.value ∙ won) (λ w. has_wing (g.W.Words.sight c.set_wing.new.pass).cached (Wing.Slot c.args.self.now.comm c.args.self.now.round c.args.self.now.rank) w ≡ true) offer s.set;
-      stood = λ lost. (_, s.set, tried_now _ _ _ s.caches);
-      before = λ here lost. stood_before c.set_wing.result (sym c.is_ok.ensures.value ∙ lost) _ (s.before here);
+          set_by c.set_wing.result (sym c.is_ok.ensures.value ∙ won) (λ w. has_wing (g.W.Words.sight c.set_wing.new.pass).cached (Wing.Slot c.args.self.now.comm c.args.self.now.round c.args.self.now.rank) w ≡ true) offer s.stands.set;
+      stood = λ lost. (_, s.stands.set, tried_now _ _ _ s.caches);
+      before = λ here lost. stood_before c.set_wing.result (sym c.is_ok.ensures.value ∙ lost) _ (s.stands.before here);
     }
