@@ -3,9 +3,9 @@ use Rattle.std.proofs.Common.{◌≡◌, ℕ, ◌≤◌, List, [], ◌∷◌, �
 use Rattle.std.specs.{Prelude.{codes}, Fmt.{decimal}}
 use Rattle.ulfm_model.specs.declared.reply.Reply.TheVariants as reply
 use Rattle.ulfm_script.specs.declared.line_kind.LineKind.{LineKind}
-use Rattle.ulfm_script.specs.{Printed.{ranks_text, reply_text, shrunk_text}, Spelling.{SpellsAs, spelled_text}, Steps.{◌>>=◌}}
+use Rattle.ulfm_script.specs.{Calls.{call_of}, Printed.{ranks_text, reply_text, shrunk_text}, Spelling.{SpellsAs, is_padded, spelled_text}, Steps.{◌>>=◌}}
 use Rattle.ulfm_script.proofs.Spelled.{spelled_as}
-use Rattle.ulfm_lines.specs.{Fields.{Field, is_word_text}, LineReading.{SomeReply, line_from, line_head, line_listing}, LineTexts.{TraceLine, caller_text, event_text, line_text}, Telling.{LineFits, ListsRanks, TextTells, TellsLine, TellsReply}}
+use Rattle.ulfm_lines.specs.{Fields.{Field, is_word_text}, LineReading.{SomeReply, called_line, happened, happened_line, line_from, line_head, line_listing, looked, looked_line}, LineTexts.{TraceLine, caller_text, event_text, line_text}, Telling.{LineFits, ListsRanks, TextTells, TellsLine, TellsReply}}
 use Rattle.ulfm_model.specs.declared.line.Line.TheVariants.{Called, Looked, Happened, Replied}
 use Rattle.ulfm_lines.proofs.{Beginnings.{line_ahead}, FieldLemmas.{same_field}, LineLemmas.{line_again, line_found}, RankLemmas.{ranks_few, ranks_once}}
 
@@ -13,11 +13,6 @@ use Rattle.ulfm_lines.proofs.{Beginnings.{line_ahead}, FieldLemmas.{same_field},
 pub found_line : (text group : List ℕ) (head : TraceLine) (rest : Option (List ℕ)) → line_head text ≡ Ok (head, rest) → ListsRanks rest group true → length text ≤ 8192
     → TextTells text group (line_listing (length group) head)
 found_line text group head rest read lists short = (short, line_found text head rest read group lists.0 lists.1)
-
--- a line that lists nobody is told so by what is read behind its verb
-pub listless : (verb text rest : List ℕ) (head : TraceLine) → is_word_text verb ≡ true → (length text ≤ 8192) × (text ≡ verb ++ 32 ∷ rest) → line_from (verb, Some rest) ≡ Ok (head, None)
-    → TextTells text [] (line_listing 0 head)
-listless verb text rest head word ahead read = found_line text [] head None (sym (line_ahead verb text rest word ahead.1) ∙ read) (tt, refl) ahead.0
 
 -- a line that is told is read, with its ranks
 pub only_line : (text group : List ℕ) (head : TraceLine) (rest : Option (List ℕ)) (told : TraceLine) (ranks : List ℕ) → line_head text ≡ Ok (head, rest) → ListsRanks rest group true → TextTells text ranks told
@@ -34,11 +29,6 @@ no_head text kind told ranks read tells =
     let r = line_again text ranks told tells.1 in
     let k : (let x : Field TraceLine = Err kind in x) ≡ Ok (r.head, r.rest) = sym read ∙ r.read in cc
 
--- nor does one with nothing that can be read behind its verb
-pub headless : (verb text rest : List ℕ) (kind : LineKind) (told : TraceLine) → is_word_text verb ≡ true → text ≡ verb ++ 32 ∷ rest → line_from (verb, Some rest) ≡ Err kind
-    → TextTells text [] told → ⊥
-headless verb text rest kind told word ahead read tells = no_head text kind told [] (sym (line_ahead verb text rest word ahead) ∙ read) tells
-
 -- nor does one with something else behind it
 pub no_ranks : (text group : List ℕ) (head : TraceLine) (rest : Option (List ℕ)) (told : TraceLine) (ranks : List ℕ) → line_head text ≡ Ok (head, rest) → ListsRanks rest group false → TextTells text ranks told → ⊥
 no_ranks text group head rest told ranks read lists tells =
@@ -52,6 +42,36 @@ one_line text g h a b x y =
     let r = line_again text g a x.1 in
     let o = only_line text g r.head r.rest b h r.read (r.ranks, r.behind) y in
     (sym r.listed ∙ o.0, o.1)
+
+-- a line of a verb that lists nobody, by what is read behind it
+module _ {X : Type 0} (verb text rest : List ℕ) (word : is_word_text verb ≡ true) (ahead : text ≡ verb ++ 32 ∷ rest) (read : Result X LineKind) (line : X → TraceLine)
+    (is_line : line_from (verb, Some rest) ≡ (read >>= λ x. let told : Field TraceLine = Ok (line x, None) in told)) where
+  abbrev is_head : (found : Result X LineKind) → found ≡ read → line_head text ≡ (found >>= λ x. let told : Field TraceLine = Ok (line x, None) in told)
+  is_head found is = sym (line_ahead verb text rest word ahead) ∙ is_line ∙ ap (λ r. r >>= λ x. let told : Field TraceLine = Ok (line x, None) in told) (sym is)
+
+  -- what was read is told, and nothing else is
+  pub told_by : (x : X) → length text ≤ 8192 → Ok x ≡ read
+      → TextTells text [] (line_listing 0 (line x)) × ((told : TraceLine) → TextTells text [] told → Some (line_listing 0 (line x)) ≡ Some told)
+  told_by x short is =
+      let found = found_line text [] (line x) None (is_head (Ok x) is) (tt, refl) short in
+      (found, λ told tells. ap (λ (t : TraceLine). Some t) (one_line text [] [] (line_listing 0 (line x)) told found tells).0)
+
+  -- where nothing can be read, nothing is told
+  pub untold_by : (kind : LineKind) → Err kind ≡ read → (told : TraceLine) → TextTells text [] told → None ≡ Some told
+  untold_by kind is told tells = absurd (no_head text kind told [] (is_head (Err kind) is) tells)
+
+-- the lines of calls, looks and events, by what is read behind their verbs
+pub is_call : (rest : List ℕ) → line_from (codes "call", Some rest) ≡ (call_of rest >>= λ asked. Ok (Called asked (is_padded rest asked), None))
+unfolding called_line
+is_call rest = refl
+
+pub is_look : (rest : List ℕ) → line_from (codes "look", Some rest) ≡ (looked (Some rest) >>= λ x. Ok (Looked x.0 x.1, None))
+unfolding looked_line
+is_look rest = refl
+
+pub is_event : (rest : List ℕ) → line_from (codes "event", Some rest) ≡ (happened (Some rest) >>= λ x. Ok (Happened x.0 x.1, None))
+unfolding happened_line
+is_event rest = refl
 
 nobody_few : (g : List ℕ) (n : ℕ) → g ≡ [] → length g ≤ n
 nobody_few g n e = omega (arith, ap length e)
@@ -119,7 +139,3 @@ few_read text group head rest read is is_head lists short = few_ranks text group
 
 pub none_read : (text group : List ℕ) (head : TraceLine) (rest : Option (List ℕ)) (read : Bool) → read ≡ false → line_head text ≡ Ok (head, rest) → ListsRanks rest group read → (told : TraceLine) (ranks : List ℕ) → TextTells text ranks told → ⊥
 none_read text group head rest read is is_head lists told ranks tells = no_ranks text group head rest told ranks is_head (subst (ListsRanks rest group) is lists) tells
-
--- a step goes on with what was read
-pub goes_on : {A B : Type 0} (read of_text : Result A LineKind) (next : A → Result B LineKind) → read ≡ of_text → (of_text >>= next) ≡ (read >>= next)
-goes_on read of_text next is = ap (λ r. r >>= next) (sym is)

@@ -1,23 +1,13 @@
-use Rattle.std.proofs.Common.{[], Bool, None, Ok, Some, ap, refl, sym, ◌∙◌}
+use Rattle.std.proofs.Common.{refl}
 use Rattle.std.specs.Prelude.{codes}
-use Rattle.ulfm_lines.specs.{Fields.{Field}, LineReading.{called_line}, LineTexts.{TraceLine}}
-use Rattle.ulfm_lines.proofs.ReadLemmas.{goes_on, headless, listless, one_line}
+use Rattle.ulfm_script.specs.Spelling.{is_padded}
+use Rattle.ulfm_lines.proofs.ReadLemmas.{is_call, told_by, untold_by}
 use Rattle.ulfm_model.specs.declared.line.Line.TheVariants.{Called}
 use Rattle.ulfm_lines.proofs.trace_line.read_begin.Goals as goal
 
--- a line with no ranks behind it
-abbrev alone : TraceLine → Field TraceLine
-alone told = Ok (told, None)
-
-pub returns-in-Ok-clause-found : goal.returns-in-Ok-clause-found
-unfolding called_line
-returns-in-Ok-clause-found c =
-    listless (codes "call") _ _ _ refl c.in_ok-text.ensures (goes_on _ _ _ c.in-Ok.ensures.exact ∙ ap (λ (p : Bool). alone (Called c.in-Ok.call p)) (sym c.is_padded-padded.ensures.exact))
-
-pub returns-in-Ok-clause-only : goal.returns-in-Ok-clause-only
-returns-in-Ok-clause-only c = λ call padded tells.
-    ap (λ (told : TraceLine). Some told) (one_line c.args.line.now [] [] _ (Called call padded) (returns-in-Ok-clause-found c) tells).0
+pub returns-in-Ok : goal.returns-in-Ok
+returns-in-Ok c =
+    let read = told_by (codes "call") c.args.line.now _ refl c.in_ok-text.ensures.1 _ (λ asked. Called asked (is_padded c.in_ok-text.text.now asked)) (is_call _) _ c.in_ok-text.ensures.0 c.in-Ok.ensures.exact in rw c.is_padded-padded.ensures.exact (record { found = read.0; only = λ call padded. read.1 (Called call padded) })
 
 pub returns-in-Err-clause-only : goal.returns-in-Err-clause-only
-unfolding called_line
-returns-in-Err-clause-only c = λ call padded tells. absurd (headless (codes "call") c.args.line.now _ _ (Called call padded) refl c.in_ok-text.ensures.1 (goes_on _ _ _ c.in-Err.ensures.exact) tells)
+returns-in-Err-clause-only c = λ call padded. untold_by (codes "call") c.args.line.now _ refl c.in_ok-text.ensures.1 _ (λ asked. Called asked (is_padded c.in_ok-text.text.now asked)) (is_call _) _ c.in-Err.ensures.exact (Called call padded)
