@@ -1,7 +1,7 @@
 //! The lines of a trace, printed.
 ghost use Rattle.std.specs.Prelude.{◌≡◌, ◌++◌, ◌∷◌, [], OnOk};
 ghost use Rattle.std.specs.Fmt.{decimal};
-ghost use Rattle.ulfm_lines.specs.LineTexts.{caller_text, event_text, given_text, line_text, offer_text, place_text, some_event_text, some_reply_text};
+ghost use Rattle.ulfm_lines.specs.LineTexts.{caller_text, event_text, line_text, offer_text, place_text, settle_text, some_event_text, some_reply_text};
 
 use std::alloc::{AllocError, Allocator};
 use ulfm_laws::FlagAnd;
@@ -116,10 +116,7 @@ fn print_event<A: Allocator>(text: &mut Vec<u8, A>, event: Event<FlagAnd>) -> Re
             round,
             rank,
             given,
-        } => {
-            print_place(text, b"settle ", comm, round, rank)?;
-            print_given(text, given)
-        }
+        } => print_settled(text, comm, round, rank, given),
         Event::Mark {
             comm,
             round,
@@ -154,13 +151,17 @@ fn print_place<A: Allocator>(
     print_behind(text, c)
 }
 
-/// What a rank contributes, behind its place.
-fn print_given<A: Allocator>(
+/// A settlement: its place, and what the rank contributes.
+fn print_settled<A: Allocator>(
     text: &mut Vec<u8, A>,
+    comm: u16,
+    round: u16,
+    rank: u16,
     given: Contribution<FlagAnd>,
 ) -> Result<(), AllocError>
-    ensures { OnOk result (text.new.items ≡ text.old.items ++ 32 ∷ given_text given.offer given.known.count given.acked.count) }
+    ensures { OnOk result (text.new.items ≡ text.old.items ++ settle_text comm round rank given.offer given.known.count given.acked.count) }
 {
+    print_place(text, b"settle ", comm, round, rank)?;
     text.push(b' ')?;
     print_offer(text, given.offer)?;
     print_labelled(text, b" known ", given.known.count)?;
