@@ -1,6 +1,6 @@
 -- What is read of a line of a step script is spelled so, and what is spelled so is read.
-use Rattle.std.proofs.Common.{◌≡◌, ℕ, ◌<◌, List, ◌∷◌, ◌++◌, length, Option, Some, None, Result, Ok, Err, Bool, true, false, cond, if◌then◌else◌, refl, sym, ap, subst, ◌∙◌, inl, inr, arith}
-use Rattle.std.specs.{Prelude.{◌==◌, codes, IfOk}, Fmt.{decimal}, Str.{bytes_eq}}
+use Rattle.std.proofs.Common.{◌≡◌, ℕ, ◌<◌, List, [], ◌∷◌, ◌++◌, length, Option, Some, None, Result, Ok, Err, Bool, true, false, cond, if◌then◌else◌, refl, sym, ap, subst, ◌∙◌, inl, inr, arith}
+use Rattle.std.specs.{Prelude.{◌==◌, ⊤, codes, IfOk}, Fmt.{decimal}, Str.{bytes_eq}}
 use Rattle.std.proofs.lemmas.{Bool.{eqb-false, ne_eqb}, Slice.Eq.{bytes_eq-Decides}}
 use Rattle.ulfm_model.specs.declared.call.Call.TheVariants.{Fail, GetFailed, Ack, FailureAck, FailureGetAcked, Agree, Shrink, Barrier, Poll, Revoke, IsRevoked, Free}
 use Rattle.ulfm_model.specs.declared.step_name.StepName.{StepName}
@@ -10,27 +10,28 @@ use Rattle.ulfm_script.specs.declared.line_kind.LineKind.{LineKind}
 use Rattle.ulfm_script.specs.declared.line_kind.LineKind.TheVariants.{Number, Step, Verb, Words}
 use Rattle.ulfm_script.specs.{Calls.{ScriptCall, call_of, rank_alone}, Digits.{read_number, read_rank}, Spelling.{Spells, SpellsAs, is_padded}, Steps.{◌>>=◌}, Words.{two_of, first_word}}
 use Rattle.ulfm_script.proofs.{Numerals.{number_again, number_found, number_to_found}, Spelled.{chosen, number_is_word, rank_again, rank_alone_again, rank_found, read_is_spelled, spelled_again, verb_found}, WordLemmas.{IsWord, joined, joined_word, same_done, step_found, two_again, two_found}}
-use Rattle.ulfm_lines.specs.{StepLines.{IsByRank, ScriptStep, SpellsStep, read_asked, before_of, read_failed, finished_of, step_from, step_line_of, stepped_of}, StepNames.{read_step_name, or_name, step_text}}
+use Rattle.ulfm_lines.specs.{StepLines.{IsByRank, ScriptStep, SpellsStep, read_asked, before_of, read_failed, finished_of, step_from, step_line_of, stepped_of}, StepNames.{name_beside, read_step_name, step_text, step_words}}
 use Rattle.ulfm_lines.proofs.Literals.{literal}
 
 -- names
 
-tested : (word : List ℕ) (one found : StepName) (other : Result StepName LineKind) → (other ≡ Ok found → word ≡ step_text found)
-    → or_name word one other ≡ Ok found → word ≡ step_text found
-tested word one found other rest e = elim (chosen (bytes_eq word (step_text one)) (Ok one) other (Ok found) e) [
-  | inl this ↦ (bytes_eq-Decides word (step_text one)).0 this.0 ∙ ap step_text (same_done one found this.1)
-  | inr that ↦ rest that.1
-]
+-- the words of a table beside their steps
+abbrev AreTheirs : List (StepName × List ℕ) → Type 0
+AreTheirs [] = ⊤
+AreTheirs (x ∷ words) = (x.1 ≡ step_text x.0) × AreTheirs words
 
-no_name : (word : List ℕ) (found : StepName) → (let r : Result StepName LineKind = Err Step in r) ≡ Ok found → word ≡ step_text found
-no_name word found e = absurd cc
+-- a step that was found beside a word has that word
+beside : (word : List ℕ) (found : StepName) (words : List (StepName × List ℕ)) → AreTheirs words → name_beside word words ≡ Ok found → word ≡ step_text found
+beside word found [] theirs e = absurd (cc e)
+beside word found (x ∷ words) theirs e = elim (chosen (bytes_eq word x.1) (Ok x.0) (name_beside word words) (Ok found) e) [
+  | inl this ↦ (bytes_eq-Decides word x.1).0 this.0 ∙ (theirs.0 ∙ ap step_text (same_done x.0 found this.1))
+  | inr that ↦ beside word found words theirs.1 that.1
+]
 
 -- a name that was read stands there
 pub name_found : (word : List ℕ) (found : StepName) → read_step_name word ≡ Ok found → word ≡ step_text found
 unfolding read_step_name
-name_found word found e = tested word name.List found _ (tested word name.Settle found _ (tested word name.Block found _ (tested word name.Mark found _ (tested word name.Slot found _
-    (tested word name.Cache found _ (tested word name.Wing found _ (tested word name.Comm found _ (tested word name.Spawn found _ (tested word name.Arrive found _ (tested word name.Arrival found _
-    (tested word name.Revoke found _ (tested word name.Revocation found _ (no_name word found))))))))))))) e
+name_found word found e = beside word found step_words (refl, (refl, (refl, (refl, (refl, (refl, (refl, (refl, (refl, (refl, (refl, (refl, (refl, tt))))))))))))) e
 
 -- the same at a result
 pub names_found : (word : List ℕ) (r : Result StepName LineKind) → r ≡ read_step_name word → IfOk r (λ name. word ≡ step_text name)

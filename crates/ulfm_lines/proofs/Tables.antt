@@ -1,12 +1,16 @@
 -- Names, looked up one after another.
-use Rattle.std.proofs.Common.{◌≡◌, ℕ, suc, ◌+◌, ◌<◌, List, [], ◌∷◌, length, drop, get_or, Bool, false, cond, Result, Ok, Err, refl, sym, ap, ◌∙◌, add-one}
+use Rattle.std.proofs.Common.{◌≡◌, ℕ, suc, ◌+◌, ◌<◌, List, [], ◌∷◌, length, drop, get_or, Bool, false, cond, if◌then◌else◌, Result, Ok, Err, refl, sym, ap, ◌∙◌, add-one}
 use Rattle.std.proofs.Math.Seq.{drop-cons}
 use Rattle.std.specs.{Prelude.{◌&&◌, ◌==◌}, Str.{bytes_eq}}
 use Rattle.ulfm_model.specs.Answers.{printed}
 use Rattle.ulfm_model.specs.declared.{refusal.Refusal.{Refusal}, step_name.StepName.{StepName}}
 use Rattle.ulfm_script.specs.declared.line_kind.LineKind.{LineKind}
 use Rattle.ulfm_script.specs.declared.line_kind.LineKind.TheVariants.{Step, Words}
-use Rattle.ulfm_lines.specs.{LineReading.{or_refusal}, StepNames.{or_name, step_text}}
+use Rattle.ulfm_lines.specs.{LineReading.{or_refusal}, StepNames.{step_text}}
+
+-- the step, where the word is its name
+abbrev pub or_name : List ℕ → StepName → Result StepName LineKind → Result StepName LineKind
+or_name word name other = if bytes_eq word (step_text name) then Ok name else other
 
 -- the first of these steps whose name a word is
 abbrev pub first_name : List StepName → List ℕ → Result StepName LineKind
