@@ -8,8 +8,9 @@ use Rattle.ulfm_script.specs.declared.line_kind.LineKind.{LineKind}
 use Rattle.ulfm_script.specs.declared.line_kind.LineKind.TheVariants.{Words}
 use Rattle.ulfm_script.specs.{Printed.{reply_text}, Steps.{◌>>=◌}, Words.{first_word, next_word}}
 use Rattle.ulfm_script.proofs.WordLemmas.{done, joined, joined_word, next_before, word_before}
-use Rattle.ulfm_lines.specs.EventReading.{arrive_event, event_from, event_of, read_fail, mark_event, revoke_event, settle_event, spawn_event}
-use Rattle.ulfm_lines.specs.Fields.{Field, comm_field, caller_field, flag_field, is_word_text, label_field, number_field, over, place_field, rank_field}
+use Rattle.ulfm_model.specs.declared.event.Event.TheVariants.{Arrive, Fail, Revoke}
+use Rattle.ulfm_lines.specs.EventReading.{arrive_event, event_from, event_of, read_fail, mark_event, revoke_event, settle_event, spawn_event, told}
+use Rattle.ulfm_lines.specs.Fields.{Field, comm_field, caller_field, flag_field, is_word_text, label_field, last, number_field, over, place_field, rank_field}
 use Rattle.ulfm_lines.specs.LineReading.{SomeReply, acked_reply, alone, called_line, failed_reply, happened_line, line_from, line_head, looked_line, read_agreed, read_plain, read_shrunk, refusal_field, refused_reply, replied_line, reply_from, some_reply_of}
 use Rattle.ulfm_lines.proofs.{FieldLemmas.{two_ways}, Literals.{literal}}
 
@@ -76,6 +77,19 @@ no_line text call look answer event = line_by text (first_word text).1 refl call
 pub event_ahead : (verb text rest : List ℕ) → is_word_text verb ≡ true → text ≡ verb ++ 32 ∷ rest → event_from (verb, Some rest) ≡ event_of (Some text)
 unfolding event_of
 event_ahead verb text rest word e = rw (e, next_before verb rest (literal verb word)) refl
+
+-- events of one last field, by what is read behind their verbs
+pub arrive_ahead : (text rest : List ℕ) → text ≡ codes "arrive " ++ rest → told (λ x. Arrive x.0 x.1.0 x.1.1) (last (place_field (Some rest))) ≡ event_of (Some text)
+unfolding arrive_event
+arrive_ahead text rest e = event_ahead (codes "arrive") text rest refl e
+
+pub fail_ahead : (text rest : List ℕ) → text ≡ codes "fail " ++ rest → told Fail (last (rank_field (Some rest))) ≡ event_of (Some text)
+unfolding read_fail
+fail_ahead text rest e = event_ahead (codes "fail") text rest refl e
+
+pub revoke_ahead : (text rest : List ℕ) → text ≡ codes "revoke " ++ rest → told Revoke (last (comm_field (Some rest))) ≡ event_of (Some text)
+unfolding revoke_event
+revoke_ahead text rest e = event_ahead (codes "revoke") text rest refl e
 
 eventless : (w : List ℕ) → event_from (w, None) ≡ Err Words
 unfolding read_fail settle_event mark_event arrive_event revoke_event spawn_event place_field comm_field rank_field next_word

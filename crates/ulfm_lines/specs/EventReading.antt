@@ -21,9 +21,13 @@ settled place offer known acked =
 abbrev pub marked : ℕ × (ℕ × ℕ) → ℕ → Option TraceEvent
 marked place known = if nat_lt 0 known && nat_le known 1024 then Some (Mark place.0 place.1.0 place.1.1 (mark_at known)) else None
 
+-- an event that is made of what was read
+abbrev pub told : {A : Type 0} → (A → TraceEvent) → Result A LineKind → ReadEvent
+told make read = read >>= λ x. Ok (Some (make x))
+
 -- the text behind each verb
 unfoldable pub read_fail : Option (List ℕ) → ReadEvent
-read_fail text = whole rank_field text >>= λ r. Ok (Some (Fail r))
+read_fail text = told Fail (whole rank_field text)
 
 unfoldable pub settle_event : Option (List ℕ) → ReadEvent
 settle_event text =
@@ -34,13 +38,13 @@ unfoldable pub mark_event : Option (List ℕ) → ReadEvent
 mark_event text = whole (both place_field (labelled (codes "known"))) text >>= λ x. Ok (marked x.0 x.1)
 
 unfoldable pub arrive_event : Option (List ℕ) → ReadEvent
-arrive_event text = whole place_field text >>= λ x. Ok (Some (Arrive x.0 x.1.0 x.1.1))
+arrive_event text = told (λ x. Arrive x.0 x.1.0 x.1.1) (whole place_field text)
 
 unfoldable pub revoke_event : Option (List ℕ) → ReadEvent
-revoke_event text = whole comm_field text >>= λ c. Ok (Some (Revoke c))
+revoke_event text = told Revoke (whole comm_field text)
 
 unfoldable pub spawn_event : Option (List ℕ) → ReadEvent
-spawn_event text = whole (both comm_field (both comm_field number_field)) text >>= λ x. Ok (Some (Spawn x.0 x.1.0 x.1.1))
+spawn_event text = told (λ x. Spawn x.0 x.1.0 x.1.1) (whole (both comm_field (both comm_field number_field)) text)
 
 -- a verb, and the text behind it
 abbrev pub event_from : List ℕ × Option (List ℕ) → ReadEvent

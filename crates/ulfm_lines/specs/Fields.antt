@@ -30,9 +30,13 @@ unfoldable pub over : Option (List ℕ) → Result (Unit {0}) LineKind
 over None = Ok tt
 over (Some text) = Err Words
 
+-- what was read, where nothing stands behind it
+abbrev pub last : {A : Type 0} → Field A → Result A LineKind
+last read = read >>= λ a. over a.1 >>= λ none. Ok a.0
+
 -- a last field
 abbrev pub whole : {A : Type 0} → (Option (List ℕ) → Field A) → Option (List ℕ) → Result A LineKind
-whole one text = one text >>= λ a. over a.1 >>= λ last. Ok a.0
+whole one text = last (one text)
 
 -- fields of one word
 unfoldable pub rank_field : Option (List ℕ) → Field ℕ

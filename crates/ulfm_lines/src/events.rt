@@ -1,10 +1,10 @@
 //! Events, read of a trace's line.
 ghost use Rattle.std.specs.Prelude.{◌≡◌};
 ghost use Rattle.ulfm_script.specs.Words.{rest_at};
-ghost use Rattle.ulfm_lines.specs.EventReading.{arrive_event, event_of, read_fail, mark_event, marked, revoke_event, settle_event, settled, spawn_event};
+ghost use Rattle.ulfm_lines.specs.EventReading.{event_of, mark_event, marked, settle_event, settled, spawn_event};
 
 use crate::fields::{
-    by_beginning, comm_field, labelled, number_field, offer_field, over, place_field, rank_field,
+    by_beginning, comm_field, labelled, last, number_field, offer_field, place_field, rank_field,
 };
 use ulfm_laws::{Acked, FlagAnd, Known};
 use ulfm_model::contribution::{Contribution, MarkCount, Offer};
@@ -20,22 +20,22 @@ pub(crate) fn read_event(text: Option<&[u8]>) -> Result<Option<Event<FlagAnd>>, 
     };
     by_beginning!(text,
         b"settle " => read_settle,
-        b"arrive " => read_arrive,
+        b"arrive " => |fields| {
+            let (comm, (round, rank)) = last(place_field(fields))?;
+            Ok(Some(Event::Arrive { comm, round, rank }))
+        },
         b"mark " => read_mark,
-        b"fail " => read_fail,
-        b"revoke " => read_revoke,
+        b"fail " => |fields| {
+            let rank = last(rank_field(fields))?;
+            Ok(Some(Event::Fail { rank }))
+        },
+        b"revoke " => |fields| {
+            let comm = last(comm_field(fields))?;
+            Ok(Some(Event::Revoke { comm }))
+        },
         b"spawn " => read_spawn,
         else Err(LineKind::Words)
     )
-}
-
-#[tactic(auto, unfolding(crate::specs::EventReading::read_fail))]
-fn read_fail(text: Option<&[u8]>) -> Result<Option<Event<FlagAnd>>, LineKind>
-    ensures { result ≡ read_fail (rest_at text.entry) }
-{
-    let (rank, rest) = rank_field(text)?;
-    over(rest)?;
-    Ok(Some(Event::Fail { rank }))
 }
 
 #[tactic(auto, unfolding(crate::specs::EventReading::settle_event))]
@@ -45,8 +45,7 @@ fn read_settle(text: Option<&[u8]>) -> Result<Option<Event<FlagAnd>>, LineKind>
     let (place, rest) = place_field(text)?;
     let (offer, rest) = offer_field(rest)?;
     let (known, rest) = labelled(b"known", rest)?;
-    let (acked, rest) = labelled(b"acked", rest)?;
-    over(rest)?;
+    let acked = last(labelled(b"acked", rest))?;
     Ok(settled(place, offer, known, acked))
 }
 
@@ -55,27 +54,8 @@ fn read_mark(text: Option<&[u8]>) -> Result<Option<Event<FlagAnd>>, LineKind>
     ensures { result ≡ mark_event (rest_at text.entry) }
 {
     let (place, rest) = place_field(text)?;
-    let (known, rest) = labelled(b"known", rest)?;
-    over(rest)?;
+    let known = last(labelled(b"known", rest))?;
     Ok(marked(place, known))
-}
-
-#[tactic(auto, unfolding(crate::specs::EventReading::arrive_event))]
-fn read_arrive(text: Option<&[u8]>) -> Result<Option<Event<FlagAnd>>, LineKind>
-    ensures { result ≡ arrive_event (rest_at text.entry) }
-{
-    let ((comm, (round, rank)), rest) = place_field(text)?;
-    over(rest)?;
-    Ok(Some(Event::Arrive { comm, round, rank }))
-}
-
-#[tactic(auto, unfolding(crate::specs::EventReading::revoke_event))]
-fn read_revoke(text: Option<&[u8]>) -> Result<Option<Event<FlagAnd>>, LineKind>
-    ensures { result ≡ revoke_event (rest_at text.entry) }
-{
-    let (comm, rest) = comm_field(text)?;
-    over(rest)?;
-    Ok(Some(Event::Revoke { comm }))
 }
 
 #[tactic(auto, unfolding(crate::specs::EventReading::spawn_event))]
@@ -84,8 +64,7 @@ fn read_spawn(text: Option<&[u8]>) -> Result<Option<Event<FlagAnd>>, LineKind>
 {
     let (comm, rest) = comm_field(text)?;
     let (parent, rest) = comm_field(rest)?;
-    let (round, rest) = number_field(rest)?;
-    over(rest)?;
+    let round = last(number_field(rest))?;
     Ok(Some(Event::Spawn {
         comm,
         parent,

@@ -2,8 +2,8 @@
 ghost use Rattle.std.specs.Prelude.{◌≡◌, ◌≢◌, ◌≤◌, ◌<◌, ◌++◌, ◌∷◌, IfOk, IfSome, List, MatchOption, Some, true, ℕ};
 ghost use Rattle.ulfm_script.specs.Digits.{number_in, number_to};
 ghost use Rattle.ulfm_script.specs.Words.{Gives, rest_at};
-ghost use Rattle.ulfm_lines.specs.Fields.{at_field, field_by, caller_field, read_caller, comm_field, error_field, flag_field, flag_mask, is_word_text, label_field};
-ghost use Rattle.ulfm_lines.specs.Fields.{labelled, number_field, offer_field, offer_of, over, place_field, point_field, rank_field};
+ghost use Rattle.ulfm_lines.specs.Fields.{Field, at_field, field_by, caller_field, read_caller, comm_field, error_field, flag_field, flag_mask, is_word_text, label_field};
+ghost use Rattle.ulfm_lines.specs.Fields.{labelled, last, number_field, offer_field, offer_of, over, place_field, point_field, rank_field};
 
 use ulfm_laws::{CtxMask, FlagAnd};
 use ulfm_model::contribution::Offer;
@@ -136,11 +136,19 @@ pub(crate) fn behind<'a>(beginning: &[u8], text: &'a [u8]) -> Option<&'a [u8]>
     }
 }
 
-/// What is read behind the first of these beginnings with which a text begins, or else this. Each beginning is compared in line, as
-/// [`behind`] does it.
+/// What is read behind the first of these beginnings with which a text begins, or else this: by a function, or by what is made of the
+/// fields in its place. Each beginning is compared in line, as [`behind`] does it.
 macro_rules! by_beginning {
     ($text:ident, else $other:expr) => {
         $other
+    };
+    ($text:ident, $beginning:literal => |$fields:ident| $told:expr, $($rest:tt)+) => {
+        if let Some(fields) = $crate::fields::behind($beginning, $text) {
+            let $fields = Some(fields);
+            $told
+        } else {
+            $crate::fields::by_beginning!($text, $($rest)+)
+        }
     };
     ($text:ident, $beginning:literal => $read:ident, $($rest:tt)+) => {
         if let Some(fields) = $crate::fields::behind($beginning, $text) {
@@ -264,4 +272,14 @@ pub(crate) fn over(text: Option<&[u8]>) -> Result<(), LineKind>
         return Err(LineKind::Words);
     }
     Ok(())
+}
+
+/// The last field: nothing stands behind it.
+#[inline(always)]
+pub(crate) fn last<T: Copy>(field: Result<(T, Option<&[u8]>), LineKind>) -> Result<T, LineKind>
+    ensures { (read : Field T) → Gives at_field field.entry read → result ≡ last read }
+{
+    let (value, rest) = field?;
+    over(rest)?;
+    Ok(value)
 }
