@@ -1,12 +1,12 @@
 -- Texts that begin with a word and a space, and texts that begin with none of these.
-use Rattle.std.proofs.Common.{◌≡◌, ◌≢◌, ℕ, ◌-◌, ◌≤◌, List, [], ◌∷◌, ◌++◌, length, take, drop, Option, Some, None, Result, Ok, Err, Bool, true, false, cond, refl, sym, ap, ◌∙◌, inl, inr, arith}
+use Rattle.std.proofs.Common.{◌≡◌, ◌≢◌, ℕ, ◌-◌, ◌≤◌, List, [], ◌∷◌, ◌++◌, length, take, drop, Option, Some, None, Result, Ok, Err, Bool, true, false, cond, refl, sym, ap, subst, ◌∙◌, inl, inr, arith}
 use Rattle.std.specs.{Prelude.{◌==◌, codes}, Str.{bytes_eq}}
 use Rattle.std.proofs.lemmas.{Bool.{eqb-true}, Bool.Decides.{Decides-eqb}, List.{take_all, length-drop}, Slice.Eq.{bytes_eq-Decides, starts_is}}
 use Rattle.std.specs.{Cmp.Lexicographic.{pointwise}, Prelude.{nat_eq}}
 use Rattle.ulfm_model.specs.declared.reply.Reply.TheVariants as reply
 use Rattle.ulfm_script.specs.declared.line_kind.LineKind.{LineKind}
 use Rattle.ulfm_script.specs.declared.line_kind.LineKind.TheVariants.{Words}
-use Rattle.ulfm_script.specs.{Printed.{reply_text}, Steps.{◌>>=◌}, Words.{first_word, next_word}}
+use Rattle.ulfm_script.specs.{Printed.{reply_text}, Steps.{◌>>=◌}, Words.{Gives, first_word, next_word}}
 use Rattle.ulfm_script.proofs.WordLemmas.{done, joined, joined_word, next_before, word_before}
 use Rattle.ulfm_model.specs.declared.event.Event.TheVariants.{Arrive, Fail, Revoke}
 use Rattle.ulfm_lines.specs.EventReading.{arrive_event, event_from, event_of, read_fail, mark_event, revoke_event, settle_event, spawn_event, told}
@@ -124,6 +124,11 @@ event_nowhere = refl
 pub reply_ahead : (verb text rest : List ℕ) → is_word_text verb ≡ true → text ≡ verb ++ 32 ∷ rest → reply_from (verb, Some rest) ≡ some_reply_of (Some text)
 unfolding some_reply_of
 reply_ahead verb text rest word e = rw (e, next_before verb rest (literal verb word)) refl
+
+-- what is given of the text behind a verb is given of the whole reply
+pub reply_gives : {X : Type 0} (see : X → SomeReply × Option (List ℕ)) (given : Result X LineKind) (verb text rest : List ℕ) → is_word_text verb ≡ true → text ≡ verb ++ 32 ∷ rest
+    → Gives see given (reply_from (verb, Some rest)) → Gives see given (some_reply_of (Some text))
+reply_gives see given verb text rest word e gives = subst (Gives see given) (reply_ahead verb text rest word e) gives
 
 pub reply_nowhere : some_reply_of None ≡ Err Words
 unfolding some_reply_of next_word

@@ -1,14 +1,14 @@
 //! Replies, read of a trace's line, but for the ranks that they list.
-ghost use Rattle.std.specs.Prelude.{◌≡◌, ◌&&◌, ◌==◌};
+ghost use Rattle.std.specs.Prelude.{◌≡◌, ◌&&◌, ◌==◌, None, Some};
 ghost use Rattle.std.specs.Str.{bytes_eq};
 ghost use Rattle.ulfm_model.specs.Answers.{printed};
 ghost use Rattle.ulfm_script.specs.Words.{Gives, rest_at};
 ghost use Rattle.ulfm_lines.specs.Fields.{at_field};
-ghost use Rattle.ulfm_lines.specs.LineReading.{acked_reply, alone, read_agreed, failed_reply, made, read_plain, refusal_field, read_refusal, refused_reply};
+ghost use Rattle.ulfm_lines.specs.LineReading.{acked_reply, alone as read_alone, read_agreed, failed_reply, made, read_plain, refusal_field, read_refusal, refused_reply};
 ghost use Rattle.ulfm_lines.specs.LineReading.{read_shrunk, some_reply_of};
 
 use crate::fields::{
-    by_beginning, comm_field, error_field, flag_field, label_field, labelled, number_field, over,
+    by_beginning, comm_field, error_field, flag_field, label_field, labelled, last, number_field,
 };
 use ulfm_laws::FlagAnd;
 use ulfm_model::{Refusal, Reply, refusal_number};
@@ -21,24 +21,22 @@ pub(crate) fn reply_field(
 ) -> Result<(Option<Reply<FlagAnd>>, Option<&[u8]>), LineKind>
     ensures { Gives at_field result (some_reply_of (rest_at text.entry)) }
 {
-    if let Some(word) = text {
-        if is_word(word, b"pending") {
-            return Ok((Some(Reply::Pending), None));
-        }
-        if is_word(word, b"started") {
-            return Ok((Some(Reply::Started), None));
-        }
+    let Some(text) = text else {
+        return Err(LineKind::Words);
+    };
+    if is_word(text, b"pending") {
+        return Ok(alone(Reply::Pending));
+    }
+    if is_word(text, b"started") {
+        return Ok(alone(Reply::Started));
     }
     read_reply(text)
 }
 
 /// A reply, or none where it tells a context id that no communicator has; and the ranks that it lists, where it does.
-fn read_reply(text: Option<&[u8]>) -> Result<(Option<Reply<FlagAnd>>, Option<&[u8]>), LineKind>
-    ensures { Gives at_field result (some_reply_of (rest_at text.entry)) }
+fn read_reply<'a>(text: &'a [u8]) -> Result<(Option<Reply<FlagAnd>>, Option<&'a [u8]>), LineKind>
+    ensures { Gives at_field result (some_reply_of (Some text.now)) }
 {
-    let Some(text) = text else {
-        return Err(LineKind::Words);
-    };
     by_beginning!(text,
         b"agreed " => read_agreed,
         b"shrunk " => read_shrunk,
@@ -49,12 +47,19 @@ fn read_reply(text: Option<&[u8]>) -> Result<(Option<Reply<FlagAnd>>, Option<&[u
     )
 }
 
+/// A reply that was read whole, with no ranks behind it.
+#[inline(always)]
+fn alone<'a>(reply: Reply<FlagAnd>) -> (Option<Reply<FlagAnd>>, Option<&'a [u8]>)
+    ensures { at_field result ≡ (Some reply, None) }
+{
+    (Some(reply), None)
+}
+
 /// A reply of one word, and nothing behind it.
 fn read_alone<'a>(text: &'a [u8]) -> Result<(Option<Reply<FlagAnd>>, Option<&'a [u8]>), LineKind>
-    ensures { Gives at_field result (alone (λ one. one) (read_plain text.now)) }
+    ensures { Gives at_field result (read_alone (λ one. one) (read_plain text.now)) }
 {
-    let reply = read_plain(text)?;
-    Ok((Some(reply), None))
+    Ok(alone(read_plain(text)?))
 }
 
 #[tactic(auto, unfolding(crate::specs::LineReading::read_agreed))]
@@ -63,14 +68,13 @@ fn read_agreed(text: Option<&[u8]>) -> Result<(Option<Reply<FlagAnd>>, Option<&[
 {
     let (value, rest) = flag_field(text)?;
     let (failed, rest) = labelled(b"failed", rest)?;
-    let (raised, rest) = error_field(rest)?;
-    over(rest)?;
+    let raised = last(error_field(rest))?;
     let reply = Reply::Agreed {
         value,
         failed,
         raised,
     };
-    Ok((Some(reply), None))
+    Ok(alone(reply))
 }
 
 /// A new communicator, whose members follow.
@@ -120,18 +124,16 @@ fn read_failed(text: Option<&[u8]>) -> Result<(Option<Reply<FlagAnd>>, Option<&[
 fn read_acked(text: Option<&[u8]>) -> Result<(Option<Reply<FlagAnd>>, Option<&[u8]>), LineKind>
     ensures { Gives at_field result (acked_reply (rest_at text.entry)) }
 {
-    let (count, rest) = number_field(text)?;
-    over(rest)?;
-    Ok((Some(Reply::Acked { count }), None))
+    let count = last(number_field(text))?;
+    Ok(alone(Reply::Acked { count }))
 }
 
 #[tactic(auto, unfolding(crate::specs::LineReading::refused_reply))]
 fn read_refused(text: Option<&[u8]>) -> Result<(Option<Reply<FlagAnd>>, Option<&[u8]>), LineKind>
     ensures { Gives at_field result (refused_reply (rest_at text.entry)) }
 {
-    let (refusal, rest) = refusal_field(text)?;
-    over(rest)?;
-    Ok((Some(Reply::Refused(refusal)), None))
+    let refusal = last(refusal_field(text))?;
+    Ok(alone(Reply::Refused(refusal)))
 }
 
 #[tactic(auto, unfolding(crate::specs::LineReading::refusal_field))]
