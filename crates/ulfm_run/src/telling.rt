@@ -18,6 +18,7 @@ use ulfm_model::refusal::Refusal;
 use ulfm_model::{Call, Line, Reply};
 
 // A line with the ranks that it lists, if it came.
+#[inline(always)]
 fn tell_any<A: Allocator>(
     line: Option<Line<FlagAnd>>,
     group: &[u16],
@@ -32,6 +33,7 @@ fn tell_any<A: Allocator>(
 }
 
 // The line of a look's end, if it came.
+#[inline(always)]
 fn look_line(rank: u16, look: Option<u16>) -> Option<Line<FlagAnd>>
     ensures { line_piece result [] ≡ look_piece rank look }
 {
@@ -40,6 +42,7 @@ fn look_line(rank: u16, look: Option<u16>) -> Option<Line<FlagAnd>>
 }
 
 // The line of a caller's event, if one came.
+#[inline(always)]
 fn event_line(by: Caller, event: Option<Event<FlagAnd>>) -> Option<Line<FlagAnd>>
     ensures { line_piece result [] ≡ event_by by event }
 {
@@ -50,6 +53,7 @@ fn event_line(by: Caller, event: Option<Event<FlagAnd>>) -> Option<Line<FlagAnd>
 }
 
 // The line of a reply, if it came.
+#[inline(always)]
 fn reply_line(rank: u16, reply: Option<Answer<FlagAnd>>) -> Option<Line<FlagAnd>>
     ensures { (group : List ℕ) → line_piece result group ≡ reply_piece rank group reply }
 {

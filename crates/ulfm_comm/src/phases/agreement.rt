@@ -112,20 +112,20 @@ impl<P: Packed, A: Allocator> LocalState<P, A> {
         words: &W,
         pass: &W::Pass,
         asked: &Call<P>,
-        peek: &Peek<P>,
+        peek: Peek<P>,
         shrinks: bool,
     ) -> Phase<P>
         requires of { IsView P.meld (view_of P.pack (W.name words.now) (W.sight pass.now)) }
         requires peeked { (old : Record) × (before : Sight P)
-            × HasPeeked P.meld false asked.now shrinks peek.now (local old (view_of P.pack (W.name words.now) before))
+            × HasPeeked P.meld false asked.now shrinks peek (local old (view_of P.pack (W.name words.now) before))
             (local self.now (view_of P.pack (W.name words.now) (W.sight pass.now))) }
         ensures further { left result < 7 }
         ensures past { is_looking result ≡ false }
         ensures nearer { steps_left (W.name words.now).limits self.now asked.now result + reads_first result
             ≤ after_peek (W.name words.now).limits self.now asked.now shrinks }
-        ensures knows { (cached : List Beside) → KnowsIn self.now asked.now cached (AtPeeking peek.now shrinks) → KnowsIn self.now asked.now cached result }
+        ensures knows { (cached : List Beside) → KnowsIn self.now asked.now cached (AtPeeking peek shrinks) → KnowsIn self.now asked.now cached result }
         ensures turns { (prepared : Prepared) (alone : Bool) (old : Record) (before : Sight P)
-            → HasPeeked P.meld alone asked.now shrinks peek.now (local old (view_of P.pack (W.name words.now) before))
+            → HasPeeked P.meld alone asked.now shrinks peek (local old (view_of P.pack (W.name words.now) before))
             (local self.now (view_of P.pack (W.name words.now) (W.sight pass.now)))
             → NextIs P.meld alone asked.now (local old (view_of P.pack (W.name words.now) before)) (NextGoes result) prepared
             (local self.now (view_of P.pack (W.name words.now) (W.sight pass.now))) }
@@ -192,13 +192,13 @@ impl<P: Packed, A: Allocator> LocalState<P, A> {
         words: &W,
         pass: &mut W::Pass,
         asked: &Call<P>,
-        peek: &Peek<P>,
+        peek: Peek<P>,
         shrinks: bool,
         whole: bool,
     ) -> Next<P>
         requires of { IsView P.meld (view_of P.pack (W.name words.now) (W.sight pass.old)) }
         requires peeked { (old : Record) × (before : Sight P)
-            × HasPeeked P.meld false asked.now shrinks peek.now (local old (view_of P.pack (W.name words.now) before))
+            × HasPeeked P.meld false asked.now shrinks peek (local old (view_of P.pack (W.name words.now) before))
             (local self.old (view_of P.pack (W.name words.now) (W.sight pass.old))) }
         ensures kept { self.new ≡ self.old }
         ensures goes { Goes P.meld W.alone false 1 (view_of P.pack (W.name words.now) (W.sight pass.old))
@@ -208,10 +208,10 @@ impl<P: Packed, A: Allocator> LocalState<P, A> {
         ensures past { IsPast result }
         ensures spends { Spends (after_peek (W.name words.now).limits self.old asked.now shrinks) (W.name words.now).limits self.new asked.now result
             (W.sight pass.old) (W.sight pass.new) }
-        ensures knows { (cached : List Beside) → KnowsIn self.old asked.now cached (AtPeeking peek.now shrinks)
+        ensures knows { (cached : List Beside) → KnowsIn self.old asked.now cached (AtPeeking peek shrinks)
             → KnowsNext self.old asked.now cached result }
         ensures turns { (prepared : Prepared) (alone : Bool) → (IsTrue alone → IsTrue W.alone) → (old : Record) (before : Sight P)
-            → HasPeeked P.meld alone asked.now shrinks peek.now (local old (view_of P.pack (W.name words.now) before))
+            → HasPeeked P.meld alone asked.now shrinks peek (local old (view_of P.pack (W.name words.now) before))
             (local self.old (view_of P.pack (W.name words.now) (W.sight pass.old)))
             → NextIs P.meld alone asked.now (local old (view_of P.pack (W.name words.now) before)) result prepared
             (local self.new (view_of P.pack (W.name words.now) (W.sight pass.new))) }
@@ -253,7 +253,7 @@ impl<P: Packed, A: Allocator + Copy> LocalState<P, A> {
         }
         let members = x.group.len() as u16;
         match peek.blocks.all(members) {
-            None => self.go_unread(words, pass, asked, &peek, shrinks, whole),
+            None => self.go_unread(words, pass, asked, peek, shrinks, whole),
             Some(all) => {
                 self.decided(
                     words, pass, asked, peek.round, all, shrinks, whole, prepared,

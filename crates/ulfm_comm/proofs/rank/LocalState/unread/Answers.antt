@@ -17,7 +17,7 @@ pub new-marks-requires : goal.new-marks-requires
 new-marks-requires g c =
     let k = c.requires.peeked in
     record {
-      rises = unread_rises g.P.Meld.meld false (over g.P.Packed.pack (g.W.Words.name c.args.words.now)) c.args.asked.now c.args.shrinks c.args.peek.now k.0 k.1 c.args.self.now
+      rises = unread_rises g.P.Meld.meld false (over g.P.Packed.pack (g.W.Words.name c.args.words.now)) c.args.asked.now c.args.shrinks c.args.peek k.0 k.1 c.args.self.now
           (g.W.Words.sight c.args.pass.now) c.requires.of k.2 unprepared c.held_comm-x.result.now c.comm_of-comm.result c.held_comm-x.ensures c.comm_of-comm.ensures
           c.deref.result.now c.failures-seen.result.now (members g (goal.at.new-marks-requires g c).After-deref) c.failures-seen.ensures;
     }
@@ -26,7 +26,7 @@ new-marks-requires g c =
 sized : (g : _) (c : After-len-members g) → (0 < c.len-members.result) × (c.len-members.result ≤ 1024)
 sized g c =
     let k = c.requires.peeked in
-    let size = unread_sized g.P.Meld.meld false (over g.P.Packed.pack (g.W.Words.name c.args.words.now)) c.args.asked.now c.args.shrinks c.args.peek.now k.0 k.1 c.args.self.now
+    let size = unread_sized g.P.Meld.meld false (over g.P.Packed.pack (g.W.Words.name c.args.words.now)) c.args.asked.now c.args.shrinks c.args.peek k.0 k.1 c.args.self.now
     (g.W.Words.sight c.args.pass.now) c.requires.of k.2 unprepared c.held_comm-x.result.now c.comm_of-comm.result c.held_comm-x.ensures c.comm_of-comm.ensures
     c.deref.result.now c.failures-seen.result.now (members g (goal.at.After-len-members g c).After-deref) c.failures-seen.ensures in
     rw (length_is g c) size
@@ -39,7 +39,7 @@ new-requires g c = let some = (sized g (goal.at.new-requires g c).After-len-memb
 
 pub returns-then-marks-seen-clause-turns : goal.returns-then-marks-seen-clause-turns
 returns-then-marks-seen-clause-turns g c = λ prepared alone old before h.
-    unread_marking g.P.Meld.meld alone (over g.P.Packed.pack (g.W.Words.name c.args.words.now)) c.args.asked.now c.args.shrinks c.args.peek.now old before c.args.self.now
+    unread_marking g.P.Meld.meld alone (over g.P.Packed.pack (g.W.Words.name c.args.words.now)) c.args.asked.now c.args.shrinks c.args.peek old before c.args.self.now
     (g.W.Words.sight c.args.pass.now) c.requires.of h prepared c.held_comm-x.result.now c.comm_of-comm.result c.held_comm-x.ensures c.comm_of-comm.ensures
     c.deref.result.now c.failures-seen.result.now (members g (goal.at.returns-then-marks-seen-clause-turns g c).After-deref) c.failures-seen.ensures
     c.new-marks.result c.new-marks.ensures.at c.new-marks.ensures.first c.number.result c.new-marks.ensures.rank c.number.ensures c.new-marks.ensures.comm
@@ -47,14 +47,14 @@ returns-then-marks-seen-clause-turns g c = λ prepared alone old before h.
 
 pub returns-clause-turns : goal.returns-clause-turns
 returns-clause-turns g c = λ prepared alone old before h.
-    unread_reading g.P.Meld.meld alone (over g.P.Packed.pack (g.W.Words.name c.args.words.now)) c.args.asked.now c.args.shrinks c.args.peek.now old before c.args.self.now
+    unread_reading g.P.Meld.meld alone (over g.P.Packed.pack (g.W.Words.name c.args.words.now)) c.args.asked.now c.args.shrinks c.args.peek old before c.args.self.now
     (g.W.Words.sight c.args.pass.now) c.requires.of h prepared c.held_comm-x.result.now c.comm_of-comm.result c.held_comm-x.ensures c.comm_of-comm.ensures
     c.deref.result.now c.failures-seen.result.now (members g (goal.at.returns-clause-turns g c).After-deref) c.failures-seen.ensures c.new-marks.result
     c.new-marks.ensures.at c.new-marks.ensures.first c.new.result c.len-members.result c.new.ensures
     (length_is g (goal.at.returns-clause-turns g c).After-len-members) (omega (arith, c.if-marks-seen.false))
 
 -- the round's communicator
-there : (g : _) (c : After-deref g) → c.comm_of-comm.result ≡ c.args.peek.now.comm
+there : (g : _) (c : After-deref g) → c.comm_of-comm.result ≡ c.args.peek.comm
 there g c = c.comm_of-comm.ensures ∙ sym c.requires.peeked.2.peeked.there
 
 pub returns-then-marks-seen-clause-knows : goal.returns-then-marks-seen-clause-knows
