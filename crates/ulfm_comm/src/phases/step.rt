@@ -58,7 +58,7 @@ impl<P: Packed, A: Allocator + Copy> LocalState<P, A> {
         }
     }
 
-    // One step of a call, or all of its phase: what comes next.
+    // One step of a call, or all of its phase: what comes next. The first load of the list of failures comes behind what was seen.
     #[inline(always)]
     pub(crate) fn go<W: Words<P, A>>(
         &mut self,
@@ -77,7 +77,6 @@ impl<P: Packed, A: Allocator + Copy> LocalState<P, A> {
     {
         match phase {
             Phase::Over => Next::Ends(Reply::Refused(Refusal::SelfFailed)),
-            // The first load comes behind what was seen.
             Phase::Begun => {
                 self.resume();
                 self.go_looking(words, pass, asked, whole)
