@@ -1,5 +1,5 @@
 //! What one caller has seen of shared words, the atomic steps that it makes from there, and what it tells another.
-ghost use Rattle.std.specs.Prelude.{◌≡◌, ◌%◌, ◌^◌, ◌++◌, ◌∷◌, [], false};
+ghost use Rattle.std.specs.Prelude.{◌≡◌, ◌%◌, ◌^◌, [], false};
 ghost use Rattle.ulfm_model.specs.Blocks.{IsBlock, IsBlockWithin};
 ghost use Rattle.ulfm_model.specs.History.{IsLegal};
 ghost use Rattle.ulfm_model.specs.Words.{word_at};
@@ -18,7 +18,7 @@ use ulfm_laws::meld::Packed;
 use ulfm_model::block::{Beside, Block, Wing};
 use ulfm_model::event::Caller;
 use ulfm_model::place::Place;
-use ulfm_words::{Last, Site, Step, Trail};
+use ulfm_words::{Site, Step, Trail};
 
 /// What one caller has seen of shared words. It has no bytes, and may go to another thread. Contracts see it as a `Sight`.
 #[derive(Drop)]
@@ -58,13 +58,34 @@ impl<P: Packed> Model for BookTold<P> {
     ghost invariant = { λ t. IsLog P.meld t.seen.log };
 }
 
-// The steps so far, and one more.
-#[inline(always)]
-fn stamped(trail: &Trail, at: Site, word: u64, load: bool) -> Trail
-    ensures { result.log.items ≡ trail.now.log.items ++ (record { at = at; word = word; load = load }, load) ∷ [] }
-{
-    let last = Last { at, word, load };
-    trail.and(&last, &load)
+/// A word that callers share, under the one rule.
+pub(crate) type Shared<P> = Word<Line<P>, u64, Law<P>>;
+
+// A pass loads a word for a step at a site, and notes that: the word that it finds.
+macro_rules! load_noted {
+    ($pass:expr, $word:expr, $step:expr, $at:expr, $of:ty, $site:ty) => {{
+        let mut offer: Offer<Line<P>, u64, Law<P>, Nothing> =
+            $pass.seen.plain::<Nothing, $of, Exchange<P, $site>>(&$step);
+        let found = $word.load::<Load<P, $site>, Nothing>(&mut $pass.seen, &mut offer);
+        $pass.trail = $pass.trail.and($at, found, true);
+        found
+    }};
+}
+
+// A pass exchanges a word from 0 for a step, and the word that it finds gets this name.
+macro_rules! exchange {
+    (let $found:ident = $pass:expr, $word:expr, $put:expr, $step:expr, $of:ty, $site:ty) => {
+        let mut offer: Offer<Line<P>, u64, Law<P>, Nothing> =
+            $pass.seen.plain::<Nothing, $of, Exchange<P, $site>>(&$step);
+        let mut pen = $pass.seen.no_pen();
+        let $found = $word.compare_exchange::<Exchange<P, $site>, Nothing>(
+            0,
+            $put,
+            &mut $pass.seen,
+            &mut offer,
+            &mut pen,
+        );
+    };
 }
 
 impl<P: Packed> BookPass<P> {
@@ -80,7 +101,7 @@ impl<P: Packed> BookPass<P> {
     }
 
     // The word of this place is loaded.
-    pub(crate) fn load(&mut self, word: &Word<Line<P>, u64, Law<P>>, place: Place) -> u64
+    pub(crate) fn load(&mut self, word: &Shared<P>, place: Place) -> u64
         requires of { IsView P.meld (view_of P.pack self.old.name self.old) }
         requires within { IsWithin self.old.name.limits place }
         requires word { word.now ≡ word_named (book_of self.old.name) (place_offset self.old.name.limits place) }
@@ -93,20 +114,11 @@ impl<P: Packed> BookPass<P> {
             half: 0,
             by: Caller::Outside,
         };
-        let mut offer: Offer<Line<P>, u64, Law<P>, Nothing> = self
-            .seen
-            .plain::<Nothing, Step, Exchange<P, Place>>(&nothing);
-        let found = word.load::<Load<P, Place>, Nothing>(&mut self.seen, &mut offer);
-        self.trail = stamped(&self.trail, Site::Place(place), found, true);
-        found
+        load_noted!(self, word, nothing, Site::Place(place), Step, Place)
     }
 
     // The word of the step's place is set, if it is 0.
-    pub(crate) fn set_once(
-        &mut self,
-        word: &Word<Line<P>, u64, Law<P>>,
-        step: Step,
-    ) -> Result<(), u64>
+    pub(crate) fn set_once(&mut self, word: &Shared<P>, step: Step) -> Result<(), u64>
         requires of { IsView P.meld (view_of P.pack self.old.name self.old) }
         requires within { IsWithin self.old.name.limits step.place }
         requires word { word.now ≡ word_named (book_of self.old.name) (place_offset self.old.name.limits step.place) }
@@ -114,44 +126,24 @@ impl<P: Packed> BookPass<P> {
         requires winged { IsWingedIn (coding P.pack P.unpack) (view_of P.pack self.old.name self.old) step }
         ensures { Sets P.meld (coding P.pack P.unpack) false step (view_of P.pack self.old.name self.old) result (view_of P.pack self.old.name self.new) }
     {
-        let mut offer: Offer<Line<P>, u64, Law<P>, Nothing> = self
-            .seen
-            .plain::<Nothing, Step, Exchange<P, Place>>(&step);
-        let mut pen = self.seen.no_pen();
-        let found = word.compare_exchange::<Exchange<P, Place>, Nothing>(
-            0,
-            step.word,
-            &mut self.seen,
-            &mut offer,
-            &mut pen,
-        );
-        self.trail = stamped(&self.trail, Site::Place(step.place), found, false);
+        exchange!(let found = self, word, step.word, step, Step, Place);
+        self.trail = self.trail.and(Site::Place(step.place), found, false);
         if found == 0 { Ok(()) } else { Err(found) }
     }
 
     // The word of this block is loaded.
-    pub(crate) fn load_block(&mut self, word: &Word<Line<P>, u64, Law<P>>, block: Block) -> u64
+    pub(crate) fn load_block(&mut self, word: &Shared<P>, block: Block) -> u64
         requires of { IsView P.meld (view_of P.pack self.old.name self.old) }
         requires within { IsBlockWithin self.old.name.limits block }
         requires word { word.now ≡ word_named (book_of self.old.name) (block_offset self.old.name.limits block) }
         ensures { LoadsBlock P.meld P.pack false block result (view_of P.pack self.old.name self.old) (view_of P.pack self.old.name self.new) }
     {
         let beside = Beside::Block(block);
-        let mut offer: Offer<Line<P>, u64, Law<P>, Nothing> = self
-            .seen
-            .plain::<Nothing, Beside, Exchange<P, Block>>(&beside);
-        let found = word.load::<Load<P, Block>, Nothing>(&mut self.seen, &mut offer);
-        self.trail = stamped(&self.trail, Site::Block(block), found, true);
-        found
+        load_noted!(self, word, beside, Site::Block(block), Beside, Block)
     }
 
     // The word of this block is set, if it is 0.
-    pub(crate) fn cache(
-        &mut self,
-        word: &Word<Line<P>, u64, Law<P>>,
-        block: Block,
-        said: u64,
-    ) -> Result<(), u64>
+    pub(crate) fn cache(&mut self, word: &Shared<P>, block: Block, said: u64) -> Result<(), u64>
         requires of { IsView P.meld (view_of P.pack self.old.name self.old) }
         requires within { IsBlockWithin self.old.name.limits block }
         requires word { word.now ≡ word_named (book_of self.old.name) (block_offset self.old.name.limits block) }
@@ -160,23 +152,13 @@ impl<P: Packed> BookPass<P> {
         ensures { Caches P.meld false block said (view_of P.pack self.old.name self.old) result (view_of P.pack self.old.name self.new) }
     {
         let beside = Beside::Block(block);
-        let mut offer: Offer<Line<P>, u64, Law<P>, Nothing> = self
-            .seen
-            .plain::<Nothing, Beside, Exchange<P, Block>>(&beside);
-        let mut pen = self.seen.no_pen();
-        let stood = word.compare_exchange::<Exchange<P, Block>, Nothing>(
-            0,
-            said,
-            &mut self.seen,
-            &mut offer,
-            &mut pen,
-        );
-        self.trail = stamped(&self.trail, Site::Block(block), stood, false);
+        exchange!(let stood = self, word, said, beside, Beside, Block);
+        self.trail = self.trail.and(Site::Block(block), stood, false);
         if stood == 0 { Ok(()) } else { Err(stood) }
     }
 
     // This wing is loaded.
-    pub(crate) fn load_wing(&mut self, word: &Word<Line<P>, u64, Law<P>>, wing: Wing) -> u64
+    pub(crate) fn load_wing(&mut self, word: &Shared<P>, wing: Wing) -> u64
         requires of { IsView P.meld (view_of P.pack self.old.name self.old) }
         requires within { IsWingWithin self.old.name.limits wing }
         requires word { word.now ≡ word_named (book_of self.old.name) (wing_offset self.old.name.limits wing) }
@@ -184,21 +166,11 @@ impl<P: Packed> BookPass<P> {
         ensures { LoadsWing P.meld P.pack false wing result (view_of P.pack self.old.name self.old) (view_of P.pack self.old.name self.new) }
     {
         let beside = Beside::Wing { wing, word: 0 };
-        let mut offer: Offer<Line<P>, u64, Law<P>, Nothing> = self
-            .seen
-            .plain::<Nothing, Beside, Exchange<P, Wing>>(&beside);
-        let found = word.load::<Load<P, Wing>, Nothing>(&mut self.seen, &mut offer);
-        self.trail = stamped(&self.trail, Site::Wing(wing), found, true);
-        found
+        load_noted!(self, word, beside, Site::Wing(wing), Beside, Wing)
     }
 
     // This wing is set, if it is 0.
-    pub(crate) fn set_wing(
-        &mut self,
-        word: &Word<Line<P>, u64, Law<P>>,
-        wing: Wing,
-        upper: u64,
-    ) -> Result<(), u64>
+    pub(crate) fn set_wing(&mut self, word: &Shared<P>, wing: Wing, upper: u64) -> Result<(), u64>
         requires of { IsView P.meld (view_of P.pack self.old.name self.old) }
         requires within { IsWingWithin self.old.name.limits wing }
         requires word { word.now ≡ word_named (book_of self.old.name) (wing_offset self.old.name.limits wing) }
@@ -206,19 +178,9 @@ impl<P: Packed> BookPass<P> {
         ensures { SetsWing P.meld false wing upper (view_of P.pack self.old.name self.old) result (view_of P.pack self.old.name self.new) }
     {
         let beside = Beside::Wing { wing, word: upper };
-        let mut offer: Offer<Line<P>, u64, Law<P>, Nothing> = self
-            .seen
-            .plain::<Nothing, Beside, Exchange<P, Wing>>(&beside);
-        let mut pen = self.seen.no_pen();
-        let before = word.compare_exchange::<Exchange<P, Wing>, Nothing>(
-            0,
-            upper,
-            &mut self.seen,
-            &mut offer,
-            &mut pen,
-        );
+        exchange!(let before = self, word, upper, beside, Beside, Wing);
         let stands = if before == 0 { upper } else { before };
-        self.trail = stamped(&self.trail, Site::Wing(wing), stands, false);
+        self.trail = self.trail.and(Site::Wing(wing), stands, false);
         if before == 0 { Ok(()) } else { Err(before) }
     }
 

@@ -7,7 +7,7 @@ ghost use Rattle.ulfm_book.specs.Rules.{IsFault, book_of, word_named};
 ghost use Rattle.ulfm_book.specs.Layout.{block_offset, row_length, place_offset, wing_offset};
 
 use crate::line::Line;
-use crate::pass::{BookPass, BookTold};
+use crate::pass::{BookPass, BookTold, Shared};
 use crate::rule::{Law, Opens};
 use crate::seats::{Starts, block_in_row, place_in_row, starts_in, wing_in_row};
 use logbook::{Seen, Start, Word};
@@ -25,7 +25,7 @@ use ulfm_words::{OpenWords, Step, Words};
 pub struct BookWords<P: Packed, A: Allocator = Global> {
     // One for each place, in the order of `place_in_row`, and then one for each block, in that of `block_in_row`. The wing of a
     // slot or of a block stands right behind its word.
-    words: Vec<Word<Line<P>, u64, Law<P>>, A>,
+    words: Vec<Shared<P>, A>,
     limits: Limits,
     starts: Starts,
     // The log as it was opened, from which new passes go on.
@@ -92,7 +92,7 @@ impl<P: Packed, A: Allocator> BookWords<P, A> {
     }
 
     // The word of a place.
-    fn word(&self, place: Place) -> &Word<Line<P>, u64, Law<P>>
+    fn word(&self, place: Place) -> &Shared<P>
         requires { IsWithin self.now.limits place }
         ensures { result.now ≡ word_named (book_of self.now) (place_offset self.now.limits place) }
     {
@@ -100,7 +100,7 @@ impl<P: Packed, A: Allocator> BookWords<P, A> {
     }
 
     // The word of a block.
-    fn block_word(&self, block: Block) -> &Word<Line<P>, u64, Law<P>>
+    fn block_word(&self, block: Block) -> &Shared<P>
         requires { IsBlockWithin self.now.limits block }
         ensures { result.now ≡ word_named (book_of self.now) (block_offset self.now.limits block) }
     {
@@ -108,7 +108,7 @@ impl<P: Packed, A: Allocator> BookWords<P, A> {
     }
 
     // The word of a wing.
-    fn wing_word(&self, wing: Wing) -> &Word<Line<P>, u64, Law<P>>
+    fn wing_word(&self, wing: Wing) -> &Shared<P>
         requires { IsWingWithin self.now.limits wing }
         ensures { result.now ≡ word_named (book_of self.now) (wing_offset self.now.limits wing) }
     {

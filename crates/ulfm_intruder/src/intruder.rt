@@ -19,7 +19,7 @@ use ulfm_model::place::Place;
 use ulfm_steps::group::first_ranks;
 use ulfm_steps::{Append, Item};
 use ulfm_words::{
-    Last, OpenWords, PlainPass, PlainTold, PlainWords, Site, Step, Trail, Words, set_arrival,
+    OpenWords, PlainPass, PlainTold, PlainWords, Site, Step, Trail, Words, set_arrival,
     set_revocation, set_slot, slot_wing,
 };
 
@@ -65,7 +65,7 @@ impl<P: Packed, A: Allocator> IntruderPass<P, A> {
         ensures plain { self.new.plain ≡ self.old.plain }
         ensures log { self.new.trail.log.items ≡ self.old.trail.log.items ++ (record { at = at; word = word; load = load }, load) ∷ [] }
     {
-        self.trail = self.trail.and(&Last { at, word, load }, &load);
+        self.trail = self.trail.and(at, word, load);
     }
 
     // An exchange of the pass's own, behind which this word is noted, or the one that stood there.

@@ -164,14 +164,15 @@ impl Trail {
         }
     }
 
-    /// One step more.
+    /// One step more: where it was made, the word that is noted behind it, and whether it was a load.
     #[inline(always)]
-    pub fn and(&self, last: &Last, load: &bool) -> Trail
-        ensures { result.log.items ≡ self.now.log.items ++ (last.now, load.now) ∷ [] }
+    pub fn and(&self, at: Site, word: u64, load: bool) -> Trail
+        ensures { result.log.items ≡ self.now.log.items ++ (record { at = at; word = word; load = load }, load) ∷ [] }
     {
+        let last = Last { at, word, load };
         Trail {
             count: self.count.wrapping_add(1),
-            log: self.log.and(last, load),
+            log: self.log.and(&last, &load),
         }
     }
 
@@ -283,9 +284,7 @@ impl<P: Packed, A: Allocator + Copy> PlainPass<P, A> {
         ensures word { result ≡ word_at P.pack (seen_in (view_of P.pack self.old.name self.new)) place }
     {
         let word = self.row.get(place);
-        let load = true;
-        let at = Site::Place(place);
-        self.trail = self.trail.and(&Last { at, word, load }, &load);
+        self.trail = self.trail.and(Site::Place(place), word, true);
         word
     }
 
@@ -299,9 +298,7 @@ impl<P: Packed, A: Allocator + Copy> PlainPass<P, A> {
     {
         let place = step.place;
         let word = self.row.set_once(place, step.word);
-        let load = false;
-        let at = Site::Place(place);
-        self.trail = self.trail.and(&Last { at, word, load }, &load);
+        self.trail = self.trail.and(Site::Place(place), word, false);
         if word != 0 {
             return Err(word);
         }
@@ -322,16 +319,7 @@ impl<P: Packed, A: Allocator + Copy> PlainPass<P, A> {
         ensures { LoadsBlock P.meld P.pack true block result (view_of P.pack self.old.name self.old) (view_of P.pack self.old.name self.new) }
     {
         let stood = self.sides.block(block);
-        let at = Site::Block(block);
-        let load = true;
-        self.trail = self.trail.and(
-            &Last {
-                at,
-                word: stood,
-                load,
-            },
-            &load,
-        );
+        self.trail = self.trail.and(Site::Block(block), stood, true);
         stood
     }
 
@@ -345,14 +333,7 @@ impl<P: Packed, A: Allocator + Copy> PlainPass<P, A> {
         ensures { Caches P.meld true block word (view_of P.pack self.old.name self.old) result (view_of P.pack self.old.name self.new) }
     {
         let stood = self.sides.block(block);
-        let at = Site::Block(block);
-        let load = false;
-        let last = Last {
-            at,
-            word: stood,
-            load,
-        };
-        self.trail = self.trail.and(&last, &load);
+        self.trail = self.trail.and(Site::Block(block), stood, false);
         if stood != 0 {
             return Err(stood);
         }
@@ -369,9 +350,7 @@ impl<P: Packed, A: Allocator + Copy> PlainPass<P, A> {
         ensures { LoadsWing P.meld P.pack true wing result (view_of P.pack self.old.name self.old) (view_of P.pack self.old.name self.new) }
     {
         let word = self.sides.wing(wing);
-        let at = Site::Wing(wing);
-        let load = true;
-        self.trail = self.trail.and(&Last { at, word, load }, &load);
+        self.trail = self.trail.and(Site::Wing(wing), word, true);
         word
     }
 
@@ -385,13 +364,7 @@ impl<P: Packed, A: Allocator + Copy> PlainPass<P, A> {
     {
         let before = self.sides.wing(wing);
         let stands = if before == 0 { word } else { before };
-        let load = false;
-        let last = Last {
-            at: Site::Wing(wing),
-            word: stands,
-            load,
-        };
-        self.trail = self.trail.and(&last, &load);
+        self.trail = self.trail.and(Site::Wing(wing), stands, false);
         if before != 0 {
             return Err(before);
         }

@@ -20,12 +20,12 @@ pub returns-then-stood-eq0 : goal.returns-then-stood-eq0
 returns-then-stood-eq0 g c =
     let seen = c.self.inside.seen in
     let now = c.compare_exchange-stood.new.seen in
-    cache_tells g.P.Meld.meld g.P.Packed.pack seen.book now.book seen.log now.log c.self.inside.trail.log.items c.stamped-self-inside.result.log.items c.args.block c.args.word.now.key c.args.said c.compare_exchange-stood.result (Ok tt) c.args.self.now
-    c.self.view_is c.if-stood-eq0.true (λ added. added.won c.if-stood-eq0.true) c.requires.of c.requires.within (ap (λ w. w.key) c.requires.word) c.compare_exchange-stood.ensures.0 c.compare_exchange-stood.ensures.7 c.stamped-self-inside.ensures
+    cache_tells g.P.Meld.meld g.P.Packed.pack seen.book now.book seen.log now.log c.self.inside.trail.log.items c.and-self-inside.result.log.items c.args.block c.args.word.now.key c.args.said c.compare_exchange-stood.result (Ok tt) c.args.self.now
+    c.self.view_is c.if-stood-eq0.true (λ added. added.won c.if-stood-eq0.true) c.requires.of c.requires.within (ap (λ w. w.key) c.requires.word) c.compare_exchange-stood.ensures.0 c.compare_exchange-stood.ensures.7 c.and-self-inside.ensures
 
 pub returns : goal.returns
 returns g c =
     let seen = c.self.inside.seen in
     let now = c.compare_exchange-stood.new.seen in
-    cache_tells g.P.Meld.meld g.P.Packed.pack seen.book now.book seen.log now.log c.self.inside.trail.log.items c.stamped-self-inside.result.log.items c.args.block c.args.word.now.key c.args.said c.compare_exchange-stood.result (Err c.compare_exchange-stood.result) c.args.self.now
-    c.self.view_is refl (λ added. added.lost c.if-stood-eq0.false) c.requires.of c.requires.within (ap (λ w. w.key) c.requires.word) c.compare_exchange-stood.ensures.0 c.compare_exchange-stood.ensures.7 c.stamped-self-inside.ensures
+    cache_tells g.P.Meld.meld g.P.Packed.pack seen.book now.book seen.log now.log c.self.inside.trail.log.items c.and-self-inside.result.log.items c.args.block c.args.word.now.key c.args.said c.compare_exchange-stood.result (Err c.compare_exchange-stood.result) c.args.self.now
+    c.self.view_is refl (λ added. added.lost c.if-stood-eq0.false) c.requires.of c.requires.within (ap (λ w. w.key) c.requires.word) c.compare_exchange-stood.ensures.0 c.compare_exchange-stood.ensures.7 c.and-self-inside.ensures

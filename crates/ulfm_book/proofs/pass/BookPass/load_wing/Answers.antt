@@ -8,8 +8,8 @@ pub returns : goal.returns
 returns g c =
     let seen = c.self.inside.seen in
     let now = c.load-found.new.seen in
-    load_wing_tells g.P.Meld.meld g.P.Packed.pack seen.book now.book seen.log now.log c.self.inside.trail.log.items c.stamped-self-inside.result.log.items c.args.wing c.args.word.now.key c.load-found.result c.args.self.now
-    c.self.view_is c.requires.of c.requires.within (ap (λ w. w.key) c.requires.word) c.load-found.ensures.0 c.load-found.ensures.6.1 c.stamped-self-inside.ensures c.requires.stands
+    load_wing_tells g.P.Meld.meld g.P.Packed.pack seen.book now.book seen.log now.log c.self.inside.trail.log.items c.and-self-inside.result.log.items c.args.wing c.args.word.now.key c.load-found.result c.args.self.now
+    c.self.view_is c.requires.of c.requires.within (ap (λ w. w.key) c.requires.word) c.load-found.ensures.0 c.load-found.ensures.6.1 c.and-self-inside.ensures c.requires.stands
 
 pub load-found-requires : goal.load-found-requires
 load-found-requires g c =

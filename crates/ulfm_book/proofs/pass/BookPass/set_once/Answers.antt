@@ -22,12 +22,12 @@ returns-then-found-eq0 g c =
     let now = c.compare_exchange-found.new.seen in
     let may = c.requires.may in
     let ask : c.plain-offer.result.ask ≡ Made may.entry = c.plain-offer.ensures.1 ∙ ap line_of may.is_entry in
-    won_tells g.P.Meld.meld g.P.Packed.pack seen.book now.book seen.log now.log c.self.inside.trail.log.items c.stamped-self-inside.result.log.items g.P.Packed.unpack c.args.step c.args.word.now.key c.compare_exchange-found.result c.plain-offer.result.ask may.entry c.args.self.now
-    c.self.view_is may.is_entry ask c.if-found-eq0.true c.requires.of c.requires.within (ap (λ w. w.key) c.requires.word) c.compare_exchange-found.ensures.0 c.compare_exchange-found.ensures.7 c.stamped-self-inside.ensures
+    won_tells g.P.Meld.meld g.P.Packed.pack seen.book now.book seen.log now.log c.self.inside.trail.log.items c.and-self-inside.result.log.items g.P.Packed.unpack c.args.step c.args.word.now.key c.compare_exchange-found.result c.plain-offer.result.ask may.entry c.args.self.now
+    c.self.view_is may.is_entry ask c.if-found-eq0.true c.requires.of c.requires.within (ap (λ w. w.key) c.requires.word) c.compare_exchange-found.ensures.0 c.compare_exchange-found.ensures.7 c.and-self-inside.ensures
 
 pub returns : goal.returns
 returns g c =
     let seen = c.self.inside.seen in
     let now = c.compare_exchange-found.new.seen in
-    lost_tells g.P.Meld.meld g.P.Packed.pack seen.book now.book seen.log now.log c.self.inside.trail.log.items c.stamped-self-inside.result.log.items g.P.Packed.unpack c.args.step c.args.word.now.key c.compare_exchange-found.result c.plain-offer.result.ask c.args.self.now
-    c.self.view_is c.if-found-eq0.false c.requires.of c.requires.within (ap (λ w. w.key) c.requires.word) c.compare_exchange-found.ensures.0 c.compare_exchange-found.ensures.7 c.stamped-self-inside.ensures
+    lost_tells g.P.Meld.meld g.P.Packed.pack seen.book now.book seen.log now.log c.self.inside.trail.log.items c.and-self-inside.result.log.items g.P.Packed.unpack c.args.step c.args.word.now.key c.compare_exchange-found.result c.plain-offer.result.ask c.args.self.now
+    c.self.view_is c.if-found-eq0.false c.requires.of c.requires.within (ap (λ w. w.key) c.requires.word) c.compare_exchange-found.ensures.0 c.compare_exchange-found.ensures.7 c.and-self-inside.ensures
