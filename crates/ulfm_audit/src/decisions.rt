@@ -9,7 +9,6 @@ use ulfm_laws::FlagAnd;
 use ulfm_lines::print_outcome;
 use ulfm_model::decide::Decided;
 use ulfm_model::event::Event;
-use ulfm_numbers::allowed::{decision, is_decided};
 use ulfm_numbers::numbers::Numbers;
 use ulfm_script::print_number;
 
@@ -42,10 +41,10 @@ fn print_round<A: Allocator + Copy + Drop>(
     ensures { OnOk result (text.new.items ≡ text.old.items ++ round_lines (seen_at numbers.now numbers.now.count) comm round) }
 {
     let point = numbers.count;
-    if !is_decided(numbers, point, comm, round) {
+    if !numbers.is_decided(point, comm, round) {
         return Ok(());
     }
-    let made = decision(alloc, numbers, point, comm, round)?;
+    let made = numbers.decision(alloc, point, comm, round)?;
     print_decided(text, comm, round, &made)
 }
 

@@ -33,96 +33,99 @@ use ulfm_model::refusal::Refusal;
 use ulfm_model::reply::Reply;
 use ulfm_numbers::numbers::Numbers;
 
-/// Whether a rank's call is answered so, at a point.
-fn answers_rank<P: Packed, A: Allocator + Copy + Drop>(
-    alloc: A,
+/// What a reply is judged by: the limits of the world, the tables at a point, the ranks' records, and the call that it is to.
+#[derive(Drop)]
+struct Asked<'a, P: Packed, A: Allocator> {
+    /// The limits of the world.
     limits: Limits,
-    numbers: &Numbers<P, A>,
-    records: &[RankRecord<A>],
-    u: &OpenCall<P, A>,
-    rank: u16,
+    /// The tables of all events so far.
+    numbers: &'a Numbers<P, A>,
+    /// What the ranks keep, before this reply.
+    records: &'a [RankRecord<A>],
+    /// The call.
+    u: &'a OpenCall<P, A>,
+    /// On how many events the reply rests: the first so many.
     point: u64,
-    reply: &Reply<P>,
-) -> Result<bool, AllocError>
-    requires { map (λ own. own.number) records.now ≡ first_ranks limits.ranks }
-    ensures told { AnswersBy limits numbers.now records.now result (λ now. rank_test P.meld P.pack now (under_of u.now) point reply.now (record_in now rank)) }
-    ensures fits { LeavesRound limits records.now (Caller.Rank rank) (under_of u.now) reply.now result }
-{
-    let Some(j) = place_of_rank(limits.ranks, records, rank) else {
-        return Ok(is_refused(reply, Refusal::NoSuchRank));
-    };
-    let own = &records[j];
-    if own.refused {
-        return Ok(is_refused(reply, Refusal::SelfFailed));
-    }
-    let Some(count) = u.look else {
-        return Ok(false);
-    };
-    let look = first_of(&numbers.failures, count);
-    let view = View {
-        limits,
-        caller: own,
-        look,
-        numbers,
-        point,
-        own: &u.own,
-    };
-    is_answer(alloc, &view, &u.asked, reply)
 }
 
-/// Whether a caller's call is answered so, at a point.
-fn answers_call<P: Packed, A: Allocator + Copy + Drop>(
-    alloc: A,
-    limits: Limits,
-    numbers: &Numbers<P, A>,
-    records: &[RankRecord<A>],
-    u: &OpenCall<P, A>,
-    by: Caller,
-    point: u64,
-    reply: &Reply<P>,
-) -> Result<bool, AllocError>
-    requires { map (λ own. own.number) records.now ≡ first_ranks limits.ranks }
-    ensures told { AnswersBy limits numbers.now records.now result (λ now. call_test P.meld P.pack now by (under_of u.now) point reply.now) }
-    ensures fits { LeavesRound limits records.now by (under_of u.now) reply.now result }
-{
-    match by {
-        Caller::Outside => {
-            let rank = rank_of(&u.asked);
-            let declared = numbers.is_declared_at(rank, point);
-            Ok(is_fail_reply(limits, declared, &u.own, rank, reply))
+impl<'a, P: Packed, A: Allocator + Copy + Drop> Asked<'a, P, A> {
+    /// Whether a rank's call is answered so, at a point.
+    fn answers_rank(&self, alloc: A, rank: u16, reply: &Reply<P>) -> Result<bool, AllocError>
+        requires { map (λ own. own.number) self.now.records.now ≡ first_ranks self.now.limits.ranks }
+        ensures told { AnswersBy self.now.limits self.now.numbers.now self.now.records.now result
+            (λ now. rank_test P.meld P.pack now (under_of self.now.u.now) self.now.point reply.now (record_in now rank)) }
+        ensures fits { LeavesRound self.now.limits self.now.records.now (Caller.Rank rank) (under_of self.now.u.now) reply.now result }
+    {
+        let (limits, numbers, records, u) = (self.limits, self.numbers, self.records, self.u);
+        let Some(j) = place_of_rank(limits.ranks, records, rank) else {
+            return Ok(is_refused(reply, Refusal::NoSuchRank));
+        };
+        let own = &records[j];
+        if own.refused {
+            return Ok(is_refused(reply, Refusal::SelfFailed));
         }
-        Caller::Rank(rank) => {
-            answers_rank(alloc, limits, numbers, records, u, rank, point, reply)
-        },
+        let Some(count) = u.look else {
+            return Ok(false);
+        };
+        let look = first_of(&numbers.failures, count);
+        let view = View {
+            limits,
+            caller: own,
+            look,
+            numbers,
+            point: self.point,
+            own: &u.own,
+        };
+        is_answer(alloc, &view, &u.asked, reply)
     }
-}
 
-/// Whether a reply may come to a call.
-fn may_reply<P: Packed, A: Allocator + Copy + Drop>(
-    alloc: A,
-    limits: Limits,
-    numbers: &Numbers<P, A>,
-    records: &[RankRecord<A>],
-    u: &OpenCall<P, A>,
-    by: Caller,
-    point: u64,
-    group: &[u16],
-    reply: &Reply<P>,
-) -> Result<bool, AllocError>
-    requires { map (λ own. own.number) records.now ≡ first_ranks limits.ranks }
-    ensures told { let line = Line.Replied by point (Some reply.now) in
-        AnswersBy limits numbers.now records.now result (λ now. reply_test P.meld P.pack now group.now line (Some (under_of u.now))) }
-    ensures fits { LeavesRound limits records.now by (under_of u.now) reply.now result }
-{
-    if point < u.begun {
-        return Ok(false);
+    /// Whether a caller's call is answered so, at a point.
+    fn answers_call(&self, alloc: A, by: Caller, reply: &Reply<P>) -> Result<bool, AllocError>
+        requires { map (λ own. own.number) self.now.records.now ≡ first_ranks self.now.limits.ranks }
+        ensures told { AnswersBy self.now.limits self.now.numbers.now self.now.records.now result
+            (λ now. call_test P.meld P.pack now by (under_of self.now.u.now) self.now.point reply.now) }
+        ensures fits { LeavesRound self.now.limits self.now.records.now by (under_of self.now.u.now) reply.now result }
+    {
+        match by {
+            Caller::Outside => {
+                let rank = rank_of(&self.u.asked);
+                let declared = self.numbers.is_declared_at(rank, self.point);
+                Ok(is_fail_reply(self.limits, declared, &self.u.own, rank, reply))
+            }
+            Caller::Rank(rank) => self.answers_rank(alloc, rank, reply),
+        }
     }
-    if numbers.count < point {
-        return Ok(false);
+
+    /// Whether a reply may come to a call.
+    fn may_reply(
+        &self,
+        alloc: A,
+        by: Caller,
+        group: &[u16],
+        reply: &Reply<P>,
+    ) -> Result<bool, AllocError>
+        requires { map (λ own. own.number) self.now.records.now ≡ first_ranks self.now.limits.ranks }
+        ensures told { let line = Line.Replied by self.now.point (Some reply.now) in
+            AnswersBy self.now.limits self.now.numbers.now self.now.records.now result
+            (λ now. reply_test P.meld P.pack now group.now line (Some (under_of self.now.u.now))) }
+        ensures fits { LeavesRound self.now.limits self.now.records.now by (under_of self.now.u.now) reply.now result }
+    {
+        if self.point < self.u.begun {
+            return Ok(false);
+        }
+        if self.numbers.count < self.point {
+            return Ok(false);
+        }
+        let answers = self.answers_call(alloc, by, reply)?;
+        let lists = lists(
+            self.numbers,
+            self.point,
+            comm_of(&self.u.asked),
+            reply,
+            group,
+        );
+        Ok(answers && lists)
     }
-    let answers = answers_call(alloc, limits, numbers, records, u, by, point, reply)?;
-    let lists = lists(numbers, point, comm_of(&u.asked), reply, group);
-    Ok(answers && lists)
 }
 
 /// The failures that a rank has seen after a call, where these are declared: those that the call's look found, or those from before where it made none.
@@ -256,7 +259,14 @@ pub(crate) fn take_reply<P: Packed, A: Allocator + Copy + Drop>(
     };
     let u = &calls[i];
     let at = point as u64;
-    if !may_reply(alloc, limits, numbers, records, u, by, at, group, &reply)? {
+    let asked = Asked {
+        limits,
+        numbers,
+        records,
+        u,
+        point: at,
+    };
+    if !asked.may_reply(alloc, by, group, &reply)? {
         return Ok(Some(Why::Reply));
     }
     settle_call(alloc, limits, numbers, records, u, by, at, reply)?;

@@ -23,7 +23,7 @@ use ulfm_model::reads::has_rank;
 use ulfm_model::record::RankRecord;
 use ulfm_model::refusal::Refusal;
 use ulfm_model::reply::Reply;
-use ulfm_numbers::allowed::{decision, has_ids, is_decided, is_made};
+use ulfm_numbers::allowed::has_ids;
 use ulfm_numbers::groups::has_member;
 use ulfm_numbers::numbers::{Numbers, among};
 
@@ -196,7 +196,7 @@ fn is_full<P: Packed, A: Allocator + Copy + Drop>(
     has_ids(&made.body)
         && (!has_rank(&made.failed, view.caller.number)
             && (is_last(view.limits, view.numbers, view.point)
-                && !is_made(view.numbers, view.point, comm, round)))
+                && !view.numbers.is_made(view.point, comm, round)))
 }
 
 /// Whether as many communicators exist as there is room for.
@@ -364,8 +364,8 @@ fn is_round_poll<P: Packed, A: Allocator + Copy + Drop>(
     if let Some(made) = view.numbers.decided_at(x.comm, round, view.point) {
         return Ok(is_round_reply(view, x, round, shrinks, true, made, reply));
     }
-    let decided = is_decided(view.numbers, view.point, x.comm, round);
-    let made = decision(alloc, view.numbers, view.point, x.comm, round)?;
+    let decided = view.numbers.is_decided(view.point, x.comm, round);
+    let made = view.numbers.decision(alloc, view.point, x.comm, round)?;
     Ok(is_round_reply(view, x, round, shrinks, decided, &made, reply))
 }
 
