@@ -146,19 +146,19 @@ module _ (plan : Plan) (name : Over FlagAnd) (same : name.limits ≡ limits_of p
 
     module _ (answer : Result (Polled FlagAnd) Refusal) (last : IsLast flag_meld false name 0 mid then answer new after) where
       last_held : last.own.held ≡ y ∷ []
-      last_held = last.held ∙ opens
+      last_held = last.pended.held ∙ opens
 
       there : held_at last.own 0 ≡ Some y
       there = ap (λ h. find (λ y. y.comm == 0) h) last_held ∙ ap (λ n. cond (n == 0) (Some y) None) comm
 
       number_is : last.own.number ≡ r
-      number_is = last.number ∙ call_number flag_meld limits false at.seen then.seen own asked Started mid (called_run flag_meld false name asked own at Started mid then starts)
+      number_is = last.pended.number ∙ call_number flag_meld limits false at.seen then.seen own asked Started mid (called_run flag_meld false name asked own at Started mid then starts)
 
       last_closed : change_at 0 (λ z. record z { request = None }) last.own.held ≡ record y { request = None } ∷ []
       last_closed = ap (change_at 0 (λ z. record z { request = None })) last_held ∙ ap (λ n. cond (n == 0) (record y { request = None } ∷ []) (y ∷ [])) comm
 
       seen_from : (reply : Reply FlagAnd) → Calls flag_meld false (Poll last.own.number 0) (local last.own (view_at name last.at)) reply (local new (view_at name after)) → IsPrefix then.seen after.seen
-      seen_from reply calls = prefix_trans then.seen last.at.seen after.seen last.begins (goes_on flag_meld false name 0 (Poll last.own.number 0) last.own last.at reply new after last.of calls)
+      seen_from reply calls = prefix_trans then.seen last.at.seen after.seen last.pended.begins (goes_on flag_meld false name 0 (Poll last.own.number 0) last.own last.at reply new after last.of calls)
 
       all_from : (reply : Reply FlagAnd) → Calls flag_meld false (Poll last.own.number 0) (local last.own (view_at name last.at)) reply (local new (view_at name after)) → IsPrefix at.seen after.seen
       all_from reply calls = prefix_trans at.seen then.seen after.seen from_start (seen_from reply calls)

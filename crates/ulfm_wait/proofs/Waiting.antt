@@ -25,15 +25,23 @@ answer_ends (Shrunk j context size) answer = inr (inl (j, context, size, refl))
 answer_ends Done answer = inr (inr refl)
 
 module _ {P : Type 0} (meld : P → P → P) (alone : Bool) (name : Over P) (c : ℕ) where
+  -- what pending polls leave as it was: the rank's number, what it holds, and that its pass goes on from what it had seen
+  pub record HasPended (old : Record) (before : Sight P) (own : Record) (at : Sight P) : Type 0 where
+    pub number : own.number ≡ old.number
+    pub held : own.held ≡ old.held
+    pub begins : IsPrefix before.seen at.seen
+
+  -- no poll has pended yet
+  has_begun : (old : Record) (before : Sight P) → HasPended old before old before
+  has_begun old before = record { number = refl; held = refl; begins = ([], append-nil before.seen) }
+
   -- the last poll, and how it stands before it
   pub record IsLast (old : Record) (before : Sight P) (result : Result (Polled P) Refusal) (new : Record) (after : Sight P) : Type 0 where
     pub own : Record
     pub at : Sight P
     pub of : IsView meld (view_at name at)
     pub fits : Fits meld name.limits at.seen own
-    pub number : own.number ≡ old.number
-    pub held : own.held ≡ old.held
-    pub begins : IsPrefix before.seen at.seen
+    pub pended : HasPended old before own at
     pub answered : IfOk result IsNotPending
     pub poll : PollIs meld alone (Poll own.number c) (local own (view_at name at)) result (local new (view_at name after))
 
@@ -61,9 +69,7 @@ module _ {P : Type 0} (meld : P → P → P) (alone : Bool) (name : Over P) (c :
     at = before;
     of = of;
     fits = fits;
-    number = refl;
-    held = refl;
-    begins = ([], append-nil before.seen);
+    pended = has_begun old before;
     answered = polls.0;
     poll = polls.1;
   }
@@ -75,9 +81,11 @@ module _ {P : Type 0} (meld : P → P → P) (alone : Bool) (name : Over P) (c :
         at = last.at;
         of = last.of;
         fits = last.fits;
-        number = last.number ∙ call_number meld name.limits alone before.seen then.seen old (Poll old.number c) Pending mid call;
-        held = last.held ∙ pending_holds meld name.limits alone before.seen then.seen old mid c call;
-        begins = prefix_trans before.seen then.seen last.at.seen (goes_on (Poll old.number c) old before Pending mid then of called) last.begins;
+        pended = record {
+          number = last.pended.number ∙ call_number meld name.limits alone before.seen then.seen old (Poll old.number c) Pending mid call;
+          held = last.pended.held ∙ pending_holds meld name.limits alone before.seen then.seen old mid c call;
+          begins = prefix_trans before.seen then.seen last.at.seen (goes_on (Poll old.number c) old before Pending mid then of called) last.pended.begins;
+        };
         answered = last.answered;
         poll = last.poll;
       }
@@ -111,14 +119,14 @@ module _ {P : Type 0} (meld : P → P → P) (alone : Bool) (name : Over P) (c :
       let last = last_poll awaited.polls.0 awaited.own awaited.at (Ok reply) new after awaited.starts.linearizes.of awaited.starts.linearizes.fits awaited.polls.1 in
       let polls = called_run meld alone name (Poll last.own.number c) last.own last.at (polled reply) new after last.poll in
       let f : Held → Held = λ y. opened y (Some (OpenAgree y.next_agreement)) in
-      let there = open_last old awaited.own last.own x f (λ y. refl) on.1 opens.0 last.held in
+      let there = open_last old awaited.own last.own x f (λ y. refl) on.1 opens.0 last.pended.held in
       let told = agree_tells meld limits alone last.at.seen after.seen last.own new c x.next_agreement (f x) (polled reply) last.fits there refl (answer_ends reply last.answered) polls in
       let more = last_goes last.own last.at reply new after last.of last.poll in
       record {
         x = x;
         held = on.1;
         decision = told.0;
-        gave = gave_lasts meld limits awaited.at.seen after.seen (prefix_trans awaited.at.seen last.at.seen after.seen last.begins more.0) more.1 c x.next_agreement old.number value opens.1;
+        gave = gave_lasts meld limits awaited.at.seen after.seen (prefix_trans awaited.at.seen last.at.seen after.seen last.pended.begins more.0) more.1 c x.next_agreement old.number value opens.1;
       }
 
   -- what a shrink tells that started and was polled until it was answered
@@ -133,9 +141,9 @@ module _ {P : Type 0} (meld : P → P → P) (alone : Bool) (name : Over P) (c :
       let polls = called_run meld alone name (Poll last.own.number c) last.own last.at (polled reply) new after last.poll in
       let f : Held → Held = λ y. opened y (Some (OpenShrink y.next_agreement)) in
       let opens = shrink_opened meld limits alone before.seen awaited.at.seen old awaited.own c starts in
-      let there = open_last old awaited.own last.own x f (λ y. refl) on.1 opens last.held in
+      let there = open_last old awaited.own last.own x f (λ y. refl) on.1 opens last.pended.held in
       let told = shrink_tells meld limits alone last.at.seen after.seen last.own new c x.next_agreement (f x) (polled reply) last.fits there refl (answer_ends reply last.answered) polls in
-      let number = last.number ∙ call_number meld limits alone before.seen awaited.at.seen old (Shrink old.number c) Started awaited.own starts in
+      let number = last.pended.number ∙ call_number meld limits alone before.seen awaited.at.seen old (Shrink old.number c) Started awaited.own starts in
       record { x = x; held = on.1; made = subst (λ r. IsMadeOf meld limits after.seen c x.next_agreement r (polled reply)) number told.0 }
 
 -- what isn't pending is an answer
