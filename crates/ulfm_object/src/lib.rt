@@ -9,11 +9,9 @@ pub mod object;
 pub mod object_machine;
 mod outcome;
 mod replies;
-pub mod running;
 
 pub use object::Object;
 pub use object_machine::ObjectMachine;
-pub use running::run_over_object;
 pub use ulfm_model::{
     Call, Caller, Contribution, Entry, Event, Limits, MarkCount, Offer, OpenFault, Place, Refusal,
     Reply, Request, Slot, refusal_number,

@@ -7,6 +7,9 @@ use ulfm_model::{Call, Limits, OpenFault, Reply};
 use ulfm_script::Machine;
 
 /// The sequential object: each answer walks the whole history, as the definitions do.
+///
+/// A call script over it, as [`ulfm_script::run_script`] runs one, writes the same bytes as one over words (`run_calls` of `ulfm_run`), the same faults come in the
+/// same places, and what each of them leaves is the same. A script's time grows with the square of its length. It is there to be compared with.
 #[derive(Drop)]
 pub struct ObjectMachine<A: Allocator + Copy + Drop> {
     object: Object<FlagAnd, A>,

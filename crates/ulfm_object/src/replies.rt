@@ -101,29 +101,6 @@ fn have_arrived<P: Copy>(group: &[u16], history: &[Entry<P>], comm: u16, round: 
         .all(|rank| has_arrived(history, comm, round, *rank))
 }
 
-/// The reply of a barrier's poll in this round; its look is at the history before.
-fn barrier_poll<P: Meld, A: Allocator + Copy + Drop>(
-    asked: &Asked<P, A>,
-    after: &[Entry<P>],
-    x: &HeldComm<A>,
-    round: u16,
-) -> Result<Reply<P>, AllocError>
-    ensures { (events : List (Event P)) → let view = view_after asked.now.history.now after.now events in
-        IfOk result (λ reply. reply ≡ barrier_reply view x.now round) }
-{
-    if is_revoked(after, x.comm) {
-        return Ok(Reply::Refused(Refusal::IsRevoked));
-    }
-    if have_arrived(&x.group, after, x.comm, round) {
-        return Ok(Reply::Done);
-    }
-    let failed = failed_among(asked.alloc, &x.group, asked.history)?;
-    if !have_arrived(&failed, after, x.comm, round) {
-        return Ok(Reply::Refused(Refusal::ProcFailed));
-    }
-    Ok(Reply::Pending)
-}
-
 /// The reply of an agree's poll, by the history after its marks.
 fn agree_poll<P: Meld, A: Allocator + Copy + Drop>(
     round: &Round<P, A>,
@@ -156,37 +133,59 @@ fn shrink_poll<P: Meld, A: Allocator + Copy + Drop>(
     shrink_reply(round, rank, &round.decision()?)
 }
 
-/// The reply of the poll of an open request.
-fn open_reply<P: Meld, A: Allocator + Copy + Drop>(
-    asked: &Asked<P, A>,
-    after: &[Entry<P>],
-    x: &HeldComm<A>,
-    request: Request,
-) -> Result<Reply<P>, AllocError>
-    requires { IsFew after.now }
-    ensures { (events : List (Event P)) → let view = view_after asked.now.history.now after.now events in
-        IfOk result (λ reply. reply ≡ poll_reply P.meld asked.now.limits view asked.now.own.now.number x.now (Some request)) }
-{
-    match request {
-        Request::Agree { round } => agree_poll(&asked.round(after, x, round)),
-        Request::Shrink { round } => shrink_poll(&asked.round(after, x, round), asked.own.number),
-        Request::Barrier { round } => barrier_poll(asked, after, x, round),
-    }
+/// The poll of a communicator that the record doesn't refuse, with what it added.
+#[derive(Drop)]
+struct Polling<'a, P: Meld, A: Allocator> {
+    /// The poll, and the history before it.
+    asked: &'a Asked<'a, P, A>,
+    /// The history with what the poll added.
+    after: &'a [Entry<P>],
+    /// What the rank holds of the communicator.
+    x: &'a HeldComm<A>,
 }
 
-/// The reply of a poll.
-fn poll_reply<P: Meld, A: Allocator + Copy + Drop>(
-    asked: &Asked<P, A>,
-    after: &[Entry<P>],
-    x: &HeldComm<A>,
-) -> Result<Reply<P>, AllocError>
-    requires { IsFew after.now }
-    ensures { (events : List (Event P)) → let view = view_after asked.now.history.now after.now events in
-        IfOk result (λ reply. reply ≡ poll_reply P.meld asked.now.limits view asked.now.own.now.number x.now x.now.request) }
-{
-    match x.request {
-        None => Ok(Reply::Pending),
-        Some(request) => open_reply(asked, after, x, request),
+impl<'a, P: Meld, A: Allocator + Copy + Drop> Polling<'a, P, A> {
+    /// The reply for a barrier in this round; its look is at the history before.
+    fn barrier_reply(&self, round: u16) -> Result<Reply<P>, AllocError>
+        ensures { (events : List (Event P)) → let view = view_after self.now.asked.now.history.now self.now.after.now events in
+            IfOk result (λ reply. reply ≡ barrier_reply view self.now.x.now round) }
+    {
+        let after = self.after;
+        let x = self.x;
+        if is_revoked(after, x.comm) {
+            return Ok(Reply::Refused(Refusal::IsRevoked));
+        }
+        if have_arrived(&x.group, after, x.comm, round) {
+            return Ok(Reply::Done);
+        }
+        let failed = failed_among(self.asked.alloc, &x.group, self.asked.history)?;
+        if !have_arrived(&failed, after, x.comm, round) {
+            return Ok(Reply::Refused(Refusal::ProcFailed));
+        }
+        Ok(Reply::Pending)
+    }
+
+    /// The reply, by the request that is open.
+    fn reply(&self) -> Result<Reply<P>, AllocError>
+        requires { IsFew self.now.after.now }
+        ensures { (events : List (Event P)) → let view = view_after self.now.asked.now.history.now self.now.after.now events in
+            IfOk result (λ reply. reply
+            ≡ poll_reply P.meld self.now.asked.now.limits view self.now.asked.now.own.now.number self.now.x.now self.now.x.now.request) }
+    {
+        let x = self.x;
+        let Some(request) = x.request else {
+            return Ok(Reply::Pending);
+        };
+        let asked = self.asked;
+        let after = self.after;
+        match request {
+            Request::Agree { round } => agree_poll(&asked.round(after, x, round)),
+            Request::Shrink { round } => shrink_poll(
+                &asked.round(after, x, round),
+                asked.own.number,
+            ),
+            Request::Barrier { round } => self.barrier_reply(round),
+        }
     }
 }
 
@@ -246,7 +245,7 @@ pub(crate) fn replied<P: Meld, A: Allocator + Copy + Drop>(
             Ok(Reply::Refused(Refusal::Twice))
         }
         Call::Barrier { .. } => Ok(Reply::Started),
-        Call::Poll { .. } => poll_reply(asked, after, x),
+        Call::Poll { .. } => Polling { asked, after, x }.reply(),
         Call::Revoke { comm, .. } if is_revoked(before, comm) => Ok(Reply::AlreadyRevoked),
         Call::Revoke { .. } => Ok(Reply::Revoked),
         Call::IsRevoked { comm, .. } => Ok(Reply::Standing {

@@ -5,9 +5,9 @@ use linked_list_allocator::LocalHeap;
 use std::io::{self, Write};
 use std::test::Fail;
 use ulfm_devices::faults::LINE_FAULTS;
-use ulfm_object::run_over_object;
+use ulfm_object::ObjectMachine;
 use ulfm_run::{WordsMachine, run_calls};
-use ulfm_script::{Input, LineKind, RunFault, run_script_through};
+use ulfm_script::{Input, LineKind, RunFault, run_script, run_script_through};
 
 fn line(number: u32, kind: LineKind) -> Result<(), RunFault> {
     Err(RunFault::Line { number, kind })
@@ -20,7 +20,7 @@ fn run(rt: &HostRuntime, script: &[u8]) -> Result<(Vec<u8>, Result<(), RunFault>
     let end = run_calls(rt.alloc(), &mut reader, &mut out);
     let mut reader = script;
     let mut right = Vec::new(rt.alloc());
-    let also = run_over_object(rt.alloc(), &mut reader, &mut right);
+    let also = run_script::<ObjectMachine<_>, _, _, _>(rt.alloc(), &mut reader, &mut right);
     if out.as_slice() != right.as_slice() || end != also {
         return Err(Fail::from("the object gives something else"));
     }
