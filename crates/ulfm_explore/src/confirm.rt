@@ -4,7 +4,7 @@ ghost use Rattle.ulfm_explore.specs.{Readings.{AreRows}, Shows.{Runs, Shows}, Vi
 
 use crate::reading::read_row;
 use std::alloc::{AllocError, Allocator};
-use ulfm_run::{StepTable, run_step_script};
+use ulfm_run::run_steps;
 use ulfm_schedules::{Program, Row};
 use ulfm_script::RunFault;
 
@@ -31,7 +31,7 @@ fn trace_of<A: Allocator + Copy + Drop>(
 {
     let mut trace = Vec::new(alloc);
     let mut left = script;
-    match run_step_script::<StepTable<A>, A, &[u8], Vec<u8, A>>(alloc, &mut left, &mut trace) {
+    match run_steps(alloc, &mut left, &mut trace) {
         Ok(()) => Ok(Some(trace)),
         // (a vector that is written to fails where memory is refused, and nowhere else)
         Err(RunFault::Memory | RunFault::Write) => Err(AllocError),

@@ -5,7 +5,7 @@ use Rattle.ulfm_model.specs.declared.limits.Limits.{Limits}
 use Rattle.ulfm_script.specs.declared.header_kind.HeaderKind.TheVariants.{Steps, Trace}
 use Rattle.ulfm_script.specs.declared.line_kind.LineKind.{LineKind}
 use Rattle.ulfm_script.specs.declared.line_kind.LineKind.TheVariants.{Open}
-use Rattle.ulfm_script.specs.{Ends.{EndsAlone, EndsThrough, KnownText, RunEnd}, Headers.{header_text, heading_of}, Scripts.{Language}}
+use Rattle.ulfm_script.specs.{Ends.{EndsAlone, KnownText, RunEnd}, Headers.{header_text, heading_of}, Scripts.{Language}}
 use Rattle.ulfm_model.specs.{Follows.{FindsOpen, Runs}, Traces.{Told, nothing}}
 use Rattle.ulfm_lines.specs.{LineTexts.{lines_text}, StepLines.{ScriptStep, step_line_of}, Stepped.{TraceState}}
 
@@ -36,11 +36,6 @@ FindsOpenCall limits lines number kind out =
 abbrev pub step_scripts : Language
 step_scripts =
     record { Item = ScriptStep; heading = heading_of Steps; read = λ version. step_line_of; Prints = PrintsTrace; Finds = FindsOpenCall }
-
--- a run through a buffer that the caller sees: what was to be taken, what the reader has left and what is read ahead; what the writer had
--- and has
-abbrev pub RunsStepsThrough : KnownText → KnownText → List ℕ → KnownText → KnownText → RunEnd → Type 0
-RunsStepsThrough known left ahead old new result = EndsThrough step_scripts known left ahead old new result
 
 -- a run through a buffer of its own, which reads at most 8192 bytes ahead: what the reader had and has left, what the writer had and has
 abbrev pub RunsSteps : KnownText → KnownText → KnownText → KnownText → RunEnd → Type 0

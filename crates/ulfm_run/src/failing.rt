@@ -18,7 +18,7 @@ use ulfm_script::{
     HeaderKind, Heading, Interpreter, LineKind, RunFault, end_of, read_heading, run_text,
 };
 
-/// Runs a script as [`crate::run_step_script`] does, and declares a rank, whole, as the outside does, right after this atomic step of the
+/// Runs a script as [`crate::run_steps`] does, and declares a rank, whole, as the outside does, right after this atomic step of the
 /// script's lines, behind all lines of the trace that it tells; right behind the header for 0, and never where fewer steps are made. A rank
 /// that the world doesn't have is answered so.
 ///

@@ -20,7 +20,7 @@ mod telling;
 pub mod told;
 mod walks;
 
-pub use engine::{run_step_script, run_step_script_through};
+pub use engine::StepLines;
 pub use events::event_at;
 pub use failing::run_failing_script;
 pub use fails::fail_whole;

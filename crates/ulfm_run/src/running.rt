@@ -4,10 +4,10 @@ ghost use Rattle.ulfm_script.specs.{Ends.{EndsAlone, ended}, Runs.{RunsBuffered}
 ghost use Rattle.ulfm_run.specs.{FailingScripts.{RunsFailing, failing_scripts}, StepScripts.{RunsSteps}};
 
 use crate::job::WordsMachine;
-use crate::{Failing, StepTable, run_failing_script, run_step_script};
+use crate::{Failing, StepLines, StepTable, run_failing_script};
 use std::alloc::Allocator;
 use std::io::{Read, Write};
-use ulfm_script::{RunFault, run_script};
+use ulfm_script::{RunFault, end_of, run_script, run_text};
 
 /// Runs the call script that the reader gives over the words of a new world, writes a line for each call, and flushes the writer once.
 ///
@@ -46,7 +46,7 @@ pub fn run_calls<A: Allocator + Copy + Drop, R: Read, W: Write>(
 /// piece of the trace: the lines of calls that begin, looks that end, events, and replies with the number of events that they rest on. Want of
 /// memory is never printed as a reply.
 ///
-/// What is written at `Ok` and at each fault is told at `run_step_script`: as of call scripts, with the fault `Open` besides, where a line
+/// What is written at `Ok` and at each fault is told at [`run_calls`]; there is the fault `Open` besides, where a line
 /// begins a call of a rank that has one under way.
 ///
 /// ```
@@ -63,7 +63,7 @@ pub fn run_steps<A: Allocator + Copy + Drop, R: Read, W: Write>(
 ) -> Result<(), RunFault>
     ensures { RunsSteps (R.remaining reader.old) (R.remaining reader.new) (W.contents writer.old) (W.contents writer.new) result }
 {
-    run_step_script::<StepTable<A>, A, R, W>(alloc, reader, writer)
+    end_of(run_text::<StepLines<StepTable<A>, A>, A, R, W>(alloc, (), reader, writer))
 }
 
 /// Runs a script as [`run_steps`] does, and declares a rank failed, whole, as the outside does, right behind this atomic step of the script's
