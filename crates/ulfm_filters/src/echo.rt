@@ -1,38 +1,25 @@
 //! Scripts of calls, run on anything that answers its calls, with each call's own line before its reply.
 ghost use Rattle.std.specs.Prelude.{◌≡◌, ◌++◌, ℕ, List, OnOk};
-ghost use Rattle.ulfm_filters.specs.Echoes.{HasEchoed, RunsEchoed, echo_scripts, echoed_line};
+ghost use Rattle.ulfm_filters.specs.Echoes.{HasEchoed, echo_scripts, echoed_line};
 ghost use Rattle.ulfm_script.specs.Runs.{PrintsReply};
 ghost use Rattle.ulfm_script.specs.Spelling.{IsSpelled};
 
 use std::alloc::{AllocError, Allocator};
-use std::io::{Read, Write};
 use ulfm_laws::FlagAnd;
 use ulfm_model::Call;
 use ulfm_script::{
-    CallLines, Heading, Interpreter, LineKind, Machine, RunFault, end_of, read_call_heading,
-    read_call_of, run_text,
+    CallLines, Heading, Interpreter, LineKind, Machine, read_call_heading, read_call_of,
 };
 
-/// Runs the script that the reader gives on a new machine, writes a line for each call, and flushes the writer.
-///
-/// The line is the call's own, as the script spells it, then ` -> `, and then what [`ulfm_script::run_script`] prints for it. What is written at `Ok`
-/// and at each fault is told there too: only the calls' own lines come before each reply.
-///
-/// Over `ulfm 1 1 1 2`, `agree 0 0 000000ff`, `poll 0 0` it writes `agree 0 0 000000ff -> started` and
-/// `poll 0 0 -> agreed 000000ff failed 0 clean`.
-pub fn run_echoed<M: Machine<A>, A: Allocator + Copy, R: Read, W: Write>(
-    alloc: A,
-    reader: &mut R,
-    writer: &mut W,
-) -> Result<(), RunFault>
-    ensures { RunsEchoed (R.remaining reader.old) (R.remaining reader.new) (W.contents writer.old) (W.contents writer.new) result }
-{
-    end_of(run_text::<EchoLines<M, A>, A, R, W>(alloc, (), reader, writer))
-}
-
 /// A machine, and the lines of its replies, each behind its call's own.
+///
+/// A script that is run on it ([`ulfm_script::run_text`]) writes a line for each call: the call's own, as the script spells it, then ` -> `, and then what
+/// [`ulfm_script::run_script`] prints for it. What is written at `Ok` and at each fault is told there too: only the calls' own lines come before each reply.
+///
+/// Over `ulfm 1 1 1 2`, `agree 0 0 000000ff`, `poll 0 0` these are `agree 0 0 000000ff -> started` and
+/// `poll 0 0 -> agreed 000000ff failed 0 clean`.
 #[derive(Drop)]
-struct EchoLines<M, A: Allocator> {
+pub struct EchoLines<M, A: Allocator> {
     calls: CallLines<M, A>,
 }
 

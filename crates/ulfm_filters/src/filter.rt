@@ -4,11 +4,11 @@ ghost use Rattle.ulfm_filters.specs.Notes.{TellsEnd, TellsVerdict};
 ghost use Rattle.ulfm_filters.specs.Statuses.{CheckedTelling, CheckedWith, Filtered, FilteredTelling, PrintsVerdict, status_of, verdict_status};
 
 use crate::telling::{print_text, tell_fault};
-use crate::{migrate, run_echoed};
+use crate::{EchoLines, migrate};
 use std::alloc::Allocator;
 use std::io::{Read, Write};
 use ulfm_run::{WordsMachine, run_calls, run_steps};
-use ulfm_script::RunFault;
+use ulfm_script::{RunFault, end_of, run_text};
 use ulfm_trace::{CheckFault, Verdict, check, verdict_line};
 
 /// What is done from an input to an output.
@@ -46,7 +46,7 @@ pub fn run_filter<A: Allocator + Copy + Drop, R: Read, W: Write, E: Write>(
     match filter {
         Filter::Calls => tell_end(run_calls(alloc, input, output), errors),
         Filter::Echoed => tell_end(
-            run_echoed::<WordsMachine<A>, A, R, W>(alloc, input, output),
+            end_of(run_text::<EchoLines<WordsMachine<A>, A>, A, R, W>(alloc, (), input, output)),
             errors,
         ),
         Filter::Steps => tell_end(run_steps(alloc, input, output), errors),

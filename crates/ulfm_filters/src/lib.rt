@@ -13,7 +13,7 @@ pub mod telling;
 pub mod written_laws;
 
 pub use command_line::{Unread, answer_args, tell_bad_line, tell_unread};
-pub use echo::run_echoed;
+pub use echo::EchoLines;
 pub use echo_laws::echoes_are_taken_away;
 pub use filter::{Filter, run_filter};
 pub use migration::{migrate, migrated};
