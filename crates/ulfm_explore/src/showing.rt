@@ -5,7 +5,7 @@ ghost use Rattle.ulfm_explore.specs.{Shows.{IsOutcome, IsShown, Shows, Tells}, V
 
 use crate::confirm::{Shown, are_same, show};
 use crate::telling::{Outcomes, is_first_answer};
-use std::alloc::{AllocError, AllocFailed, Allocator};
+use std::alloc::{AllocError, Allocator};
 use thiserror::Error;
 use ulfm_schedules::{Program, Searched, search};
 
@@ -34,12 +34,6 @@ pub enum ExploreFault {
 
 impl From<AllocError> for ExploreFault {
     fn from(_error: AllocError) -> ExploreFault {
-        ExploreFault::Memory
-    }
-}
-
-impl<T: Drop> From<AllocFailed<T>> for ExploreFault {
-    fn from(_error: AllocFailed<T>) -> ExploreFault {
         ExploreFault::Memory
     }
 }
@@ -108,7 +102,9 @@ fn confirm_all<A: Allocator + Copy + Drop>(
     let mut shown = Vec::new(alloc);
     for number in 0..searched.count() {
         let one = confirmed_behind(alloc, program, searched, number, &shown)?;
-        shown.push(one)?;
+        let Ok(()) = shown.push(one) else {
+            return Err(ExploreFault::Memory);
+        };
     }
     Ok(shown)
 }

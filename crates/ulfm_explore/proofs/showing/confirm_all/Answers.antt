@@ -10,4 +10,4 @@ loop-number-preserved g c =
     c.in_ok-one.one
     c.loop-number.invariant
     (c.in_ok-one.one.trace.items, c.in_ok-one.one.callers.items, c.in_ok-one.ensures)
-    c.in_ok-push.ensures.items
+    c.in-Ok.ensures.items
