@@ -132,20 +132,12 @@ fn event_reason<A: Allocator + Copy + Drop>(
     event: &Event<FlagAnd>,
 ) -> Result<&'static [u8], AllocError> {
     match *event {
-        Event::Fail { rank } => {
-            if rank >= scene.limits.ranks {
-                Ok(b"the world has no such rank")
-            } else {
-                Ok(b"the rank is declared already")
-            }
+        Event::Fail { rank } if rank >= scene.limits.ranks => Ok(b"the world has no such rank"),
+        Event::Fail { .. } => Ok(b"the rank is declared already"),
+        Event::Revoke { comm } if is_revoked(&scene.history, comm) => {
+            Ok(b"the communicator is revoked already")
         }
-        Event::Revoke { comm } => {
-            if is_revoked(&scene.history, comm) {
-                Ok(b"the communicator is revoked already")
-            } else {
-                Ok(b"there is no such communicator")
-            }
-        }
+        Event::Revoke { .. } => Ok(b"there is no such communicator"),
         Event::Spawn { .. } => Ok(
             b"it makes no communicator that can be made: of the next number, of a round that decided on ids, and once",
         ),
@@ -154,31 +146,37 @@ fn event_reason<A: Allocator + Copy + Drop>(
             round,
             rank,
             ..
+        } => {
+            let many = b"it knows more failures than the communicator has";
+            settled_reason(alloc, scene, (comm, round, rank), many)
         }
-        | Event::Mark {
+        Event::Mark {
             comm,
             round,
             rank,
             ..
-        } => { settled_reason(alloc, scene, event, comm, round, rank) }
+        } => {
+            let declared = failed(alloc, scene.limits.ranks, &scene.history, comm)?;
+            let unlike = mark_reason(has_rank(&declared, rank));
+            settled_reason(alloc, scene, (comm, round, rank), unlike)
+        }
         Event::Arrive { comm, round, rank } => {
             if has_arrived(&scene.history, comm, round, rank) {
                 Ok(b"the rank has arrived already")
             } else {
-                place_reason(alloc, scene, comm, round, rank)
+                place_reason(alloc, scene, (comm, round, rank))
             }
         }
     }
 }
 
-/// Why there is no place of a rank in a round.
+/// Why there is no such place of a communicator, a round and a rank.
 fn place_reason<A: Allocator + Copy + Drop>(
     alloc: A,
     scene: &Scene<A>,
-    comm: u16,
-    round: u16,
-    rank: u16,
+    place: (u16, u16, u16),
 ) -> Result<&'static [u8], AllocError> {
+    let (comm, round, rank) = place;
     if usize::from(comm) > count_made(&scene.history) {
         return Ok(b"there is no such communicator");
     }
@@ -192,33 +190,31 @@ fn place_reason<A: Allocator + Copy + Drop>(
     Ok(b"the rank is no member of the communicator")
 }
 
-/// Why a rank may not be settled so.
+/// Why a mark's count isn't that of its rank, by whether the rank is declared.
+fn mark_reason(declared: bool) -> &'static [u8] {
+    if declared {
+        b"known must be the place of the rank among the communicator's failures"
+    } else {
+        b"the rank isn't declared"
+    }
+}
+
+/// Why a rank may not be settled so: for its counts, as is told, where it may be settled.
 fn settled_reason<A: Allocator + Copy + Drop>(
     alloc: A,
     scene: &Scene<A>,
-    event: &Event<FlagAnd>,
-    comm: u16,
-    round: u16,
-    rank: u16,
+    place: (u16, u16, u16),
+    counts: &'static [u8],
 ) -> Result<&'static [u8], AllocError> {
+    let (comm, round, rank) = place;
     if slot(&scene.history, comm, round, rank).is_some() {
         return Ok(b"the rank is settled in this round already");
     }
-    let declared = failed(alloc, scene.limits.ranks, &scene.history, comm)?;
-    let is_place = place_reason(alloc, scene, comm, round, rank)?;
+    let is_place = place_reason(alloc, scene, place)?;
     if is_place != b"its counts are others".as_slice() {
         return Ok(is_place);
     }
-    match *event {
-        Event::Mark { .. } => {
-            if has_rank(&declared, rank) {
-                Ok(b"known must be the place of the rank among the communicator's failures")
-            } else {
-                Ok(b"the rank isn't declared")
-            }
-        }
-        _ => Ok(b"it knows more failures than the communicator has"),
-    }
+    Ok(counts)
 }
 
 /// Whether two replies list a group of the same thing.
