@@ -11,7 +11,7 @@ use ulfm_laws::meld::Packed;
 use ulfm_model::event::Caller;
 use ulfm_model::limits::Limits;
 use ulfm_steps::{Arrivals, Missing};
-use ulfm_words::{OpenWords, Words, set_arrival};
+use ulfm_words::{Words, set_arrival};
 
 const FOUR: Limits = Limits {
     ranks: 4,

@@ -15,7 +15,7 @@ use ulfm_laws::summary::{Acked, Body, Known, Summary};
 use ulfm_model::block::{Block, Side};
 use ulfm_model::limits::Limits;
 use ulfm_steps::{Found, Peek, ReadBlocks, RoundBlocks};
-use ulfm_words::{OpenWords, Words};
+use ulfm_words::Words;
 
 const FOUR: Limits = Limits {
     ranks: 4,

@@ -1,13 +1,14 @@
 // Words of the tests' own: plain words whose pass counts the loads and exchanges that are made, those of blocks and of wings apart.
-ghost use Rattle.std.specs.Prelude.{◌≡◌, [], IfOk, true, false};
+ghost use Rattle.std.specs.Prelude.{◌≡◌, IfOk, true};
 ghost use Rattle.ulfm_words.specs.Pass.{plain_name};
+ghost use Rattle.ulfm_words.specs.Steps.{view_of, IsNew};
 
 use std::alloc::{AllocError, Allocator, Global};
 use ulfm_laws::meld::Packed;
 use ulfm_model::block::{Block, Wing};
 use ulfm_model::limits::{Limits, OpenFault};
 use ulfm_model::place::Place;
-use ulfm_words::{OpenWords, PlainPass, PlainTold, PlainWords, Step, Words};
+use ulfm_words::{PlainPass, PlainWords, Step, Words};
 
 #[derive(Drop)]
 pub(crate) struct Counted<P: Packed> {
@@ -40,6 +41,25 @@ impl<P: Packed> Counted<P> {
     {
         let plain = PlainWords::open(limits)?;
         Ok(Counted { plain })
+    }
+
+    /// A pass that has seen nothing, and counted nothing.
+    pub(crate) fn pass<A: Allocator + Copy>(
+        &self,
+        alloc: A,
+    ) -> Result<CountedPass<P, A>, AllocError>
+        ensures { IfOk result (λ p. IsNew P.meld (view_of P.pack (plain_name self.now.plain.limits) p.plain)) }
+    {
+        let plain = PlainPass::new(alloc, self.plain.limits)?;
+        Ok(CountedPass {
+            plain,
+            loads: 0,
+            exchanges: 0,
+            block_loads: 0,
+            caches: 0,
+            wing_loads: 0,
+            spreads: 0,
+        })
     }
 }
 
@@ -93,33 +113,4 @@ impl<P: Packed, A: Allocator + Copy + Drop> Words<P, A> for Counted<P> {
     fn known_legal(&self, pass: &CountedPass<P, A>) {
         pass.plain.known_legal();
     }
-}
-
-impl<P: Packed, A: Allocator + Copy + Drop> OpenWords<P, A> for Counted<P> {
-    type Told = PlainTold;
-
-    ghost tells_all = { false };
-
-    ghost heard = { λ t. record { name = plain_name t.limits; seen = []; cached = [] } };
-
-    fn pass(&self, alloc: A) -> Result<CountedPass<P, A>, AllocError> {
-        let plain = PlainPass::new(alloc, self.plain.limits)?;
-        Ok(CountedPass {
-            plain,
-            loads: 0,
-            exchanges: 0,
-            block_loads: 0,
-            caches: 0,
-            wing_loads: 0,
-            spreads: 0,
-        })
-    }
-
-    fn told(&self, _pass: &CountedPass<P, A>) -> PlainTold {
-        PlainTold {
-            limits: self.plain.limits,
-        }
-    }
-
-    fn learn(&self, _pass: &mut CountedPass<P, A>, _told: &PlainTold) {}
 }

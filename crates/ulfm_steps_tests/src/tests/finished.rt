@@ -1,9 +1,10 @@
 // The machines, each run to its end at once.
 ghost use Rattle.std.specs.Prelude.{IfOk, ◌≡◌, ◌<◌, ◌≤◌, vec_capacity};
 ghost use Rattle.ulfm_model.specs.History.{first_ranks};
+ghost use Rattle.ulfm_words.specs.Pass.{plain_name};
 ghost use Rattle.ulfm_words.specs.Steps.{view_of, IsView};
 
-use crate::tests::counted::Counted;
+use crate::tests::counted::{Counted, CountedPass};
 use crate::tests::world::{GROUP, THREE, declare, flag};
 use std::alloc::Allocator;
 use std::test::Fail;
@@ -18,16 +19,16 @@ use ulfm_steps::{Appended, Look, MarkAll, Settle};
 use ulfm_words::{OpenWords, PlainWords, Words};
 
 // A rank, which knows of no failure, contributes a flag to the world's first round.
-pub(crate) fn give<P: Packed, A: Allocator, W: Words<P, A>>(
-    words: &W,
-    pass: &mut W::Pass,
+pub(crate) fn give<P: Packed, A: Allocator + Copy + Drop>(
+    words: &Counted<P>,
+    pass: &mut CountedPass<P, A>,
     rank: u16,
     flag: P,
 ) -> bool
-    requires of { IsView P.meld (view_of P.pack (W.name words.now) (W.sight pass.old)) }
-    requires there { rank < (W.name words.now).limits.ranks }
-    requires rounds { 0 < (W.name words.now).limits.rounds }
-    ensures { IsView P.meld (view_of P.pack (W.name words.now) (W.sight pass.new)) }
+    requires of { IsView P.meld (view_of P.pack (plain_name words.now.plain.limits) pass.old.plain) }
+    requires there { rank < words.now.plain.limits.ranks }
+    requires rounds { 0 < words.now.plain.limits.rounds }
+    ensures { IsView P.meld (view_of P.pack (plain_name words.now.plain.limits) pass.new.plain) }
 {
     let given = Contribution {
         offer: Offer::Flag(flag),

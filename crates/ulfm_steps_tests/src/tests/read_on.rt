@@ -14,7 +14,7 @@ use ulfm_laws::meld::Packed;
 use ulfm_model::limits::Limits;
 use ulfm_steps::group::is_member;
 use ulfm_steps::{Look, ReadOn};
-use ulfm_words::{OpenWords, Words};
+use ulfm_words::Words;
 
 const SIX: Limits = Limits {
     ranks: 6,

@@ -14,7 +14,7 @@ use ulfm_laws::meld::Packed;
 use ulfm_laws::summary::Summary;
 use ulfm_model::event::Caller;
 use ulfm_steps::{Append, Appended, Item, Look, MarkAll};
-use ulfm_words::{OpenWords, Words};
+use ulfm_words::Words;
 
 // Declares a rank.
 fn declare<P: Packed, A: Allocator, W: Words<P, A>>(
