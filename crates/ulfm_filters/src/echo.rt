@@ -1,5 +1,5 @@
 //! Scripts of calls, run on anything that answers its calls, with each call's own line before its reply.
-ghost use Rattle.std.specs.Prelude.{◌≡◌, ◌++◌, ℕ, List, OnOk};
+ghost use Rattle.std.specs.Prelude.{◌≡◌, ℕ, List, OnOk};
 ghost use Rattle.ulfm_filters.specs.Echoes.{HasEchoed, echo_scripts, echoed_line};
 ghost use Rattle.ulfm_script.specs.Runs.{PrintsReply};
 ghost use Rattle.ulfm_script.specs.Spelling.{IsSpelled};
@@ -21,6 +21,7 @@ use ulfm_script::{
 #[derive(Drop)]
 pub struct EchoLines<M, A: Allocator> {
     calls: CallLines<M, A>,
+    text: Vec<u8, A>,
 }
 
 impl<M: Machine<A>, A: Allocator> EchoLines<M, A> {
@@ -29,12 +30,13 @@ impl<M: Machine<A>, A: Allocator> EchoLines<M, A> {
         requires { IsSpelled call.now }
         ensures version { self.new.calls.version ≡ self.old.calls.version }
         ensures echoes { OnOk result ((told : List ℕ) × PrintsReply (M.state self.old.calls.machine) call.now (M.state self.new.calls.machine) told
-            × (self.new.calls.text.items ≡ echoed_line line.now told)) }
+            × (self.new.text.items ≡ echoed_line line.now told)) }
     {
-        self.calls.text.clear();
-        self.calls.text.extend_from_slice(line)?;
-        self.calls.text.extend_from_slice(b" -> ")?;
-        self.calls.answer(call)
+        self.calls.answer(call)?;
+        self.text.clear();
+        self.text.extend_from_slice(line)?;
+        self.text.extend_from_slice(b" -> ")?;
+        self.text.extend_from_slice(self.calls.line.text())
     }
 }
 
@@ -45,7 +47,7 @@ impl<M: Machine<A>, A: Allocator + Copy> Interpreter<A> for EchoLines<M, A> {
 
     ghost HasRun = { λ plan it heading calls out. HasEchoed it.calls.version (M.state it.calls.machine) heading calls out };
 
-    ghost text = { λ it. it.calls.text.items };
+    ghost text = { λ it. it.text.items };
 
     fn heading(line: &[u8]) -> Result<Heading, LineKind> {
         read_call_heading(line)
@@ -53,7 +55,10 @@ impl<M: Machine<A>, A: Allocator + Copy> Interpreter<A> for EchoLines<M, A> {
 
     fn open(alloc: A, heading: Heading, _plan: ()) -> Result<Self, AllocError> {
         let calls = CallLines::open(alloc, heading, ())?;
-        Ok(EchoLines { calls })
+        Ok(EchoLines {
+            calls,
+            text: Vec::new(alloc),
+        })
     }
 
     fn run(&mut self, line: &[u8]) -> Result<Result<(), LineKind>, AllocError> {
@@ -67,7 +72,7 @@ impl<M: Machine<A>, A: Allocator + Copy> Interpreter<A> for EchoLines<M, A> {
     }
 
     fn text(&self) -> &[u8] {
-        &self.calls.text
+        &self.text
     }
 
     ghost prints = { λ plan it heading calls out ran. (ran.plain, M.state it.calls.machine, ran.echoes) };

@@ -10,6 +10,7 @@ pub mod Halves
 pub mod Numerals
 pub mod Powers
 pub mod RunLemmas
+pub mod Same
 pub mod ScriptLemmas
 pub mod Short
 pub mod Spelled

@@ -1,5 +1,5 @@
 -- The lines that replies are printed as.
-use Rattle.std.specs.Prelude.{ℕ, Bool, true, false, List, [], ◌∷◌, ◌++◌, codes}
+use Rattle.std.specs.Prelude.{◌≡◌, ℕ, Bool, true, false, List, [], ◌∷◌, ◌++◌, codes}
 use Rattle.std.specs.Fmt.{decimal}
 use Rattle.ulfm_laws.specs.declared.flag_and.FlagAnd.{FlagAnd}
 use Rattle.ulfm_model.specs.declared.reply.Reply.{Reply}
@@ -60,3 +60,13 @@ reply_text group reply.AlreadyRevoked = codes "already-revoked"
 reply_text group (reply.Standing revoked) = standing_text revoked
 reply_text group reply.Freed = codes "freed"
 reply_text group (reply.Refused refusal) = refused_text refusal
+
+-- whether a reply is about a group
+abbrev pub is_of_group : Reply FlagAnd → Bool
+is_of_group (reply.Shrunk comm context size) = true
+is_of_group (reply.FailedGroup count) = true
+is_of_group _ = false
+
+-- it is the line of this reply, whatever the group
+abbrev pub IsLineOf : List ℕ → Reply FlagAnd → Type 0
+IsLineOf line told = (group : List ℕ) → line ≡ reply_text group told ++ 10 ∷ []

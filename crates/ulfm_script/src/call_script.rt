@@ -13,9 +13,9 @@ use crate::header::read_call_heading;
 use crate::heading::Heading;
 use crate::interpreter::Interpreter;
 use crate::last_group::LastGroup;
+use crate::last_line::LastLine;
 use crate::line_kind::LineKind;
 use crate::machine::Machine;
-use crate::printing::print_reply;
 use crate::version::Version;
 use std::alloc::{AllocError, Allocator};
 use std::io::{Read, Write};
@@ -76,21 +76,20 @@ pub struct CallLines<M, A: Allocator> {
     group: Vec<u16, A>,
     last: LastGroup<A>,
     /// What was printed last.
-    pub text: Vec<u8, A>,
+    pub line: LastLine<A>,
 }
 
 impl<M: Machine<A>, A: Allocator> CallLines<M, A> {
-    /// Answers a call by the machine, and puts the line that it prints behind the text.
+    /// Answers a call by the machine, and makes the line that it prints. After an error nothing is said of the line.
+    #[inline(always)]
     pub fn answer(&mut self, call: &Call<FlagAnd>) -> Result<(), AllocError>
         requires { IsSpelled call.now }
         ensures version { self.new.version ≡ self.old.version }
         ensures prints { OnOk result ((told : List ℕ) × PrintsReply (M.state self.old.machine) call.now (M.state self.new.machine) told
-            × (self.new.text.items ≡ self.old.text.items ++ told)) }
+            × (self.new.line.text.items ≡ told)) }
     {
         let reply = self.machine.apply(call, &mut self.group)?;
-        print_reply(&mut self.text, &reply, &self.group, &mut self.last)?;
-        self.text.push(b'\n')?;
-        Ok(())
+        self.line.put(&reply, &self.group, &mut self.last)
     }
 }
 
@@ -101,7 +100,7 @@ impl<M: Machine<A>, A: Allocator + Copy> Interpreter<A> for CallLines<M, A> {
 
     ghost HasRun = { λ plan it heading calls out. HasAnswered it.version (M.state it.machine) heading calls out };
 
-    ghost text = { λ it. it.text.items };
+    ghost text = { λ it. it.line.text.items };
 
     fn heading(line: &[u8]) -> Result<Heading, LineKind> {
         read_call_heading(line)
@@ -115,14 +114,13 @@ impl<M: Machine<A>, A: Allocator + Copy> Interpreter<A> for CallLines<M, A> {
             machine,
             group: Vec::new(alloc),
             last: LastGroup::new(alloc),
-            text,
+            line: LastLine::new(text),
         })
     }
 
     fn run(&mut self, line: &[u8]) -> Result<Result<(), LineKind>, AllocError> {
         match read_call_of(self.version, line) {
             Ok(call) => {
-                self.text.clear();
                 self.answer(&call)?;
                 Ok(Ok(()))
             }
@@ -131,7 +129,7 @@ impl<M: Machine<A>, A: Allocator + Copy> Interpreter<A> for CallLines<M, A> {
     }
 
     fn text(&self) -> &[u8] {
-        &self.text
+        self.line.text()
     }
 
     ghost prints = { λ plan it heading calls out ran. (M.state it.machine, ran.prints) };

@@ -12,6 +12,7 @@ pub mod header_kind;
 pub mod heading;
 pub mod interpreter;
 pub mod last_group;
+mod last_line;
 pub mod laws;
 pub mod line_kind;
 pub mod machine;

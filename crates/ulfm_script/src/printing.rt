@@ -189,33 +189,24 @@ pub fn print_spelled_call<A: Allocator>(
     print_fields(text, call, padded)
 }
 
-/// What stands beside the name of a call, in a list of all names.
-macro_rules! by_call {
-    ($call:expr, $($name:ident => $then:expr,)+) => {
-        match $call {
-            $(Call::$name { .. } => $then,)+
-        }
-    };
-}
-
 /// The verb of a call as scripts write it, and a space, as `agree `.
 pub fn verb(call: &Call<FlagAnd>) -> &'static [u8]
     ensures { result.now ≡ verb_text call.now }
 {
-    by_call!(*call,
-        Fail => b"fail ",
-        GetFailed => b"get ",
-        Ack => b"ack ",
-        FailureAck => b"failure_ack ",
-        FailureGetAcked => b"failure_get_acked ",
-        Agree => b"agree ",
-        Shrink => b"shrink ",
-        Barrier => b"barrier ",
-        Poll => b"poll ",
-        Revoke => b"revoke ",
-        IsRevoked => b"isrevoked ",
-        Free => b"free ",
-    )
+    match *call {
+        Call::Fail { .. } => b"fail ",
+        Call::GetFailed { .. } => b"get ",
+        Call::Ack { .. } => b"ack ",
+        Call::FailureAck { .. } => b"failure_ack ",
+        Call::FailureGetAcked { .. } => b"failure_get_acked ",
+        Call::Agree { .. } => b"agree ",
+        Call::Shrink { .. } => b"shrink ",
+        Call::Barrier { .. } => b"barrier ",
+        Call::Poll { .. } => b"poll ",
+        Call::Revoke { .. } => b"revoke ",
+        Call::IsRevoked { .. } => b"isrevoked ",
+        Call::Free { .. } => b"free ",
+    }
 }
 
 /// What stands behind the verb.

@@ -1,7 +1,7 @@
 use Rattle.std.proofs.Common.{IsTrue, subst, sym}
 use Rattle.ulfm_observed.specs.declared.log.Seen.{Seen}
 use Rattle.ulfm_observed.specs.Explains.{IsSeen}
-use Rattle.ulfm_observed.proofs.Same.{same_reply}
+use Rattle.ulfm_script.proofs.Same.{same_reply}
 use Rattle.ulfm_observed.proofs.shows.is_seen.Goals as goal
 
 pub returns-in-Whole : goal.returns-in-Whole

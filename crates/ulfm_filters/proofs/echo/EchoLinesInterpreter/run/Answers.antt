@@ -16,6 +16,6 @@ returns-in_ok-answer-in-Ok g c =
         same = c.answer.ensures.version ∙ ran.same;
         plain = ran.plain ++ told.0;
         echoes = echoes_on (new_state before.heading.limits) (g.M.Machine.state c.args.self.now.calls.machine) (g.M.Machine.state c.answer.new.self.calls.machine) before.items asked
-            before.out ran.plain told.0 c.answer.new.self.calls.text.items ran.echoes told.1 told.2;
+            before.out ran.plain told.0 c.answer.new.self.text.items ran.echoes told.1 told.2;
       },
     )
