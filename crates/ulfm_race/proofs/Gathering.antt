@@ -1,6 +1,7 @@
 -- What is gathered of all workers.
 use Rattle.std.proofs.Common.{◌≡◌, ℕ, zero, suc, ◌+◌, ◌<◌, ◌≤◌, Bool, true, false, cond, List, [], ◌∷◌, ◌++◌, length, map, Option, Some, None, IfSome, Result, Ok, Err, IfErr, IfOk, MatchResult, unwrap_or, inl, inr, refl, ap, sym, ◌∙◌, subst, arith, length-append}
-use Rattle.std.specs.{List.{AllByRecursion, list_any}, Prelude.{⊤}}
+use Rattle.std.specs.{List.{AllByRecursion, list_any}, Prelude.{Vec, ⊤}}
+use Rattle.boxcar.specs.Table.{Shelves, Where}
 use mathlib.Core.{Bool.{◌||◌}, List.{IsPrefix}}
 use Rattle.ulfm_laws.specs.{declared.flag_and.FlagAnd.{FlagAnd}, Flags.{flag_meld}}
 use Rattle.ulfm_model.specs.declared.{limits.Limits.{Limits}, reply.Reply.{Reply}}
@@ -95,9 +96,10 @@ module _ (plan : Plan) (h longer : History FlagAnd) (begins : IsPrefix h longer)
   ended_stays r (inr found) = inr (declared_stays r found)
 
   -- how the rank of a worker ended, by its report
-  ended_by : (r : ℕ) (own : Record) (said : List (Reply FlagAnd)) (fault : Option RaceFault) → (fault ≡ None → IsAnswered plan h r own said) → (list_any is_refused said ≡ true → IsDeclared h r) → ((f : RaceFault) → fault ≡ Some f → IsDeclared h r) → IsEnded plan longer r
-  ended_by r own said None answered refused declared = ended_stays r (inl (said, record { answered = (answered refl).answered; stopped = refused }))
-  ended_by r own said (Some f) answered refused declared = inr (declared_stays r (declared f refl))
+  ended_by : {A : Type 0} (r : ℕ) (own : Record) (said : Result (Where (Vec (Reply FlagAnd) A)) RaceFault) → IfOk said (λ t. IsAnswered plan h r own t.value.items)
+      → IfOk said (λ t. list_any is_refused t.value.items ≡ true → IsDeclared h r) → IfErr said (λ _. IsDeclared h r) → IsEnded plan longer r
+  ended_by r own (Ok token) answered refused declared = ended_stays r (inl (token.value.items, record { answered = answered.answered; stopped = refused }))
+  ended_by r own (Err fault) answered refused declared = inr (declared_stays r declared)
 
   group_stays : (made : Bool) (group : List ℕ) → IsGroup plan h made group → IsGroup plan longer made group
   group_stays true group is = let same = members_stay plan.ranks h longer 1 begins is.0 in (same.0, is.1 ∙ sym same.1)
@@ -132,10 +134,10 @@ module _ (plan : Plan) (h longer : History FlagAnd) (begins : IsPrefix h longer)
       }
 
 -- how the rank of a worker ended, by its report, in a legal history that goes on from what was reported
-pub report_ended : {name : Name} {may_say : ℕ → Turn → Bool → Type 0} {plan : Plan} {r : ℕ} {report : Report} {seen : History FlagAnd} → IsReported name may_say plan r report
+pub report_ended : {name : Name} {shelves : Shelves} {may_say : ℕ → Turn → Bool → Type 0} {plan : Plan} {r : ℕ} {report : Report} {seen : History FlagAnd} → IsReported name shelves may_say plan r report
     → name.limits ≡ limits_of plan → IsLegal flag_meld name.limits seen → IsPrefix report.told.seen seen → IsEnded plan seen r
 report_ended {plan = plan} {r = r} {report = report} {seen = seen} kept same legal begins =
-    ended_by plan report.told.seen seen begins (subst (λ l. IsLegal flag_meld l seen) same legal) r report.worker.rank.own (map (λ t. t.value) report.worker.tokens.items) report.fault kept.answered kept.refused kept.declared
+    ended_by plan report.told.seen seen begins (subst (λ l. IsLegal flag_meld l seen) same legal) r report.rank.own report.said kept.answered kept.refused kept.declared
 
 -- nothing is gathered at first
 pub gathered_none : {V : Type 0} (items : V → List (Reply FlagAnd)) (plan : Plan) (h : History FlagAnd) (old : List V) (group : List ℕ) (fault : Option RaceFault) → old ≡ [] → group ≡ [] → IsGathered plan h 0 (map items old) group fault

@@ -1,5 +1,5 @@
 -- What a worker does, call by call, and what is done where workers are started.
-use Rattle.std.proofs.Common.{◌≡◌, ℕ, zero, suc, ◌+◌, ◌*◌, ◌<◌, ◌≤◌, Bool, false, not, List, [], ◌∷◌, ◌++◌, length, Option, Some, None, IfSome, Result, Ok, Err, IfErr, IfOk, MatchResult, inl, inr, refl, ap, sym, ◌∙◌, subst, arith, if◌then◌else◌}
+use Rattle.std.proofs.Common.{◌≡◌, ℕ, zero, suc, ◌+◌, ◌*◌, ◌<◌, ◌≤◌, Bool, false, List, [], ◌∷◌, ◌++◌, length, Result, Ok, Err, IfErr, IfOk, MatchResult, inl, inr, refl, ap, sym, ◌∙◌, subst, arith, if◌then◌else◌}
 use Rattle.std.proofs.lemmas.Bool.{eq-eqb, ne_eqb}
 use Rattle.ulfm_laws.specs.{declared.flag_and.FlagAnd.{FlagAnd}, Flags.{flag_meld}}
 use Rattle.ulfm_model.specs.declared.{call.Call.{Call}, call.Call.TheVariants.{Agree, Shrink}, refusal.Refusal.{Refusal}, refusal.Refusal.TheVariants.{OutOfMemory}, reply.Reply.{Reply}, reply.Reply.TheVariants.{Started}}
@@ -9,8 +9,8 @@ use Rattle.ulfm_comm.specs.{Calls.{Calls}, Counts.{TakesSteps}}
 use Rattle.ulfm_model.specs.{History.{History}, Records.{Record}}
 use Rattle.ulfm_wait.specs.Members.{MemberCalls, MemberPolls, Membership, after_call, local_of, setting_of}
 use Rattle.ulfm_wait.specs.{Turns.{MemberPends}, Waits.{MemberAwaits, MemberPollsOn}}
-use Rattle.ulfm_race.specs.Races.{IsKeptReply, IsReady, flag_of, flag_pack, is_stopped}
-use Rattle.ulfm_race.specs.Worked.{BreaksIn, TurnsBreakOff, Declares, HasPended, HasTurned, HasTurnedBy, TakesPart, TakesTurns, TurnIs, steps_of, turn_of}
+use Rattle.ulfm_race.specs.Races.{IsKeptReply, IsReady, flag_of, flag_pack}
+use Rattle.ulfm_race.specs.Worked.{BreaksIn, TurnsBreakOff, Declares, HasPended, TakesPart, TakesTurns, TurnIs, steps_of, turn_of}
 use Rattle.ulfm_race.specs.declared.{plan.Plan.{Plan}, plan.RaceFault.{RaceFault}, plan.RaceFault.TheVariants.{Held as HeldBack, Memory}}
 
 -- one rank more that was to be started
@@ -99,14 +99,3 @@ pub lost_turn : {plan : Plan} {r k : ℕ} {own : Record} {h : History FlagAnd} {
 lost_turn {plan} {r} ready is start mid new reply fault kept same refused turns turn =
     subst (λ xs. TurnsBreakOff plan r fault xs start new) (sym same)
     (mid, turns, inr (refused, reply, subst (λ n. TakesPart (turn_of plan r n) mid reply new) (sym ready.count) (subst (λ a. TakesPart a mid reply new) is turn)))
-
--- the turns by the fault that was met, if one was
-pub turned_by : (plan : Plan) (r : ℕ) (ended : Result Bool RaceFault) (fault : Option RaceFault) (said : List (Reply FlagAnd)) (old new : Membership FlagAnd) → (fault ≡ None → (whole : Bool) × (ended ≡ Ok whole))
-    → IfSome fault (λ f. ended ≡ Err f) → HasTurned plan r ended said old new → HasTurnedBy plan r fault said old new
-turned_by plan r ended None said old new none some turned = subst (λ o. HasTurned plan r o said old new) (none refl).1 turned
-turned_by plan r ended (Some f) said old new none some turned = subst (λ o. HasTurned plan r o said old new) some turned
-
--- a worker that was told all didn't stop
-pub whole_goes_on : (ended : Result Bool RaceFault) (refused : Bool) → IfOk ended (λ whole. refused ≡ not whole) → (whole : Bool) × (ended ≡ Ok whole) → refused ≡ false → is_stopped ended ≡ false
-whole_goes_on (Ok whole) refused is some none = sym is ∙ none
-whole_goes_on (Err fault) refused is some none = absurd (cc (some.1))

@@ -1,5 +1,5 @@
 -- What is done over one pass: declarations of ranks, and the turns of a worker, call by call.
-use Rattle.std.specs.Prelude.{◌≡◌, ◌⊎◌, ℕ, ◌+◌, ◌==◌, false, List, [], ◌∷◌, length, map, Option, Some, None, IsTrue, IsFalse, Result, Ok, Err, if◌then◌else◌}
+use Rattle.std.specs.Prelude.{◌≡◌, ◌⊎◌, ℕ, ◌+◌, ◌==◌, Bool, false, List, [], ◌∷◌, length, IfErr, IfOk, IsTrue, IsFalse, Result, Ok, Err, if◌then◌else◌}
 use Rattle.std.specs.List.{list_any}
 use Rattle.ulfm_laws.specs.{declared.flag_and.FlagAnd.{FlagAnd}, Flags.{flag_meld}}
 use Rattle.ulfm_model.specs.declared.{call.Call.{Call}, call.Call.TheVariants.{Agree, Shrink}, refusal.Refusal.{Refusal}, reply.Reply.{Reply}}
@@ -8,7 +8,7 @@ use Rattle.ulfm_comm.specs.Fails.{Fails}
 use Rattle.ulfm_comm.specs.declared.calls.polled.Polled.{Polled}
 use Rattle.ulfm_wait.specs.Members.{MemberCalls, Membership, setting_of}
 use Rattle.ulfm_wait.specs.{Turns.{MemberPends}, Waits.{MemberAwaits}}
-use Rattle.ulfm_race.specs.Races.{IsKeptReply, flag_of, flag_pack, is_refused}
+use Rattle.ulfm_race.specs.Races.{IsGiven, IsKeptReply, flag_of, flag_pack, is_refused}
 use Rattle.ulfm_race.specs.declared.{plan.Plan.{Plan}, plan.RaceFault.{RaceFault}, worker.Report.{Report}}
 
 -- rank r was declared by one call, and nothing else was done over the pass
@@ -65,19 +65,17 @@ abbrev pub HasTurned : {X : Type 0} → Plan → ℕ → Result X RaceFault → 
 HasTurned plan r (Ok x) said old new = TakesTurns plan r 0 said old new
 HasTurned plan r (Err fault) said old new = TurnsBreakOff plan r fault said old new
 
--- the same by the fault, if one was met
-abbrev pub HasTurnedBy : Plan → ℕ → Option RaceFault → List (Reply FlagAnd) → Membership FlagAnd → Membership FlagAnd → Type 0
-HasTurnedBy plan r None said old new = TakesTurns plan r 0 said old new
-HasTurnedBy plan r (Some fault) said old new = TurnsBreakOff plan r fault said old new
-
 -- What a worker has done from its start on, and nothing else: its turns; and behind them the declaration of its rank where it met a fault or was
 -- refused, and none where it was told all.
 pub record HasWorked (name : Name) (plan : Plan) (start : Membership FlagAnd) (report : Report) : Type 0 where
+  pub end : Result Bool RaceFault
+  pub said : List (Reply FlagAnd)
   pub ended : Membership FlagAnd
-  pub turns : HasTurnedBy plan start.own.number report.fault (map (λ t. t.value) report.worker.tokens.items) start ended
-  pub own_is : report.worker.rank.own ≡ ended.own
+  pub turns : HasTurned plan start.own.number end said start ended
+  pub given : IsGiven end said report.said
+  pub own_is : report.rank.own ≡ ended.own
   pub after : Sight FlagAnd
-  pub refused : IsTrue (list_any is_refused (map (λ t. t.value) report.worker.tokens.items)) → Declares name start.own.number ended.view.pass after
-  pub faulted : (fault : RaceFault) → report.fault ≡ Some fault → Declares name start.own.number ended.view.pass after
-  pub alone : report.fault ≡ None → IsFalse (list_any is_refused (map (λ t. t.value) report.worker.tokens.items)) → after ≡ ended.view.pass
+  pub refused : IsTrue (list_any is_refused said) → Declares name start.own.number ended.view.pass after
+  pub faulted : IfErr report.said (λ _. Declares name start.own.number ended.view.pass after)
+  pub alone : IfOk report.said (λ _. IsFalse (list_any is_refused said) → after ≡ ended.view.pass)
   pub told_is : report.told.seen ≡ after.seen

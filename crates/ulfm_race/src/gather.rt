@@ -1,7 +1,7 @@
 // What the workers were answered, gathered.
 ghost use Rattle.std.specs.Prelude.{◌≡◌, ◌+◌, ◌<◌, ℕ, [], ◌∷◌, ◌++◌, true, false, map, length, unwrap_or, vec_capacity, vec_len, ⊤};
 ghost use Rattle.std.specs.Prelude.{IfErr, IfOk, IfSome, MatchResult, Some, None};
-ghost use Rattle.std.specs.List.{AllByRecursion, list_any};
+ghost use Rattle.std.specs.List.{list_any};
 ghost use mathlib.Core.List.{IsPrefix};
 ghost use Rattle.boxcar.specs.Table.{Shows};
 ghost use Rattle.ulfm_laws.specs.declared.flag_and.FlagAnd.{FlagAnd as FlagOf};
@@ -109,6 +109,7 @@ pub(crate) fn hear_all<R: Threads, G: Gate>(
     rt: &R,
     alloc: Global,
     world: &Shared,
+    said: &Replies,
     gate: &G,
     started: Vec<Started<'_, G>>,
     outside: &mut BookPass<FlagAnd>,
@@ -119,7 +120,7 @@ pub(crate) fn hear_all<R: Threads, G: Gate>(
     requires declared { IfSome gathered.plan.fail (IsDeclared outside.old.seen) }
     requires nothing { (gathered.replies.items ≡ []) × (gathered.group.items ≡ []) × (gathered.fault ≡ None) }
     requires room { vec_capacity gathered.replies ≡ gathered.plan.ranks }
-    requires started { Numbered (λ r one. StartIs (λ h. IsStarted world.now gate.now gathered.plan r h.promise) outside.old.seen r one)
+    requires started { Numbered (λ r one. StartIs (λ h. IsStarted world.now said.now gate.now gathered.plan r h.promise) outside.old.seen r one)
         0 started.items }
     requires all { length started.items ≡ gathered.plan.ranks }
     ensures answered { IfOk result (λ o. IsOutcome gathered.plan o.seen.seen (map (λ v. v.items) o.replies.items) o.group.items) }
@@ -131,7 +132,7 @@ pub(crate) fn hear_all<R: Threads, G: Gate>(
     let mut gathered = gathered;
     let plan = gathered.plan;
     for one in started {
-        let heard = hear(rt, alloc, world, gate, plan, one, outside);
+        let heard = hear(rt, alloc, world, said, gate, plan, one, outside);
         gathered.take_in(heard);
     }
     let Gathered {
@@ -155,6 +156,7 @@ fn hear<'a, R: Threads, G: Gate>(
     rt: &R,
     alloc: Global,
     world: &Shared,
+    said: &Replies,
     gate: &G,
     plan: Plan,
     one: Started<'a, G>,
@@ -162,18 +164,18 @@ fn hear<'a, R: Threads, G: Gate>(
 ) -> Result<Heard, RaceFault>
     requires limits { world.now.limits ≡ limits_of plan }
     requires of { IsView flag_meld (view_of flag_pack world.now outside.old) }
-    requires one { (r : ℕ) × StartIs (λ h. IsStarted world.now gate.now plan r h.promise) outside.old.seen r one }
+    requires one { (r : ℕ) × StartIs (λ h. IsStarted world.now said.now gate.now plan r h.promise) outside.old.seen r one }
     ensures of { IsView flag_meld (view_of flag_pack world.now outside.new) }
     ensures seen { IsPrefix outside.old.seen outside.new.seen }
-    ensures heard { (r : ℕ) → StartIs (λ h. IsStarted world.now gate.now plan r h.promise) outside.old.seen r one.entry
+    ensures heard { (r : ℕ) → StartIs (λ h. IsStarted world.now said.now gate.now plan r h.promise) outside.old.seen r one.entry
         → MatchResult result (λ x. IsHeard plan outside.new.seen r x.replies.items x.made x.group.items × WasLet (G.may_say gate.now r) x.replies.items)
         (StopsFor ⊤ (G.may_say gate.now r)) }
-    ensures ended { (r : ℕ) → StartIs (λ h. IsStarted world.now gate.now plan r h.promise) outside.old.seen r one.entry
+    ensures ended { (r : ℕ) → StartIs (λ h. IsStarted world.now said.now gate.now plan r h.promise) outside.old.seen r one.entry
         → IsEnded plan outside.new.seen r }
     ensures still { outside.new.steps ≡ outside.old.steps }
 {
     match one {
-        Ok(handle) => hear_thread(rt, alloc, world, handle, outside),
+        Ok(handle) => hear_thread(rt, alloc, world, said, handle, outside),
         Err(fault) => Err(fault),
     }
 }
@@ -191,7 +193,7 @@ fn finish<'a, R: Threads, G: Gate>(
     ensures seen { IsPrefix outside.old.seen outside.new.seen }
     ensures learned { IsPrefix result.told.seen outside.new.seen }
     ensures still { outside.new.steps ≡ outside.old.steps }
-    ensures kept { IsReported world.now (G.may_say handle.entry.promise.gate.now) handle.entry.promise.plan
+    ensures kept { IsReported world.now handle.entry.promise.said.now (G.may_say handle.entry.promise.gate.now) handle.entry.promise.plan
         handle.entry.promise.number result }
 {
     let report = handle.join(rt);
@@ -204,10 +206,12 @@ fn hear_thread<'a, R: Threads, G: Gate>(
     rt: &R,
     alloc: Global,
     world: &Shared,
+    said: &Replies,
     handle: Handle<'a, G>,
     outside: &mut BookPass<FlagAnd>,
 ) -> Result<Heard, RaceFault>
     requires world { handle.promise.world.now ≡ world.now }
+    requires said { handle.promise.said.now ≡ said.now }
     requires limits { world.now.limits ≡ limits_of handle.promise.plan }
     requires of { IsView flag_meld (view_of flag_pack world.now outside.old) }
     ensures of { IsView flag_meld (view_of flag_pack world.now outside.new) }
@@ -219,29 +223,31 @@ fn hear_thread<'a, R: Threads, G: Gate>(
     ensures still { outside.new.steps ≡ outside.old.steps }
 {
     let report = finish(rt, world, handle, outside);
-    let heard = read_report(alloc, &report);
-    let fault = report.fault;
-    drop(report);
-    if let Some(fault) = fault {
-        return Err(fault);
-    }
-    match heard {
-        Ok(heard) => Ok(heard),
-        Err(_) => Err(RaceFault::Memory),
+    let Report {
+        rank,
+        told: _,
+        said: given,
+    } = report;
+    match given {
+        Ok(token) => match read(alloc, said, &token, &rank) {
+            Ok(heard) => Ok(heard),
+            Err(_) => Err(RaceFault::Memory),
+        },
+        Err(fault) => Err(fault),
     }
 }
 
-// What a worker was answered, whether its shrink made a communicator, and the members of that.
-fn read_report(alloc: Global, report: &Report) -> Result<Heard, AllocError>
-    requires { AllByRecursion (Shows report.now.worker.said) report.now.worker.tokens.items }
-    ensures replies { IfOk result (λ x. x.replies.items ≡ map (λ t. t.value) report.now.worker.tokens.items) }
+// What a worker was answered, read at its token, whether its shrink made a communicator, and the members of that.
+fn read(alloc: Global, said: &Replies, token: &Token, rank: &Own) -> Result<Heard, AllocError>
+    requires { Shows said.now token.now }
+    ensures replies { IfOk result (λ x. x.replies.items ≡ token.now.value.items) }
     ensures made { IfOk result (λ x. x.made ≡ list_any is_shrunk x.replies.items) }
-    ensures group { IfOk result (λ x. x.made ≡ true → (y : Held) → held_at report.now.worker.rank.own 1 ≡ Some y → x.group.items ≡ y.group) }
+    ensures group { IfOk result (λ x. x.made ≡ true → (y : Held) → held_at rank.now.own 1 ≡ Some y → x.group.items ≡ y.group) }
     ensures nobody { IfOk result (λ x. x.made ≡ false → x.group.items ≡ []) }
 {
-    let replies = read(alloc, &report.worker.said, &report.worker.tokens)?;
+    let replies = said.value(token).to_vec(alloc)?;
     let made = any_shrunk(&replies);
-    let group = members_made(&report.worker.rank, made).to_vec(alloc)?;
+    let group = members_made(rank, made).to_vec(alloc)?;
     Ok(Heard {
         replies,
         made,
@@ -283,20 +289,4 @@ fn is_shrunk(reply: &Reply<FlagAnd>) -> bool
         Reply::Shrunk { .. } => true,
         _ => false,
     }
-}
-
-// What a worker was answered, read at its tokens.
-fn read(
-    alloc: Global,
-    said: &Replies,
-    tokens: &Vec<Token>,
-) -> Result<Vec<Reply<FlagAnd>>, AllocError>
-    requires { AllByRecursion (Shows said.now) tokens.now.items }
-    ensures { IfOk result (λ v. v.items ≡ map (λ t. t.value) tokens.now.items) }
-{
-    let mut replies = Vec::with_capacity(alloc, tokens.len())?;
-    for token in tokens {
-        replies.push(*said.value(token))?;
-    }
-    Ok(replies)
 }

@@ -2,7 +2,7 @@
 ghost use Rattle.std.specs.Prelude.{◌≡◌, ◌+◌, ◌*◌, ◌≤◌, [], None, IfErr, IfOk, IfSome, MatchResult, map, length, vec_capacity};
 ghost use mathlib.Core.List.{IsPrefix};
 ghost use Rattle.ulfm_laws.specs.Flags.{flag_meld};
-ghost use Rattle.ulfm_words.specs.Steps.{view_of, IsNew, IsView};
+ghost use Rattle.ulfm_words.specs.Steps.{view_of, IsView};
 ghost use Rattle.ulfm_comm.specs.Counts.{records_of};
 ghost use Rattle.ulfm_race.specs.Races.{EndsFor, IsDeclared, IsNewRank, IsOutcome, IsPlan, IsReported, IsStarted, Numbered, StartIs, WasLet, flag_pack, limits_of};
 ghost use Rattle.ulfm_race.specs.Worked.{Declares, steps_of};
@@ -10,7 +10,7 @@ ghost use Rattle.ulfm_race.specs.Worked.{Declares, steps_of};
 use crate::gather::{Gathered, hear_all};
 use crate::plan::{Gate, Outcome, Plan, RaceFault};
 use crate::worker::{Own, Replies, Report, Shared, work};
-use std::alloc::{AllocError, Global};
+use std::alloc::Global;
 use std::sync::Wait;
 use std::sync::atomic::{AtomicBool, Ordering};
 use std::thread::{self, Promise, PromisedHandle, Scope, Threads};
@@ -26,6 +26,8 @@ pub(crate) struct Promised<'a, G: Gate> {
     pub(crate) gate: &'a G,
     /// The world of all ranks that race.
     pub(crate) world: &'a Shared,
+    /// What they were answered.
+    pub(crate) said: &'a Replies,
     /// How many ranks race, and for how many rounds.
     pub(crate) plan: Plan,
     /// The rank's number, below the plan's ranks.
@@ -33,7 +35,7 @@ pub(crate) struct Promised<'a, G: Gate> {
 }
 
 impl<'a, G: Gate> Promise<Report> for Promised<'a, G> {
-    ghost kept_by = { λ p r. IsReported p.world.now (G.may_say p.gate.now) p.plan p.number r };
+    ghost kept_by = { λ p r. IsReported p.world.now p.said.now (G.may_say p.gate.now) p.plan p.number r };
 }
 
 /// What all threads of a race have before them.
@@ -47,6 +49,8 @@ struct RaceSetting<'a, R, G: Gate> {
     alloc: Global,
     /// The world of all ranks that race.
     world: &'a Shared,
+    /// What they were answered.
+    said: &'a Replies,
     /// Whether each worker has its thread.
     began: &'a AtomicBool,
     /// How many ranks race, and for how many rounds.
@@ -105,6 +109,8 @@ pub fn race<R: Threads + Wait + Sync, G: Gate + Sync>(
     let world = &world;
     let began = AtomicBool::new(false);
     let began = &began;
+    let said = boxcar::Vec::new(alloc)?;
+    let said = &said;
     thread::scope(
         thread::scope_env(),
         rt,
@@ -113,7 +119,7 @@ pub fn race<R: Threads + Wait + Sync, G: Gate + Sync>(
             requires limits { world.now.limits ≡ limits_of plan }
             requires ranks { Numbered (IsNewRank plan) 0 (records_of ranks.items) }
             requires all { length ranks.items ≡ plan.ranks }
-        { race_in(scope, rt, gate, alloc, world, began, plan, ranks) },
+        { race_in(scope, rt, gate, alloc, world, said, began, plan, ranks) },
     )
 }
 
@@ -148,6 +154,7 @@ fn race_in<'s, E, R: Threads + Wait + Sync, G: Gate + Sync>(
     gate: &'s G,
     alloc: Global,
     world: &'s Shared,
+    said: &'s Replies,
     began: &'s AtomicBool,
     plan: Plan,
     ranks: Vec<Own>,
@@ -168,13 +175,23 @@ fn race_in<'s, E, R: Threads + Wait + Sync, G: Gate + Sync>(
         gate,
         alloc,
         world,
+        said,
         began,
         plan,
     };
     start_all(scope, &race, ranks, &mut outside, &mut started);
     began.store(true, Ordering::SeqCst);
     declare(world, plan, &mut outside);
-    hear_all(rt, alloc, world, gate, started, &mut outside, gathered)
+    hear_all(
+        rt,
+        alloc,
+        world,
+        said,
+        gate,
+        started,
+        &mut outside,
+        gathered,
+    )
 }
 
 // The rank that the plan declares, if any, is declared.
@@ -208,7 +225,7 @@ fn start_all<'s, E, G: Gate + Sync, R: Wait + Sync>(
     requires nobody { started.old.items ≡ [] }
     requires room { length ranks.items ≤ vec_capacity started.old }
     ensures of { IsView flag_meld (view_of flag_pack race.now.world.now outside.new) }
-    ensures started { Numbered (λ r one. StartIs (λ h. IsStarted race.now.world.now race.now.gate.now race.now.plan r h.promise) outside.new.seen r one)
+    ensures started { Numbered (λ r one. StartIs (λ h. IsStarted race.now.world.now race.now.said.now race.now.gate.now race.now.plan r h.promise) outside.new.seen r one)
         0 started.new.items }
     ensures all { length started.new.items ≡ length ranks.items }
     ensures few { outside.new.steps ≤ outside.old.steps + steps_of (2 * race.now.world.now.limits.ranks) started.new.items }
@@ -232,7 +249,7 @@ fn start<'s, E, G: Gate + Sync, R: Wait + Sync>(
     requires of { IsView flag_meld (view_of flag_pack race.now.world.now outside.old) }
     ensures of { IsView flag_meld (view_of flag_pack race.now.world.now outside.new) }
     ensures seen { IsPrefix outside.old.seen outside.new.seen }
-    ensures started { StartIs (λ h. IsStarted race.now.world.now race.now.gate.now race.now.plan rank.own.number h.promise) outside.new.seen
+    ensures started { StartIs (λ h. IsStarted race.now.world.now race.now.said.now race.now.gate.now race.now.plan rank.own.number h.promise) outside.new.seen
         rank.own.number result }
     ensures once { MatchResult result (λ _. outside.new ≡ outside.old) (λ _. Declares race.now.world.now rank.own.number outside.old outside.new) }
 {
@@ -240,18 +257,19 @@ fn start<'s, E, G: Gate + Sync, R: Wait + Sync>(
     let promised = Promised {
         gate: race.gate,
         world: race.world,
+        said: race.said,
         plan: race.plan,
         number,
     };
-    let (pass, said) = match pass_and_room(race.alloc, race.world) {
-        Ok(both) => both,
+    let pass = match race.world.pass(race.alloc) {
+        Ok(pass) => pass,
         Err(_) => {
             let _ = race.world.fail(outside, number);
             return Err(RaceFault::Memory);
         }
     };
     let (rt, gate, alloc) = (race.rt, race.gate, race.alloc);
-    let (world, began, plan) = (race.world, race.began, race.plan);
+    let (world, said, began, plan) = (race.world, race.said, race.began, race.plan);
     let started = scope.spawn_with(
         promised,
         move || work(rt, gate, alloc, world, began, plan, rank, pass, said),
@@ -263,12 +281,4 @@ fn start<'s, E, G: Gate + Sync, R: Wait + Sync>(
             Err(RaceFault::Memory)
         }
     }
-}
-
-// What a worker has besides its rank: a pass that has seen nothing, and a vector for its replies.
-fn pass_and_room(alloc: Global, world: &Shared) -> Result<(BookPass<FlagAnd>, Replies), AllocError>
-    ensures { IfOk result (λ both. IsNew flag_meld (view_of flag_pack world.now both.0)) }
-{
-    let pass = world.pass(alloc)?;
-    Ok((pass, boxcar::Vec::new(alloc)?))
 }

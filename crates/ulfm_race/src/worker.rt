@@ -1,7 +1,7 @@
 // The part of one rank.
-ghost use Rattle.std.specs.Prelude.{◌≡◌, ◌<◌, Bool, List, [], ◌∷◌, ◌++◌, false, true, map, not, ⊤, IfErr, IfOk, IfSome, IsTrue, MatchBool, None, Ok, Err};
+ghost use Rattle.std.specs.Prelude.{◌≡◌, ◌<◌, List, [], ◌∷◌, ◌++◌, false, true, not, ⊤, IfErr, IfOk, IsTrue, MatchBool, Err};
 ghost use Rattle.ulfm_wait.specs.Members.{setting_of};
-ghost use Rattle.std.specs.List.{AllByRecursion, list_any};
+ghost use Rattle.std.specs.List.{list_any};
 ghost use mathlib.Core.List.{IsPrefix};
 ghost use Rattle.boxcar.specs.Table.{Shows};
 ghost use Rattle.ulfm_model.specs.History.{failures, has};
@@ -10,7 +10,7 @@ ghost use Rattle.ulfm_laws.specs.Flags.{flag_meld};
 ghost use Rattle.ulfm_model.specs.declared.{call.Call.TheVariants.{Agree, Shrink}, reply.Reply.{Reply as ReplyOf}};
 ghost use Rattle.ulfm_wait.specs.{Turns.{member_of}, Waits.{IsAwaited, IsPolledOn, MemberPollsOn}};
 ghost use Rattle.ulfm_race.specs.declared.plan.Plan.{Plan as PlanOf};
-ghost use Rattle.ulfm_race.specs.Races.{IsAnswered, IsKeptReply, IsPlan, IsRankOf, IsReady, IsReported, SaysAgree, Starts, StopsFor, WasLet, Works, flag_pack};
+ghost use Rattle.ulfm_race.specs.Races.{IsAnswered, IsGiven, IsKeptReply, IsPlan, IsRankOf, IsReady, IsReported, SaysAgree, Starts, StopsFor, WasLet, flag_pack};
 ghost use Rattle.ulfm_race.specs.Races.{flag_of, is_refused, is_stopped, limits_of};
 ghost use Rattle.ulfm_race.specs.Worked.{Declares, HasPended, HasTurned, HasWorked, TurnIs};
 ghost use Rattle.ulfm_comm.specs.Local.{local};
@@ -29,35 +29,35 @@ use ulfm_model::reply::Reply;
 
 pub(crate) type Shared = World<BookWords<FlagAnd>, FlagAnd, Global>;
 
-pub(crate) type Replies = boxcar::Vec<Reply<FlagAnd>>;
+/// What the ranks of a race were answered: each worker puts its replies there, all at once, when it ends.
+pub(crate) type Replies = boxcar::Vec<Vec<Reply<FlagAnd>>>;
 
-pub(crate) type Token = boxcar::Pushed<Reply<FlagAnd>>;
+/// What shows where the replies of a worker stand.
+pub(crate) type Token = boxcar::Pushed<Vec<Reply<FlagAnd>>>;
 
 pub(crate) type Own = Rank<FlagAnd, Global>;
 
-/// What a worker (the code of one rank's thread) works with: its rank, its pass, the replies that it was given, and a token of each, by which
-/// the reply is found among them. No other thread pushes into that vector, so no two threads write to one place of it.
+/// What a worker (the code of one rank's thread) works with: its rank, its pass, and the replies that it was given. No other thread sees
+/// them before it ends.
 #[derive(Drop)]
 pub(crate) struct Worker {
     /// The rank whose calls it makes.
     pub rank: Own,
     /// What it has seen of the words.
     pub pass: BookPass<FlagAnd>,
-    /// Its replies.
-    pub said: Replies,
-    /// A token for each reply, in order.
-    pub tokens: Vec<Token>,
+    /// Its replies, in order.
+    pub replies: Vec<Reply<FlagAnd>>,
 }
 
 /// What a worker gives back.
 #[derive(Drop)]
 pub(crate) struct Report {
-    /// What it worked with, as the last call left it.
-    pub worker: Worker,
+    /// Its rank, as the last call left it.
+    pub rank: Own,
     /// All that the worker had seen.
     pub told: BookTold<FlagAnd>,
-    /// Why it stopped, if by a fault.
-    pub fault: Option<RaceFault>,
+    /// A token of its replies, or the fault by which it stopped.
+    pub said: Result<Token, RaceFault>,
 }
 
 /// Once the race has begun, it agrees round after round, and then shrinks. Where the worker stops before all its calls are answered, its rank is declared failed.
@@ -70,41 +70,35 @@ pub(crate) fn work<G: Gate, R: Wait>(
     plan: Plan,
     rank: Own,
     pass: BookPass<FlagAnd>,
-    said: Replies,
+    said: &Replies,
 ) -> Report
     requires plan { IsPlan plan }
     requires limits { world.now.limits ≡ limits_of plan }
     requires new { rank.own ≡ new_record (limits_of plan) rank.own.number }
     requires own { IsRankOf world.now rank.own pass }
-    ensures reports { IsReported world.now (G.may_say gate.now) plan rank.own.number result }
+    ensures reports { IsReported world.now said.now (G.may_say gate.now) plan rank.own.number result }
     ensures works { HasWorked world.now plan (member_of world.now rank pass) result }
 {
     await_all(rt, began);
     let number = rank.number();
-    let mut tokens = Vec::new(alloc);
+    let mut replies = Vec::new(alloc);
     // Room for all of them from the start; where that is refused, it is made as they come.
-    let _ = tokens.reserve(usize::from(plan.rounds) + 1);
+    let _ = replies.reserve(usize::from(plan.rounds) + 1);
     let mut worker = Worker {
         rank,
         pass,
-        said,
-        tokens,
+        replies,
     };
     let ended = take_turns(rt, gate, world, plan, &mut worker);
-    let fault = fault_in(&ended);
-    declare(
-        world,
-        &worker.rank,
-        number,
-        &mut worker.pass,
-        is_stopped(&ended),
-    );
-    let told = world.told(&worker.pass);
-    Report {
-        worker,
-        told,
-        fault,
-    }
+    let Worker {
+        rank,
+        mut pass,
+        replies,
+    } = worker;
+    let said = give(rt, said, replies, &ended);
+    declare(world, &rank, number, &mut pass, is_stopped(&ended, &said));
+    let told = world.told(&pass);
+    Report { rank, told, said }
 }
 
 // Waits until each worker has its thread, so that the first don't poll, on processors that the others want, for those that aren't there yet.
@@ -117,21 +111,29 @@ fn await_all<R: Wait>(rt: &R, began: &AtomicBool) {
     }
 }
 
-// Whether a worker stopped before it was answered all.
-fn is_stopped(ended: &Result<bool, RaceFault>) -> bool
-    ensures { result ≡ is_stopped ended.now }
+// Whether a worker stopped before it was answered all, or memory was refused to give that back.
+fn is_stopped(ended: &Result<bool, RaceFault>, said: &Result<Token, RaceFault>) -> bool
+    ensures { result ≡ is_stopped ended.now said.now }
 {
-    !matches!(ended, Ok(true))
+    !matches!(ended, Ok(true)) || said.is_err()
 }
 
-// The fault that a worker met, if any.
-fn fault_in(ended: &Result<bool, RaceFault>) -> Option<RaceFault>
-    ensures none { result ≡ None → (whole : Bool) × (ended.now ≡ Ok whole) }
-    ensures some { IfSome result (λ fault. ended.now ≡ Err fault) }
+// The replies of a worker whose turns ended so are put before the others; where they met a fault, it is the worker's.
+fn give<R: Wait>(
+    rt: &R,
+    said: &Replies,
+    replies: Vec<Reply<FlagAnd>>,
+    ended: &Result<bool, RaceFault>,
+) -> Result<Token, RaceFault>
+    ensures shown { IfOk result (Shows said.now) }
+    ensures given { IsGiven ended.now replies.items result }
 {
     match ended {
-        Ok(_) => None,
-        Err(fault) => Some(*fault),
+        Ok(_) => match said.push_shown(rt, replies) {
+            Ok(token) => Ok(token),
+            Err(_) => Err(RaceFault::Memory),
+        },
+        Err(fault) => Err(*fault),
     }
 }
 
@@ -157,14 +159,13 @@ fn take_turns<G: Gate, R: Wait>(
     plan: Plan,
     worker: &mut Worker,
 ) -> Result<bool, RaceFault>
-    requires { Starts world.now worker.old.said plan worker.old.rank.own worker.old.pass worker.old.tokens.items }
-    ensures works { Works world.now worker.new.said worker.new.rank.own worker.new.pass worker.new.tokens.items }
-    ensures answered { IfOk result (λ _. IsAnswered plan worker.new.pass.seen worker.old.rank.own.number worker.new.rank.own
-        (map (λ t. t.value) worker.new.tokens.items)) }
-    ensures asks { IfOk result (λ _. WasLet (G.may_say gate.now worker.old.rank.own.number) (map (λ t. t.value) worker.new.tokens.items)) }
-    ensures whole { IfOk result (λ whole. list_any is_refused (map (λ t. t.value) worker.new.tokens.items) ≡ not whole) }
+    requires { Starts world.now plan worker.old.rank.own worker.old.pass worker.old.replies.items }
+    ensures own { IsRankOf world.now worker.new.rank.own worker.new.pass }
+    ensures answered { IfOk result (λ _. IsAnswered plan worker.new.pass.seen worker.old.rank.own.number worker.new.rank.own worker.new.replies.items) }
+    ensures asks { IfOk result (λ _. WasLet (G.may_say gate.now worker.old.rank.own.number) worker.new.replies.items) }
+    ensures whole { IfOk result (λ whole. list_any is_refused worker.new.replies.items ≡ not whole) }
     ensures stops { IfErr result (StopsFor ⊤ (G.may_say gate.now worker.old.rank.own.number)) }
-    ensures turns { HasTurned plan worker.old.rank.own.number result (map (λ t. t.value) worker.new.tokens.items)
+    ensures turns { HasTurned plan worker.old.rank.own.number result worker.new.replies.items
         (member_of world.now worker.old.rank worker.old.pass) (member_of world.now worker.new.rank worker.new.pass) }
 {
     match agree_all(rt, gate, world, plan, worker) {
@@ -173,7 +174,7 @@ fn take_turns<G: Gate, R: Wait>(
         Err(fault) => return Err(fault),
     }
     match shrink(rt, gate, world, &mut worker.rank, &mut worker.pass) {
-        Ok(reply) => match keep(rt, &worker.said, &mut worker.tokens, reply) {
+        Ok(reply) => match keep(&mut worker.replies, reply) {
             Ok(()) => Ok(!is_refused(&reply)),
             Err(fault) => Err(fault),
         },
@@ -181,26 +182,16 @@ fn take_turns<G: Gate, R: Wait>(
     }
 }
 
-// A reply is pushed, and its token kept.
-fn keep<R: Wait>(
-    rt: &R,
-    said: &Replies,
-    tokens: &mut Vec<Token>,
-    reply: Reply<FlagAnd>,
-) -> Result<(), RaceFault>
-    requires { AllByRecursion (Shows said.now) tokens.old.items }
-    ensures shown { AllByRecursion (Shows said.now) tokens.new.items }
-    ensures kept { IfOk result (λ _. map (λ t. t.value) tokens.new.items ≡ map (λ t. t.value) tokens.old.items ++ reply ∷ []) }
+// A reply is kept behind the others.
+fn keep(replies: &mut Vec<Reply<FlagAnd>>, reply: Reply<FlagAnd>) -> Result<(), RaceFault>
+    ensures kept { IfOk result (λ _. replies.new.items ≡ replies.old.items ++ reply ∷ []) }
     ensures stops { IfErr result (λ fault. fault ≡ RaceFault.Memory) }
-    ensures lost { IfErr result (λ _. tokens.new.items ≡ tokens.old.items) }
+    ensures lost { IfErr result (λ _. replies.new.items ≡ replies.old.items) }
 {
-    match said.push_shown(rt, reply) {
-        Ok(token) => match tokens.push(token) {
-            Ok(()) => Ok(()),
-            Err(_) => Err(RaceFault::Memory),
-        },
-        Err(_) => Err(RaceFault::Memory),
+    if replies.push(reply).is_err() {
+        return Err(RaceFault::Memory);
     }
+    Ok(())
 }
 
 // A rank's flag in a round: 32 ones but one bit, below an upper half of 0.
@@ -378,23 +369,21 @@ pub(crate) fn agree_all<G: Gate, R: Wait>(
     plan: Plan,
     worker: &mut Worker,
 ) -> Result<bool, RaceFault>
-    requires { Starts world.now worker.old.said plan worker.old.rank.own worker.old.pass worker.old.tokens.items }
-    ensures works { Works world.now worker.new.said worker.new.rank.own worker.new.pass worker.new.tokens.items }
+    requires { Starts world.now plan worker.old.rank.own worker.old.pass worker.old.replies.items }
+    ensures own { IsRankOf world.now worker.new.rank.own worker.new.pass }
     ensures says { IfOk result (λ goes. MatchBool goes
-        (IsReady plan worker.old.rank.own.number plan.rounds worker.new.rank.own worker.new.pass.seen
-        (map (λ t. t.value) worker.new.tokens.items))
-        (IsAnswered plan worker.new.pass.seen worker.old.rank.own.number worker.new.rank.own
-        (map (λ t. t.value) worker.new.tokens.items))) }
-    ensures asks { IfOk result (λ _. WasLet (G.may_say gate.now worker.old.rank.own.number) (map (λ t. t.value) worker.new.tokens.items)) }
-    ensures whole { IfOk result (λ goes. list_any is_refused (map (λ t. t.value) worker.new.tokens.items) ≡ not goes) }
+        (IsReady plan worker.old.rank.own.number plan.rounds worker.new.rank.own worker.new.pass.seen worker.new.replies.items)
+        (IsAnswered plan worker.new.pass.seen worker.old.rank.own.number worker.new.rank.own worker.new.replies.items)) }
+    ensures asks { IfOk result (λ _. WasLet (G.may_say gate.now worker.old.rank.own.number) worker.new.replies.items) }
+    ensures whole { IfOk result (λ goes. list_any is_refused worker.new.replies.items ≡ not goes) }
     ensures stops { IfErr result (StopsFor ⊤ (G.may_say gate.now worker.old.rank.own.number)) }
-    ensures turns { HasTurned plan worker.old.rank.own.number result (map (λ t. t.value) worker.new.tokens.items)
+    ensures turns { HasTurned plan worker.old.rank.own.number result worker.new.replies.items
         (member_of world.now worker.old.rank worker.old.pass) (member_of world.now worker.new.rank worker.new.pass) }
 {
     for round in 0..plan.rounds {
         match agree(rt, gate, world, &mut worker.rank, &mut worker.pass, round) {
             Ok(reply) => {
-                match keep(rt, &worker.said, &mut worker.tokens, reply) {
+                match keep(&mut worker.replies, reply) {
                     Ok(()) => {}
                     Err(fault) => return Err(fault),
                 }

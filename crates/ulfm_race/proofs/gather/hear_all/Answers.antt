@@ -24,17 +24,18 @@ loop-one-init g c =
         omega (arith, ap length items, all),
         omega (arith, ap length nothing.0, c.args.gathered.replies.ok.0),
         λ none. (subst (Numbered (λ i v. WasLet (g.G.Gate.may_say c.args.gate.now i) v.items) 0) (sym nothing.0) tt, ap length nothing.0),
-        subst (Numbered (λ i one. StartIs (λ h. IsStarted c.args.world.now c.args.gate.now c.args.gathered.plan i h.promise) c.args.outside.now.seen i one) 0) (sym items) c.requires.started,
+        subst (Numbered (λ i one. StartIs (λ h. IsStarted c.args.world.now c.args.said.now c.args.gate.now c.args.gathered.plan i h.promise) c.args.outside.now.seen i one) 0) (sym items) c.requires.started,
         gathered_none _ c.args.gathered.plan c.args.outside.now.seen c.args.gathered.replies.items c.args.gathered.group.items c.args.gathered.fault nothing.0 nothing.1,
         λ i below. absurd (omega (arith, below)),
       ),
+      refl,
       refl,
     )
 
 pub hear-heard-requires-clause-one : goal.hear-heard-requires-clause-one
 hear-heard-requires-clause-one g c =
     let mine = c.loop-one.invariant.8 in
-    let starts = subst (Numbered (λ i one. StartIs (λ h. IsStarted c.args.world.now c.args.gate.now c.args.gathered.plan i h.promise) c.loop-one.outside.seen i one) mine.0) c.in-Some.ensures.steps.0 mine.4 in
+    let starts = subst (Numbered (λ i one. StartIs (λ h. IsStarted c.args.world.now c.args.said.now c.args.gate.now c.args.gathered.plan i h.promise) c.loop-one.outside.seen i one) mine.0) c.in-Some.ensures.steps.0 mine.4 in
     (mine.0, starts.0)
 
 pub loop-one-preserved : goal.loop-one-preserved
@@ -49,7 +50,7 @@ loop-one-preserved g c =
     let seen = c.hear-heard.new.outside.seen in
     let begins = c.hear-heard.ensures.seen in
     let steps = c.in-Some.ensures.steps.0 in
-    let starts = subst (Numbered (λ i one. StartIs (λ h. IsStarted c.args.world.now c.args.gate.now plan i h.promise) was i one) r) steps mine.4 in
+    let starts = subst (Numbered (λ i one. StartIs (λ h. IsStarted c.args.world.now c.args.said.now c.args.gate.now plan i h.promise) was i one) r) steps mine.4 in
     let legal = subst (λ l. IsLegal flag_meld l seen) c.requires.limits c.hear-heard.ensures.of.legal in
     let below : r < plan.ranks = omega (arith, ap length steps, mine.1) in
     let told = c.hear-heard.ensures.heard r starts.0 in
@@ -69,11 +70,12 @@ loop-one-preserved g c =
         omega (arith, ap length steps, mine.1),
         omega (arith, few_more (λ x. x.replies) c.hear-heard.result c.loop-one.gathered.replies.items c.take_in.new.self.replies.items r c.take_in.ensures.items (omega (arith, mine.2, c.loop-one.gathered.replies.ok.0)), c.take_in.new.self.replies.ok.0),
         lets_go_on (λ x. x.replies) (λ i v. WasLet (g.G.Gate.may_say c.args.gate.now i) v.items) r c.hear-heard.result c.loop-one.gathered.fault c.take_in.new.self.fault c.loop-one.gathered.replies.items c.take_in.new.self.replies.items c.take_in.ensures.items c.take_in.ensures.goes_on c.take_in.ensures.stops parts.1 mine.3,
-        starts_later plan was seen begins legal (λ i h. IsStarted c.args.world.now c.args.gate.now plan i h.promise) (r + 1) c.next.new.self.rest.items starts.1,
+        starts_later plan was seen begins legal (λ i h. IsStarted c.args.world.now c.args.said.now c.args.gate.now plan i h.promise) (r + 1) c.next.new.self.rest.items starts.1,
         gathered_by here plan seen (r + 1) _ _ _ same (c.take_in.ensures.takes seen r heard (gathered_by plan here seen r _ _ _ (sym same) before)),
         below_more (IsEnded plan seen) r (λ i lt. ended_stays plan was seen begins legal i (mine.6 i lt)) (c.hear-heard.ensures.ended r starts.0),
       ),
       c.hear-heard.ensures.still ∙ inv.9,
+      refl,
     )
 
 pub returns-in-None-fault-clause-answered : goal.returns-in-None-fault-clause-answered

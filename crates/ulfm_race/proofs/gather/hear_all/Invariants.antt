@@ -23,7 +23,8 @@ invariant-loop-one g l =
     × (r + length rest ≡ plan.ranks)
     × (vec_len l.gathered.replies ≤ r)
     × (l.gathered.fault ≡ None → Numbered (λ i v. WasLet (g.G.Gate.may_say l.fn.gate i) v.items) 0 l.gathered.replies.items × (length l.gathered.replies.items ≡ r))
-    × Numbered (λ i one. StartIs (λ h. IsStarted name l.fn.gate plan i h.promise) l.outside.seen i one) r rest
+    × Numbered (λ i one. StartIs (λ h. IsStarted name l.fn.said l.fn.gate plan i h.promise) l.outside.seen i one) r rest
     × IsGathered plan l.outside.seen r (map (λ v. v.items) l.gathered.replies.items) l.gathered.group.items l.gathered.fault
     × ((i : ℕ) → i < r → IsEnded plan l.outside.seen i))
     × (l.outside.steps ≡ l.fn.outside.steps)
+    × (l.said ≡ l.fn.said)

@@ -17,7 +17,7 @@ loop-rank-init g c =
         omega (arith, ap length items),
         subst (λ rs. Numbered (IsNewRank c.args.race.now.plan) 0 (records_of rs)) (sym items) c.requires.ranks,
         subst
-            (Numbered (λ i one. StartIs (λ h. IsStarted c.args.race.now.world.now c.args.race.now.gate.now c.args.race.now.plan i h.promise) c.args.outside.now.seen i one) 0)
+            (Numbered (λ i one. StartIs (λ h. IsStarted c.args.race.now.world.now c.args.race.now.said.now c.args.race.now.gate.now c.args.race.now.plan i h.promise) c.args.outside.now.seen i one) 0)
             (sym c.requires.nobody) tt,
         ap length c.requires.nobody,
         c.requires.room,
@@ -36,7 +36,7 @@ loop-rank-preserved g c =
     let rest = subst (λ rs. Numbered (IsNewRank plan) r (records_of rs)) steps inv.2 in
     let number = ap (λ (w : Record). w.number) rest.0.record_is in
     let legal = subst (λ l. IsLegal flag_meld l seen) c.requires.limits c.start-one.ensures.of.legal in
-    let here = subst (λ n. StartIs (λ h. IsStarted c.args.race.now.world.now c.args.race.now.gate.now plan n h.promise) seen n c.start-one.result) number c.start-one.ensures.started in
+    let here = subst (λ n. StartIs (λ h. IsStarted c.args.race.now.world.now c.args.race.now.said.now c.args.race.now.gate.now plan n h.promise) seen n c.start-one.result) number c.start-one.ensures.started in
     let count = inv.4 in
     let pushed = c.push_reserved.ensures.items in
     let capacity = c.push_reserved.ensures.capacity in
@@ -50,7 +50,7 @@ loop-rank-preserved g c =
         r + 1,
         omega (arith, ap length steps, inv.1),
         rest.1,
-        starts_push plan was seen c.start-one.ensures.seen legal (λ i h. IsStarted c.args.race.now.world.now c.args.race.now.gate.now plan i h.promise) c.loop-rank.started.items
+        starts_push plan was seen c.start-one.ensures.seen legal (λ i h. IsStarted c.args.race.now.world.now c.args.race.now.said.now c.args.race.now.gate.now plan i h.promise) c.loop-rank.started.items
             c.push_reserved.new.self.items c.start-one.result r pushed count inv.3 here,
         omega (arith, ap length pushed, length-append c.loop-rank.started.items (c.start-one.result ∷ []), count),
         omega (arith, capacity, inv.5),

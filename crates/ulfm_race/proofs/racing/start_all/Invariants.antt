@@ -16,7 +16,7 @@ invariant-loop-rank g l =
     × ((r : ℕ)
     × (r + length rest ≡ length l.fn.ranks.items)
     × Numbered (IsNewRank plan) r (records_of rest)
-    × Numbered (λ i one. StartIs (λ h. IsStarted name l.fn.race.gate.now plan i h.promise) l.outside.seen i one) 0 l.started.items
+    × Numbered (λ i one. StartIs (λ h. IsStarted name l.fn.race.said.now l.fn.race.gate.now plan i h.promise) l.outside.seen i one) 0 l.started.items
     × (length l.started.items ≡ r)
     × (length l.fn.ranks.items ≤ vec_capacity l.started))
     × (l.outside.steps ≤ l.fn.outside.steps + steps_of (2 * name.limits.ranks) l.started.items)

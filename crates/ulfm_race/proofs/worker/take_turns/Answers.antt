@@ -1,4 +1,4 @@
-use Rattle.std.proofs.Common.{Err, ap, map}
+use Rattle.std.proofs.Common.{Err}
 use Rattle.ulfm_wait.specs.Turns.{member_of}
 use Rattle.ulfm_race.proofs.Working.{kept_turn, lost_turn, next_turn, shrink_asked}
 use Rattle.ulfm_race.proofs.worker.take_turns.Goals as goal
@@ -16,7 +16,7 @@ returns-in-Err-keep-clause-turns g c =
     let ready = rw c.in-Ok-true.field-0-test at c.in-Ok-true.ensures.says in
     let before = member_of name c.agree_all.new.worker.rank c.agree_all.new.worker.pass in
     lost_turn ready (shrink_asked ready) (member_of name c.args.worker.now.rank c.args.worker.now.pass) before (member_of name c.shrink.new.rank c.shrink.new.pass) c.in-Ok.reply c.in-Err-keep.fault _
-    (ap (map (λ t. t.value)) c.in-Err-keep.ensures.lost) c.in-Err-keep.ensures.stops c.in-Ok-true.ensures.turns c.in-Ok.ensures.turn
+    c.in-Err-keep.ensures.lost c.in-Err-keep.ensures.stops c.in-Ok-true.ensures.turns c.in-Ok.ensures.turn
 
 pub returns-in-Err-shrink-clause-turns : goal.returns-in-Err-shrink-clause-turns
 returns-in-Err-shrink-clause-turns g c =
